@@ -1,0 +1,7 @@
+pub mod Loop
+pub mod Bytes
+pub mod Marks
+pub mod Names
+pub mod Part
+pub mod Rows
+pub mod Posts

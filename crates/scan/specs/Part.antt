@@ -1,0 +1,8 @@
+-- A part of a text. Definitions alone.
+use Prim.Native.Nat.{ℕ, _-_}
+use mathlib.Core.List.{List}
+use lib.ListN.{take, drop}
+
+-- the bytes from a place a up to a place e, as the program's `&s[a..e]` has them
+abbrev pub part : ℕ → ℕ → List ℕ → List ℕ
+part a e s = take (e - a) (drop a s)

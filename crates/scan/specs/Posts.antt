@@ -1,0 +1,48 @@
+-- What the scans and the tables ensure.
+use Prim.Native.Nat.{ℕ, _+_, _≤_, _<_}
+use mathlib.Core.Path.{_≡_}
+use mathlib.Core.Bool.{Bool, true, false}
+use mathlib.Core.List.{List}
+use lib.ListN.{length, getD}
+use lib.Seq.{sets}
+use Rattle.scan.specs.declared.table.Written.{Written}
+use Rattle.scan.specs.declared.table.Written.the-variants.{At, Full}
+use Rattle.scan.specs.Bytes.{runEnd}
+use Rattle.scan.specs.Marks.{startsAt, seek, past}
+
+-- the run of bytes from p that pass the test ends at r
+pub record Ends (t : ℕ → Bool) (s : List ℕ) (p r : ℕ) : Type 0 where
+  pub is : r ≡ runEnd t s p
+  pub after : p ≤ r
+  pub within : r ≤ length s
+  pub stops : r < length s → t (getD s r 0) ≡ false
+
+-- r says whether the mark stands at p
+pub record Marked (m s : List ℕ) (p : ℕ) (r : Bool) : Type 0 where
+  pub is : r ≡ startsAt s p m
+  pub whole : r ≡ true → p + length m ≤ length s
+
+-- r is the first place of the mark, whole within the text; or the text's length
+pub record Found (m s : List ℕ) (p r : ℕ) : Type 0 where
+  pub is : r ≡ seek m s p
+  pub after : p ≤ r
+  pub within : r ≤ length s
+  pub whole : r < length s → r + length m ≤ length s
+
+-- r is the place after it, or the text's length
+pub record Passed (m s : List ℕ) (p r : ℕ) : Type 0 where
+  pub is : r ≡ past m s p
+  pub after : p ≤ r
+  pub within : r ≤ length s
+  pub beyond : p < length s → 0 < length m → p < r
+
+-- the piece w stands in the table t′ from a place on, up to n, and all other cells are as in t
+pub record Appended (w : List ℕ) (at : ℕ) (t t′ : List ℕ) (n : ℕ) : Type 0 where
+  pub next : n ≡ at + length w
+  pub within : n ≤ length t
+  pub laid : t′ ≡ sets t at w
+
+-- the piece w is written at a place of the table t; or it does not fit
+abbrev pub Wrote : List ℕ → ℕ → List ℕ → List ℕ → Written → Type 0
+Wrote w at t t′ (At n) = Appended w at t t′ n
+Wrote w at t t′ Full = (length t < at + length w) × (length t′ ≡ length t)

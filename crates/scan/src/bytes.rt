@@ -1,0 +1,103 @@
+// Classes of bytes, and where a run of them ends. A byte is classified by a `match`, which compiles
+// to a few comparisons: these loops are the hot path of reading.
+ghost use mathlib.Core.Path.{_≡_};
+ghost use Prim.Native.Nat.{_≤_};
+ghost use lib.ListN.{length};
+ghost use Rattle.scan.specs.Bytes.{blank, nameByte, attrNameByte, member, isOut, other};
+ghost use Rattle.scan.specs.Posts.{Ends};
+
+// The classes that the grammar names.
+pub enum Class {
+    // space, tab, LF, CR
+    Blank,
+    // any byte but `<`
+    Text,
+    // any byte but a blank, `>` and `/`: of a tag name, and of a value without quote marks
+    Name,
+    // any of those but `=`: of an attribute's name
+    AttrName,
+}
+
+fn is_blank(b: u8) -> bool
+    ensures { λ r. ⌜ r ≡ blank b ⌝ }
+{
+    match b {
+        b'\t' | b'\n' | b'\r' | b' ' => true,
+        _ => false,
+    }
+}
+
+fn is_name(b: u8) -> bool
+    ensures { λ r. ⌜ r ≡ nameByte b ⌝ }
+{
+    match b {
+        b'\t' | b'\n' | b'\r' | b' ' | b'/' | b'>' => false,
+        _ => true,
+    }
+}
+
+fn is_attr_name(b: u8) -> bool
+    ensures { λ r. ⌜ r ≡ attrNameByte b ⌝ }
+{
+    match b {
+        b'\t' | b'\n' | b'\r' | b' ' | b'/' | b'=' | b'>' => false,
+        _ => true,
+    }
+}
+
+// Is the byte of the class?
+pub fn is_of(class: Class, b: u8) -> bool
+    ensures { λ r. ⌜ r ≡ member class b ⌝ }
+{
+    match class {
+        Class::Blank => is_blank(b),
+        Class::Text => b != b'<',
+        Class::Name => is_name(b),
+        Class::AttrName => is_attr_name(b),
+    }
+}
+
+// Where the run of bytes of the class ends.
+pub fn over(src: &[u8], pos: usize, class: Class) -> usize
+    requires { ⌜ pos ≤ length (now src) ⌝ }
+    ensures { λ r. ⌜ Ends (member class) (now (src .entry)) pos r ⌝ }
+{
+    let mut i = pos;
+    while i < src.len() {
+        if !is_of(class, src[i]) {
+            return i;
+        }
+        i += 1;
+    }
+    i
+}
+
+// Where the run of bytes outside the class ends.
+pub fn until(src: &[u8], pos: usize, class: Class) -> usize
+    requires { ⌜ pos ≤ length (now src) ⌝ }
+    ensures { λ r. ⌜ Ends (isOut class) (now (src .entry)) pos r ⌝ }
+{
+    let mut i = pos;
+    while i < src.len() {
+        if is_of(class, src[i]) {
+            return i;
+        }
+        i += 1;
+    }
+    i
+}
+
+// The first place of the byte, or the length.
+pub fn find_byte(src: &[u8], pos: usize, b: u8) -> usize
+    requires { ⌜ pos ≤ length (now src) ⌝ }
+    ensures { λ r. ⌜ Ends (other b) (now (src .entry)) pos r ⌝ }
+{
+    let mut i = pos;
+    while i < src.len() {
+        if src[i] == b {
+            return i;
+        }
+        i += 1;
+    }
+    i
+}
