@@ -1,5 +1,5 @@
 -- UTF-8, from the Unicode Standard, chapter 3. Definitions alone.
-use Prim.Native.Nat.{ℕ, _+_, _*_, _/_, _%_, _≤_, _<_}
+use Prim.Native.Nat.{ℕ, zero, suc, _+_, _-_, _*_, _/_, _%_, _≤_, _<_}
 use mathlib.Core.Path.{_≡_}
 use mathlib.Core.Bool.{Bool, true, false, cond, _&&_, _||_}
 use mathlib.Core.List.{List, [], _∷_, _++_}
@@ -8,6 +8,7 @@ use lib.Dec.{eqb, leb, ltb}
 use Rattle.scan.specs.Loop.{Next, halt, more, loop}
 
 -- a byte from low to high
+infix 70 _to_
 pub data Range : Type 0 where
   _to_ : (low high : ℕ) → Range
 
@@ -74,33 +75,34 @@ pub record Sequence (s : List ℕ) (p r : ℕ) : Type 0 where
   pub short : r ≤ 4
   pub within-text : p + r ≤ length s
 
--- what the program's helper tests of the bytes after the first: as many as the width says, the second in its own range
+-- k ranges of bytes that follow the second
+abbrev pub tails : ℕ → List Range
+tails zero = []
+tails (suc k) = 0x80 to 0xBF ∷ tails k
+
+-- the width, where the bytes after the first are as many as it says, the second from low to high and the others from 0x80 to 0xBF; or 0
 unfoldable pub followed : List ℕ → ℕ → ℕ → ℕ → ℕ → ℕ
 unfolding fitsAt
-followed s p width low high = cond (fitsAt s (p + 1) (low to high ∷ rest width)) width 0
-  where
-    rest : ℕ → List Range
-    rest 2 = []
-    rest 3 = 0x80 to 0xBF ∷ []
-    rest k = 0x80 to 0xBF ∷ 0x80 to 0xBF ∷ []
+followed s p width low high = cond (fitsAt s (p + 1) (low to high ∷ tails (width - 2))) width 0
 
 -- ---- characters
 
 -- Unicode scalar values (definition D76): what a character may be, Rust's `char`
 unfoldable pub scalar : ℕ → Bool
-scalar c = ltb c 0xD800 || leb 0xE000 c && ltb c 0x110000
+scalar c = ltb c 0xD800 || (leb 0xE000 c && ltb c 0x110000)
 
 -- Table 3-6, "UTF-8 Bit Distribution": the bytes of a character
 unfoldable pub encode : ℕ → List ℕ
 encode c =
     cond (ltb c 0x80) (c ∷ [])
-    (cond (ltb c 0x800) (0xC0 + c / 64 ∷ 0x80 + c % 64 ∷ [])
-    (cond (ltb c 0x10000) (0xE0 + c / 4096 ∷ 0x80 + c / 64 % 64 ∷ 0x80 + c % 64 ∷ [])
-    (0xF0 + c / 262144 ∷ 0x80 + c / 4096 % 64 ∷ 0x80 + c / 64 % 64 ∷ 0x80 + c % 64 ∷ [])))
+    (cond (ltb c 0x800) ((0xC0 + c / 64) ∷ (0x80 + c % 64) ∷ [])
+    (cond (ltb c 0x10000) ((0xE0 + c / 4096) ∷ (0x80 + c / 64 % 64) ∷ (0x80 + c % 64) ∷ [])
+    ((0xF0 + c / 262144) ∷ (0x80 + c / 4096 % 64) ∷ (0x80 + c / 64 % 64) ∷ (0x80 + c % 64) ∷ [])))
 
 -- the same table read the other way: the character whose sequence, of the given width, stands at p
 unfoldable pub charAt : List ℕ → ℕ → ℕ → ℕ
-charAt s p 1 = getD s p 0
-charAt s p 2 = getD s p 0 % 32 * 64 + getD s (p + 1) 0 % 64
-charAt s p 3 = getD s p 0 % 16 * 4096 + getD s (p + 1) 0 % 64 * 64 + getD s (p + 2) 0 % 64
-charAt s p k = getD s p 0 % 8 * 262144 + getD s (p + 1) 0 % 64 * 4096 + getD s (p + 2) 0 % 64 * 64 + getD s (p + 3) 0 % 64
+charAt s p width =
+    cond (eqb width 1) (getD s p 0)
+    (cond (eqb width 2) (getD s p 0 % 32 * 64 + getD s (p + 1) 0 % 64)
+    (cond (eqb width 3) (getD s p 0 % 16 * 4096 + getD s (p + 1) 0 % 64 * 64 + getD s (p + 2) 0 % 64)
+    (getD s p 0 % 8 * 262144 + getD s (p + 1) 0 % 64 * 4096 + getD s (p + 2) 0 % 64 * 64 + getD s (p + 3) 0 % 64)))
