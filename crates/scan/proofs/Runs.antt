@@ -1,4 +1,5 @@
--- Laws of runs of bytes. Assumes nothing.
+-- Laws of classes of bytes and of runs of them. Assumes nothing.
+--     blank-not, name-yes, attr-name-yes, either   what the tests of a byte show of its class
 --     run-here, run-on, run-out      where a run ends, by the byte at its place
 --     run-ind                        what each byte that passes keeps holds where the run ends
 --     run-low, run-high, run-stops, run-all   what follows for every run
@@ -7,14 +8,36 @@ use Prim.Native.Nat.{ℕ, _+_, _≤_, _<_}
 use mathlib.Core.Path.{_≡_, refl, sym, ap, subst, _∙_}
 use mathlib.Core.Bool.{Bool, true, false}
 use mathlib.Core.List.{List}
+use mathlib.Core.Logic.{_⊎_, inl, inr}
 use native.Mathlib.Omega.{arith}
 use lib.ListN.{length, getD}
 use lib.Dec.{eqb}
-use borrow.Author.Tests.{eqb-true, eqb-false}
+use borrow.Author.Tests.{eqb-true, eqb-false, ne-eqb}
 use Rattle.scan.specs.Loop.{Next, halt, more, loop}
-use Rattle.scan.specs.Bytes.{runTurn, runEnd}
+use Rattle.scan.specs.Bytes.{blank, nameByte, attrNameByte, runTurn, runEnd}
 use Rattle.scan.specs.Posts.{Ends}
 use Rattle.scan.proofs.Loop.{loop-out, loop-halt, loop-more, loop-ind, halt-inj, more-inj, halt≢more, more≢halt}
+
+-- ---- a byte's class
+pub blank-not : (b : ℕ) → (b ≡ 9 → ⊥) → (b ≡ 10 → ⊥) → (b ≡ 13 → ⊥) → (b ≡ 32 → ⊥) → blank b ≡ false
+unfolding blank
+blank-not b e f g h = rw (ne-eqb b 9 e, ne-eqb b 10 f, ne-eqb b 13 g, ne-eqb b 32 h)
+
+pub name-yes : (b : ℕ) → blank b ≡ false → (b ≡ 47 → ⊥) → (b ≡ 62 → ⊥) → nameByte b ≡ true
+unfolding nameByte
+name-yes b n e f = rw (n, ne-eqb b 47 e, ne-eqb b 62 f)
+
+pub attr-name-yes : (b : ℕ) → blank b ≡ false → (b ≡ 47 → ⊥) → (b ≡ 61 → ⊥) → (b ≡ 62 → ⊥) → attrNameByte b ≡ true
+unfolding attrNameByte
+attr-name-yes b n e f g = rw (n, ne-eqb b 47 e, ne-eqb b 61 f, ne-eqb b 62 g)
+
+-- a range of two
+pub either : (b k : ℕ) → k ≤ b → b < k + 2 → (b ≡ k) ⊎ (b ≡ k + 1)
+either b k h l = by (eqb b k) refl
+  where
+    by : (t : Bool) → eqb b k ≡ t → (b ≡ k) ⊎ (b ≡ k + 1)
+    by true e = inl (eqb-true b k e)
+    by false e = let n : b ≡ k → ⊥ = eqb-false b k e in inr (omega arith)
 
 -- ---- one turn of a run
 module _ (t : ℕ → Bool) (s : List ℕ) (i : ℕ) where
