@@ -2,7 +2,9 @@
 --     agree                   two strings agree once f is applied to each byte: sameBytes and sameFolded are two cases of it
 --     agree-off, agree-on, agree-out, agree-lengths   how they agree from their i-th byte on
 --     same-eq, same-refl, folded-map, map-folded, sameFolded-refl, sameFolded-sym
---     last-colon, no-last-colon, first-colon     the part after a colon
+--     lower-capital, lower-below, lower-above   the fold of one byte
+--     last-here, last-on, last-none   the search for the last colon, from the right
+--     first-colon                     the part after the first
 use Prim.Native.Nat.{ℕ, zero, suc, _+_, _-_, _≤_, _<_}
 use mathlib.Core.Path.{_≡_, refl, sym, ap, _∙_}
 use mathlib.Core.Bool.{Bool, true, false, cond, not, _&&_, and-false, false≢true, true≢false}
@@ -12,10 +14,9 @@ use native.Mathlib.Numerals.{add-one}
 use lib.ListN.{length, getD, drop, drop-of-length-le}
 use lib.Seq.{drop-cons}
 use lib.Dec.{eqb}
-use borrow.Author.Tests.{eq-eqb, ne-eqb, eqb-true, eqb-false, not-true, not-false}
+use borrow.Author.Tests.{eq-eqb, ne-eqb, eqb-true, le-leb, lt-leb, not-true, not-false}
 use Rattle.scan.specs.Bytes.{other, runEnd}
 use Rattle.scan.specs.Names.{lower, sameBytes, sameFolded, hasColon, afterLastColon, pastColon, afterFirstColon, PartFrom}
-use Rattle.scan.specs.Posts.{Ends}
 use Rattle.scan.proofs.Runs.{run-ind}
 
 unfoldable pub agree : (ℕ → ℕ) → List ℕ → List ℕ → Bool
@@ -102,6 +103,20 @@ sameFolded-refl a = map-folded a a refl
 pub sameFolded-sym : (a b : List ℕ) → sameFolded a b ≡ true → sameFolded b a ≡ true
 sameFolded-sym a b h = map-folded b a (sym (folded-map a b h))
 
+-- ---- the fold of one byte
+module _ (b : ℕ) where
+  pub lower-capital : 65 ≤ b → b ≤ 90 → lower b ≡ b + 32
+  unfolding lower
+  lower-capital h l = rw (le-leb 65 b h, le-leb b 90 l)
+
+  pub lower-below : b < 65 → lower b ≡ b
+  unfolding lower
+  lower-below h = rw (lt-leb 65 b h)
+
+  pub lower-above : 90 < b → lower b ≡ b
+  unfolding lower
+  lower-above h = rw (lt-leb b 90 h, and-false)
+
 -- ---- colons
 module _ (s : List ℕ) (i : ℕ) where
   pub colon-out : length s ≤ i → hasColon (drop i s) ≡ false
@@ -122,21 +137,38 @@ colon-at (b ∷ s) (suc i) h e = rw (colon-at s i (omega arith) e) (by (eqb b 58
     by true = refl
     by false = refl
 
--- the last colon is the one before i
-pub last-colon : (s : List ℕ) (i : ℕ) → i < length s → getD s i 0 ≡ 58 → hasColon (drop (suc i) s) ≡ false → afterLastColon s ≡ drop (suc i) s
+-- a name's last colon is the byte before i
+after-colon : (s : List ℕ) (i : ℕ) → i < length s → getD s i 0 ≡ 58 → hasColon (drop (suc i) s) ≡ false → afterLastColon s ≡ drop (suc i) s
 unfolding afterLastColon
-last-colon [] i h e n = absurd (omega arith)
-last-colon (b ∷ s) zero h e n = rw (n, eq-eqb b 58 e)
-last-colon (b ∷ s) (suc i) h e n = rw (colon-at s i (omega arith) e) (last-colon s i (omega arith) e n)
+after-colon [] i h e n = absurd (omega arith)
+after-colon (b ∷ s) zero h e n = rw (n, eq-eqb b 58 e)
+after-colon (b ∷ s) (suc i) h e n = rw (colon-at s i (omega arith) e) (after-colon s i (omega arith) e n)
 
-pub no-last-colon : (s : List ℕ) → hasColon s ≡ false → afterLastColon s ≡ s
+no-colon : (s : List ℕ) → hasColon s ≡ false → afterLastColon s ≡ s
 unfolding afterLastColon hasColon
-no-last-colon [] n = refl
-no-last-colon (b ∷ s) n = by (eqb b 58) refl
+no-colon [] n = refl
+no-colon (b ∷ s) n = by (eqb b 58) refl
   where
     by : (t : Bool) → eqb b 58 ≡ t → afterLastColon (b ∷ s) ≡ b ∷ s
     by true e = absurd (true≢false (rw e at n))
     by false e = let m : hasColon s ≡ false = rw e at n in rw (m, e)
+
+module _ (s : List ℕ) (i : ℕ) where
+  pub last-here : 0 < i → i ≤ length s → getD s (i - 1) 0 ≡ 58 → hasColon (drop i s) ≡ false → PartFrom s i (afterLastColon s)
+  last-here h l e n =
+      let z : suc (i - 1) ≡ i = omega arith in
+      let m : hasColon (drop (suc (i - 1)) s) ≡ false = rw z n in
+      record { within = l; is = sym (after-colon s (i - 1) (omega arith) e m ∙ rw z) }
+
+  pub last-on : 0 < i → i ≤ length s → (getD s (i - 1) 0 ≡ 58 → ⊥) → hasColon (drop i s) ≡ false → hasColon (drop (i - 1) s) ≡ false
+  last-on h l e n =
+      let z : suc (i - 1) ≡ i = omega arith in
+      colon-on s (i - 1) (omega arith) e ∙ rw z n
+
+  pub last-none : i ≤ 0 → hasColon (drop i s) ≡ false → PartFrom s 0 (afterLastColon s)
+  last-none h n =
+      let z : i ≡ 0 = omega arith in
+      record { within = omega arith; is = sym (no-colon s (rw z at n)) }
 
 -- where the bytes other than a colon end, and the first colon stands
 pub record FirstColon (s : List ℕ) (r : ℕ) : Type 0 where
@@ -177,5 +209,5 @@ module _ (s : List ℕ) where
       ; none = λ l. record { within = omega arith; is = rw b }
       }
 
-  pub first-colon : FirstColon s (runEnd (other 58) s 0)
-  first-colon = run-ind (other 58) s (Passing s) (FirstColon s) goes stops ends 0 (record { has = refl; past = refl })
+  pub first-colon : (r : ℕ) → r ≡ runEnd (other 58) s 0 → FirstColon s r
+  first-colon r e = rw e (run-ind (other 58) s (Passing s) (FirstColon s) goes stops ends 0 (record { has = refl; past = refl }))

@@ -1,3 +1,11 @@
+-- `eq_ignore_ascii_case` meets its contract. The loop's invariant: the two agree as their bytes from `i` on do. The measure is what is left of the first.
+use Prim.Native.Nat.{_-_, _≤_}
+use mathlib.Core.Path.{_≡_, refl, sym, _∙_}
+use native.Mathlib.Omega.{arith}
+use borrow.Author.Needs.{needs}
+use lib.ListN.{length, drop}
+use Rattle.scan.specs.Names.{lower}
+use Rattle.scan.proofs.Naming.{agree, folded-agree, agree-lengths, agree-off, agree-on, agree-out}
 use Rattle.scan.proofs.names.eq_ignore_ascii_case.Statement.{statement}
 use Rattle.scan.proofs.names.eq_ignore_ascii_case.Tie as tie
 use Rattle.scan.proofs.names.eq_ignore_ascii_case.Reads as reads
@@ -5,56 +13,45 @@ use Rattle.scan.proofs.names.eq_ignore_ascii_case.Lts as lts
 use Rattle.scan.proofs.names.to_ascii_lowercase.Reads as to-ascii-lowercase-reads
 
 abbrev Inv-loop : tie.InvT-loop
-Inv-loop a b i₀ i = ?
+Inv-loop a b i₀ i = (i ≤ length a) × (agree lower a b ≡ agree lower (drop i a) (drop i b))
 
 abbrev μ-loop : tie.MeasureT-loop
-μ-loop a b i₀ i = ?
+μ-loop a b i₀ i = length a - i
 
--- src/names.rt:37:9
 returns : tie.Need-returns Inv-loop μ-loop
-returns c = ?
+returns c = sym (folded-agree _ _ ∙ agree-lengths lower (c .before .before .before .args .a .now) (c .before .before .before .args .b .now) (c .if1 .taken))
 
--- src/names.rt:40:5
 loop-holds : tie.Need-loop-holds Inv-loop μ-loop
-loop-holds c = ?
+loop-holds c = (omega arith, refl)
 
--- src/names.rt:41:31
 shared-slice-read-to-ascii-lowercase :
     tie.Need-shared-slice-read-to-ascii-lowercase Inv-loop μ-loop
-shared-slice-read-to-ascii-lowercase c = ?
+shared-slice-read-to-ascii-lowercase c = omega arith
 
--- src/names.rt:41:12
 to-ascii-lowercase-requires : tie.Need-to-ascii-lowercase-requires Inv-loop μ-loop
-to-ascii-lowercase-requires c κs = ?
+to-ascii-lowercase-requires c κs = search needs
 
--- src/names.rt:41:59
 shared-slice-read-to-ascii-lowercase-2 :
     tie.Need-shared-slice-read-to-ascii-lowercase-2 Inv-loop μ-loop
-shared-slice-read-to-ascii-lowercase-2 c = ?
+shared-slice-read-to-ascii-lowercase-2 c = omega arith
 
--- src/names.rt:41:40
 to-ascii-lowercase-requires-2 : tie.Need-to-ascii-lowercase-requires-2 Inv-loop μ-loop
-to-ascii-lowercase-requires-2 c κs = ?
+to-ascii-lowercase-requires-2 c κs = search needs
 
--- src/names.rt:42:13
 returns-2 : tie.Need-returns-2 Inv-loop μ-loop
-returns-2 c = ?
+returns-2 c = sym (folded-agree _ _ ∙ (c .before .before .before .before .before .before .loop .inv .1 ∙ agree-off lower (c .before .before .before .before .before .before .before .before .before .before .args .a .now) (c .before .before .before .before .before .before .before .before .before .before .args .b .now) _ (c .before .before .before .before .before .loop-test .taken) (omega arith) (λ e. c .if2 .taken (c .before .before .before .to-ascii-lowercase .ensures ∙ (e ∙ sym (c .before .to-ascii-lowercase2 .ensures))))))
 
--- src/names.rt:44:9
 add-i : tie.Need-add-i Inv-loop μ-loop
-add-i c = ?
+add-i c = omega arith
 
--- src/names.rt:40:5
 loop-less : tie.Need-loop-less Inv-loop μ-loop
-loop-less c = ?
+loop-less c = omega arith
 
--- src/names.rt:40:5
 loop-again : tie.Need-loop-again Inv-loop μ-loop
-loop-again c = ?
+loop-again c = (omega arith, c .before .before .before .before .before .before .loop .inv .1 ∙ agree-on lower (c .before .before .before .before .before .before .before .before .before .before .args .a .now) (c .before .before .before .before .before .before .before .before .before .before .args .b .now) _ (c .before .before .before .before .before .loop-test .taken) (omega arith) (sym (c .before .before .before .to-ascii-lowercase .ensures) ∙ (c .if2 .left ∙ c .before .to-ascii-lowercase2 .ensures)))
 
--- src/names.rt:33:1
 returns-3 : tie.Need-returns-3 Inv-loop μ-loop
-returns-3 c = ?
+returns-3 c = sym (folded-agree _ _ ∙ (c .before .loop .inv .1 ∙ agree-out lower (c .before .before .before .before .before .args .a .now) (c .before .before .before .before .before .args .b .now) _ (c .loop-test .left) (omega arith)))
 
 pub eq-ignore-ascii-case-spec : {M : Type 1} → statement M
 eq-ignore-ascii-case-spec =

@@ -1,22 +1,20 @@
+-- `get` meets its contract: a cell of 32 bits fits a `usize`.
+use native.Mathlib.Omega.{arith}
 use borrow.Author.Needs.{needs}
 use Rattle.scan.proofs.table.get.Statement.{statement}
 use Rattle.scan.proofs.table.get.Tie as tie
 use Rattle.scan.proofs.table.get.Reads as reads
 use Rattle.scan.proofs.table.get.Lts as lts
 
--- src/table.rt:48:5
 mul-result : tie.Need-mul-result
 mul-result c = search needs
 
--- src/table.rt:48:5
 shared-slice-read-result : tie.Need-shared-slice-read-result
 shared-slice-read-result c = search needs
 
--- src/table.rt:48:5
 cast-result : tie.Need-cast-result
-cast-result c = ?
+cast-result c = omega (arith, c .shared-slice-known .given (c .before .args .at))
 
--- src/table.rt:44:1
 returns : tie.Need-returns
 returns c = search needs
 
