@@ -393,3 +393,203 @@ module _ (s : List ℕ) where
 
 pub well-high : (w : List ℕ) → WellFormed w → 128 ≤ getD w 0 0 → (i : ℕ) → i < length w → 128 ≤ getD w i 0
 well-high w f h i l = rw (zero-add i) at (sequence-high w 0 i h (rw (f .whole) l))
+
+-- ---- the bytes after the first
+length-tails : (k : ℕ) → length (tails k) ≡ k
+length-tails zero = refl
+length-tails (suc k) = ap suc (length-tails k)
+
+module _ (s : List ℕ) (p width low high : ℕ) where
+  pub followed-short : p < length s → 2 ≤ width → length s - p < width → followed s p width low high ≡ 0
+  unfolding followed
+  followed-short h k g =
+      rw (fits-short s (p + 1) (low to high ∷ tails (width - 2)) (omega arith) (omega (arith, length-tails (width - 2))))
+
+  pub followed-not : within (getD s (p + 1) 0) (low to high) ≡ false → followed s p width low high ≡ 0
+  unfolding followed
+  followed-not g = rw (fits-not s (p + 1) (low to high) (tails (width - 2)) g)
+
+  pub followed-in : p + 1 < length s → low ≤ getD s (p + 1) 0 → getD s (p + 1) 0 ≤ high → followed s p width low high ≡ cond (fitsAt s (p + 2) (tails (width - 2))) width 0
+  unfolding followed
+  followed-in h g k =
+      let z : p + 1 + 1 ≡ p + 2 = omega arith in
+      rw (fits-in s (p + 1) (low to high) (tails (width - 2)) h (in-range (getD s (p + 1) 0) low high g k), z)
+
+module _ (s : List ℕ) (p width i : ℕ) where
+  pub rest-not : i < width → within (getD s (p + i) 0) (0x80 to 0xBF) ≡ false → cond (fitsAt s (p + i) (tails (width - i))) width 0 ≡ 0
+  rest-not l g =
+      let z : width - i ≡ suc (width - (i + 1)) = omega arith in
+      rw (z, fits-not s (p + i) (0x80 to 0xBF) (tails (width - (i + 1))) g)
+
+  pub rest-in : i < width → p + i < length s → 0x80 ≤ getD s (p + i) 0 → getD s (p + i) 0 ≤ 0xBF
+      → cond (fitsAt s (p + i) (tails (width - i))) width 0 ≡ cond (fitsAt s (p + (i + 1)) (tails (width - (i + 1)))) width 0
+  rest-in l h g k =
+      let z : width - i ≡ suc (width - (i + 1)) = omega arith in
+      let y : p + i + 1 ≡ p + (i + 1) = omega arith in
+      rw (z, fits-in s (p + i) (0x80 to 0xBF) (tails (width - (i + 1))) h (in-range (getD s (p + i) 0) 0x80 0xBF g k), y)
+
+  pub rest-out : width ≤ i → cond (fitsAt s (p + i) (tails (width - i))) width 0 ≡ width
+  rest-out h =
+      let z : width - i ≡ 0 = omega arith in
+      rw (z, fits-none s (p + i))
+
+-- ---- the bytes of a character
+-- what holds of the bytes in each of the four ranges of Table 3-6 holds of a character's bytes
+pub encoded : (P : List ℕ → Type 0) (c : ℕ)
+    → (c < 0x80 → P (c ∷ []))
+    → (0x80 ≤ c → c < 0x800 → P ((0xC0 + c / 64) ∷ (0x80 + c % 64) ∷ []))
+    → (0x800 ≤ c → c < 0x10000 → P ((0xE0 + c / 4096) ∷ (0x80 + c / 64 % 64) ∷ (0x80 + c % 64) ∷ []))
+    → (0x10000 ≤ c → P ((0xF0 + c / 262144) ∷ (0x80 + c / 4096 % 64) ∷ (0x80 + c / 64 % 64) ∷ (0x80 + c % 64) ∷ []))
+    → P (encode c)
+unfolding encode
+encoded P c one two three four =
+    by-test (ltb c 0x80)
+    (λ e. rw e (one (ltb-true c 0x80 e)))
+    (λ e.
+      by-test (ltb c 0x800)
+      (λ f. rw (e, f) (two (ltb-false c 0x80 e) (ltb-true c 0x800 f)))
+      (λ f.
+        by-test (ltb c 0x10000)
+        (λ g. rw (e, f, g) (three (ltb-false c 0x800 f) (ltb-true c 0x10000 g)))
+        (λ g. rw (e, f, g) (four (ltb-false c 0x10000 g)))))
+
+pub encode-some : (c : ℕ) → 0 < length (encode c)
+encode-some c = encoded (λ w. 0 < length w) c (λ h. omega arith) (λ h g. omega arith) (λ h g. omega arith) (λ h. omega arith)
+
+pub encode-short : (c : ℕ) → length (encode c) ≤ 4
+encode-short c = encoded (λ w. length w ≤ 4) c (λ h. omega arith) (λ h g. omega arith) (λ h g. omega arith) (λ h. omega arith)
+
+pub encode-1 : (c : ℕ) → c < 0x80 → encode c ≡ c ∷ []
+unfolding encode
+encode-1 c h = rw (lt-ltb c 0x80 h)
+
+pub encode-2 : (c : ℕ) → 0x80 ≤ c → c < 0x800 → encode c ≡ (0xC0 + c / 64) ∷ (0x80 + c % 64) ∷ []
+unfolding encode
+encode-2 c h g = rw (le-ltb c 0x80 h, lt-ltb c 0x800 g)
+
+pub encode-3 : (c : ℕ) → 0x800 ≤ c → c < 0x10000 → encode c ≡ (0xE0 + c / 4096) ∷ (0x80 + c / 64 % 64) ∷ (0x80 + c % 64) ∷ []
+unfolding encode
+encode-3 c h g = rw (le-ltb c 0x80 (omega arith), le-ltb c 0x800 h, lt-ltb c 0x10000 g)
+
+pub encode-4 : (c : ℕ) → 0x10000 ≤ c → encode c ≡ (0xF0 + c / 262144) ∷ (0x80 + c / 4096 % 64) ∷ (0x80 + c / 64 % 64) ∷ (0x80 + c % 64) ∷ []
+unfolding encode
+encode-4 c h = rw (le-ltb c 0x80 (omega arith), le-ltb c 0x800 (omega arith), le-ltb c 0x10000 h)
+
+pub scalar-small : (c : ℕ) → scalar c ≡ true → c < 0x110000
+unfolding scalar
+scalar-small c h =
+    or-true (ltb c 0xD800) (leb 0xE000 c && ltb c 0x110000) h (λ e. omega (arith, ltb-true c 0xD800 e)) (λ e. ltb-true c 0x110000 (and-true (leb 0xE000 c) (ltb c 0x110000) e .1))
+
+pub scalar-apart : (c : ℕ) → scalar c ≡ true → 0xD800 ≤ c → 0xE000 ≤ c
+unfolding scalar
+scalar-apart c h g =
+    or-true (ltb c 0xD800) (leb 0xE000 c && ltb c 0x110000) h (λ e. absurd (omega (arith, ltb-true c 0xD800 e))) (λ e. leb-true 0xE000 c (and-true (leb 0xE000 c) (ltb c 0x110000) e .0))
+
+-- a character is read back from its bytes
+tail-bits : (x : ℕ) → (0x80 + x % 64) % 64 ≡ x % 64
+tail-bits x = omega arith
+
+lead-bits-3 : (a : ℕ) → a < 16 → (0xE0 + a) % 16 ≡ a
+lead-bits-3 a h = omega arith
+
+lead-bits-4 : (a : ℕ) → a < 8 → (0xF0 + a) % 8 ≡ a
+lead-bits-4 a h = omega arith
+
+join-3 : (c : ℕ) → c / 4096 * 4096 + c / 64 % 64 * 64 + c % 64 ≡ c
+join-3 c = omega arith
+
+join-4 : (c : ℕ) → c / 262144 * 262144 + c / 4096 % 64 * 4096 + c / 64 % 64 * 64 + c % 64 ≡ c
+join-4 c = omega (arith, join-3 c)
+
+pub char-encode : (c : ℕ) → scalar c ≡ true → charAt (encode c) 0 (length (encode c)) ≡ c
+unfolding charAt
+char-encode c k =
+    let l = scalar-small c k in
+    encoded (λ w. charAt w 0 (length w) ≡ c) c
+    (λ h. refl)
+    (λ h g. omega arith)
+    (λ h g. rw (lead-bits-3 (c / 4096) (omega arith), tail-bits (c / 64), tail-bits c) (join-3 c))
+    (λ h. rw (lead-bits-4 (c / 262144) (omega arith), tail-bits (c / 4096), tail-bits (c / 64), tail-bits c) (join-4 c))
+
+-- bytes that lie in the ranges of a row, as many as it has
+module _ (i : ℕ) (r : Range) (rs : List Range) (e : table ≡ take i table ++ (r ∷ rs) ∷ drop (suc i) table) (a : alone r (take i table) ≡ true) (b : alone r (drop (suc i) table) ≡ true) where
+  formed-row : (w : List ℕ) → length w ≡ suc (length rs) → fitsAt w 0 (r ∷ rs) ≡ true → WellFormed w
+  formed-row w l f =
+      let d = fits-first w 0 r rs f in
+      record { some-byte = omega arith; whole = at-row w 0 i r rs e a b (d .0) (d .1) ∙ rw (d .2, l) }
+
+fits-2 : (a b : ℕ) (q r : Range) → within a q ≡ true → within b r ≡ true → fitsAt (a ∷ b ∷ []) 0 (q ∷ r ∷ []) ≡ true
+unfolding fitsAt
+fits-2 a b q r g h = rw (g, h)
+
+fits-3 : (a b c : ℕ) (q r s : Range) → within a q ≡ true → within b r ≡ true → within c s ≡ true → fitsAt (a ∷ b ∷ c ∷ []) 0 (q ∷ r ∷ s ∷ []) ≡ true
+unfolding fitsAt
+fits-3 a b c q r s g h k = rw (g, h, k)
+
+fits-4 : (a b c d : ℕ) (q r s t : Range) → within a q ≡ true → within b r ≡ true → within c s ≡ true → within d t ≡ true → fitsAt (a ∷ b ∷ c ∷ d ∷ []) 0 (q ∷ r ∷ s ∷ t ∷ []) ≡ true
+unfolding fitsAt
+fits-4 a b c d q r s t g h k l = rw (g, h, k, l)
+
+tail-in : (x : ℕ) → within (0x80 + x % 64) (0x80 to 0xBF) ≡ true
+tail-in x = in-range (0x80 + x % 64) 0x80 0xBF (omega arith) (omega arith)
+
+module _ (c i : ℕ) (q r : Range) where
+  formed-3 : table ≡ take i table ++ (q ∷ r ∷ 0x80 to 0xBF ∷ []) ∷ drop (suc i) table → alone q (take i table) ≡ true → alone q (drop (suc i) table) ≡ true
+      → within (0xE0 + c / 4096) q ≡ true → within (0x80 + c / 64 % 64) r ≡ true → WellFormed ((0xE0 + c / 4096) ∷ (0x80 + c / 64 % 64) ∷ (0x80 + c % 64) ∷ [])
+  formed-3 e a b g h =
+      formed-row i q (r ∷ 0x80 to 0xBF ∷ []) e a b _ refl (fits-3 (0xE0 + c / 4096) (0x80 + c / 64 % 64) (0x80 + c % 64) q r (0x80 to 0xBF) g h (tail-in c))
+
+  formed-4 : table ≡ take i table ++ (q ∷ r ∷ 0x80 to 0xBF ∷ 0x80 to 0xBF ∷ []) ∷ drop (suc i) table → alone q (take i table) ≡ true → alone q (drop (suc i) table) ≡ true
+      → within (0xF0 + c / 262144) q ≡ true → within (0x80 + c / 4096 % 64) r ≡ true
+      → WellFormed ((0xF0 + c / 262144) ∷ (0x80 + c / 4096 % 64) ∷ (0x80 + c / 64 % 64) ∷ (0x80 + c % 64) ∷ [])
+  formed-4 e a b g h =
+      formed-row i q (r ∷ 0x80 to 0xBF ∷ 0x80 to 0xBF ∷ []) e a b _ refl
+      (fits-4 (0xF0 + c / 262144) (0x80 + c / 4096 % 64) (0x80 + c / 64 % 64) (0x80 + c % 64) q r (0x80 to 0xBF) (0x80 to 0xBF) g h (tail-in (c / 64)) (tail-in c))
+
+module _ (c : ℕ) (k : scalar c ≡ true) where
+  encoded-2 : 0x80 ≤ c → c < 0x800 → WellFormed ((0xC0 + c / 64) ∷ (0x80 + c % 64) ∷ [])
+  encoded-2 h g =
+      formed-row 1 (0xC2 to 0xDF) (0x80 to 0xBF ∷ []) refl refl refl _ refl
+      (fits-2 (0xC0 + c / 64) (0x80 + c % 64) (0xC2 to 0xDF) (0x80 to 0xBF) (in-range (0xC0 + c / 64) 0xC2 0xDF (omega arith) (omega arith)) (tail-in c))
+
+  encoded-3 : 0x800 ≤ c → c < 0x10000 → WellFormed ((0xE0 + c / 4096) ∷ (0x80 + c / 64 % 64) ∷ (0x80 + c % 64) ∷ [])
+  encoded-3 h g =
+      by-test (ltb c 0x1000)
+      (λ e.
+        let l = ltb-true c 0x1000 e in
+        formed-3 c 2 (0xE0 to 0xE0) (0xA0 to 0xBF) refl refl refl (in-range (0xE0 + c / 4096) 0xE0 0xE0 (omega arith) (omega arith)) (in-range (0x80 + c / 64 % 64) 0xA0 0xBF (omega arith) (omega arith)))
+      (λ e.
+        let l = ltb-false c 0x1000 e in
+        by-test (ltb c 0xD000)
+        (λ f.
+          let m = ltb-true c 0xD000 f in
+          formed-3 c 3 (0xE1 to 0xEC) (0x80 to 0xBF) refl refl refl (in-range (0xE0 + c / 4096) 0xE1 0xEC (omega arith) (omega arith)) (tail-in (c / 64)))
+        (λ f.
+          let m = ltb-false c 0xD000 f in
+          by-test (ltb c 0xD800)
+          (λ d.
+            let n = ltb-true c 0xD800 d in
+            formed-3 c 4 (0xED to 0xED) (0x80 to 0x9F) refl refl refl (in-range (0xE0 + c / 4096) 0xED 0xED (omega arith) (omega arith)) (in-range (0x80 + c / 64 % 64) 0x80 0x9F (omega arith) (omega arith)))
+          (λ d.
+            let n = scalar-apart c k (ltb-false c 0xD800 d) in
+            formed-3 c 5 (0xEE to 0xEF) (0x80 to 0xBF) refl refl refl (in-range (0xE0 + c / 4096) 0xEE 0xEF (omega arith) (omega arith)) (tail-in (c / 64)))))
+
+  encoded-4 : 0x10000 ≤ c → WellFormed ((0xF0 + c / 262144) ∷ (0x80 + c / 4096 % 64) ∷ (0x80 + c / 64 % 64) ∷ (0x80 + c % 64) ∷ [])
+  encoded-4 h =
+      by-test (ltb c 0x40000)
+      (λ e.
+        let l = ltb-true c 0x40000 e in
+        formed-4 c 6 (0xF0 to 0xF0) (0x90 to 0xBF) refl refl refl (in-range (0xF0 + c / 262144) 0xF0 0xF0 (omega arith) (omega arith)) (in-range (0x80 + c / 4096 % 64) 0x90 0xBF (omega arith) (omega arith)))
+      (λ e.
+        let l = ltb-false c 0x40000 e in
+        by-test (ltb c 0x100000)
+        (λ f.
+          let m = ltb-true c 0x100000 f in
+          formed-4 c 7 (0xF1 to 0xF3) (0x80 to 0xBF) refl refl refl (in-range (0xF0 + c / 262144) 0xF1 0xF3 (omega arith) (omega arith)) (tail-in (c / 4096)))
+        (λ f.
+          let m = ltb-false c 0x100000 f in
+          let n = scalar-small c k in
+          formed-4 c 8 (0xF4 to 0xF4) (0x80 to 0x8F) refl refl refl (in-range (0xF0 + c / 262144) 0xF4 0xF4 (omega arith) (omega arith)) (in-range (0x80 + c / 4096 % 64) 0x80 0x8F (omega arith) (omega arith))))
+
+  pub encode-formed : WellFormed (encode c)
+  encode-formed = encoded WellFormed c (λ h. ascii-formed c h) encoded-2 encoded-3 encoded-4
