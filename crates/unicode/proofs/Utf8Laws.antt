@@ -593,3 +593,22 @@ module _ (c : ℕ) (k : scalar c ≡ true) where
 
   pub encode-formed : WellFormed (encode c)
   encode-formed = encoded WellFormed c (λ h. ascii-formed c h) encoded-2 encoded-3 encoded-4
+
+-- ---- what stands at a place, by the lead byte
+-- a lead byte from a to b, of the row with that range: the bytes after it decide
+module _ (s : List ℕ) (p i a b width low high : ℕ) where
+  pub sequence-row : table ≡ take i table ++ (a to b ∷ low to high ∷ tails (width - 2)) ∷ drop (suc i) table → alone (a to b) (take i table) ≡ true → alone (a to b) (drop (suc i) table) ≡ true
+      → length (a to b ∷ low to high ∷ tails (width - 2)) ≡ width → p < length s → a ≤ getD s p 0 → getD s p 0 ≤ b → (r : ℕ) → r ≡ followed s p width low high → Sequence s p r
+  unfolding followed
+  sequence-row e f g l h k m r w =
+      sequenced s p r (omega arith)
+      (w ∙ sym (at-row s p i (a to b) (low to high ∷ tails (width - 2)) e f g h (in-range (getD s p 0) a b k m) ∙ rw l))
+
+pub sequence-ascii : (s : List ℕ) (p : ℕ) → p < length s → getD s p 0 ≤ 0x7F → Sequence s p 1
+sequence-ascii s p h g =
+    sequenced s p 1 (omega arith)
+    (sym (at-row s p 0 (0x00 to 0x7F) [] refl refl refl h (in-range (getD s p 0) 0x00 0x7F (omega arith) g) ∙ rw (fits-none s (p + 1))))
+
+-- no row's first range reaches from low to high
+pub sequence-none : (s : List ℕ) (p low high : ℕ) → alone (low to high) table ≡ true → p < length s → low ≤ getD s p 0 → getD s p 0 ≤ high → Sequence s p 0
+sequence-none s p low high a h g k = sequenced s p 0 (omega arith) (sym (no-row s p (low to high) a (in-range (getD s p 0) low high g k)))
