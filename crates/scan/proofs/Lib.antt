@@ -1,1 +1,7 @@
--- What the proofs of several functions use.
+-- What the proofs of several functions use, and what the crates above cite.
+pub mod Loop
+pub mod Runs
+pub mod Searches
+pub mod Naming
+pub mod Stores
+pub mod Rows

@@ -1,0 +1,110 @@
+-- Laws of classes of bytes and of runs of them. Assumes nothing.
+--     blank-not, name-yes, attr-name-yes, either   what the tests of a byte show of its class
+--     run-here, run-on, run-out      where a run ends, by the byte at its place
+--     run-ind                        what each byte that passes keeps holds where the run ends
+--     run-low, run-high, run-stops, run-all   what follows for every run
+--     ends-here, ends-out            what a loop over bytes ensures where it ends
+use Prim.Native.Nat.{ℕ, _+_, _≤_, _<_}
+use mathlib.Core.Path.{_≡_, refl, sym, ap, subst, _∙_}
+use mathlib.Core.Bool.{Bool, true, false}
+use mathlib.Core.List.{List}
+use mathlib.Core.Logic.{_⊎_, inl, inr}
+use native.Mathlib.Omega.{arith}
+use lib.ListN.{length, getD}
+use lib.Dec.{eqb}
+use borrow.Author.Tests.{eqb-true, eqb-false, ne-eqb}
+use Rattle.scan.specs.Loop.{Next, halt, more, loop}
+use Rattle.scan.specs.Bytes.{blank, nameByte, attrNameByte, runTurn, runEnd}
+use Rattle.scan.specs.Posts.{Ends}
+use Rattle.scan.proofs.Loop.{loop-out, loop-halt, loop-more, loop-ind, halt-inj, more-inj, halt≢more, more≢halt}
+
+-- ---- a byte's class
+pub blank-not : (b : ℕ) → (b ≡ 9 → ⊥) → (b ≡ 10 → ⊥) → (b ≡ 13 → ⊥) → (b ≡ 32 → ⊥) → blank b ≡ false
+unfolding blank
+blank-not b e f g h = rw (ne-eqb b 9 e, ne-eqb b 10 f, ne-eqb b 13 g, ne-eqb b 32 h)
+
+pub name-yes : (b : ℕ) → blank b ≡ false → (b ≡ 47 → ⊥) → (b ≡ 62 → ⊥) → nameByte b ≡ true
+unfolding nameByte
+name-yes b n e f = rw (n, ne-eqb b 47 e, ne-eqb b 62 f)
+
+pub attr-name-yes : (b : ℕ) → blank b ≡ false → (b ≡ 47 → ⊥) → (b ≡ 61 → ⊥) → (b ≡ 62 → ⊥) → attrNameByte b ≡ true
+unfolding attrNameByte
+attr-name-yes b n e f g = rw (n, ne-eqb b 47 e, ne-eqb b 61 f, ne-eqb b 62 g)
+
+-- a range of two
+pub either : (b k : ℕ) → k ≤ b → b < k + 2 → (b ≡ k) ⊎ (b ≡ k + 1)
+either b k h l = by (eqb b k) refl
+  where
+    by : (t : Bool) → eqb b k ≡ t → (b ≡ k) ⊎ (b ≡ k + 1)
+    by true e = inl (eqb-true b k e)
+    by false e = let n : b ≡ k → ⊥ = eqb-false b k e in inr (omega arith)
+
+-- ---- one turn of a run
+module _ (t : ℕ → Bool) (s : List ℕ) (i : ℕ) where
+  pub run-here : i < length s → t (getD s i 0) ≡ false → runEnd t s i ≡ i
+  unfolding runEnd
+  run-here h e = loop-halt (length s) (runTurn t s) (λ j x. j) i tt i h (rw e)
+
+  pub run-on : i < length s → t (getD s i 0) ≡ true → runEnd t s i ≡ runEnd t s (i + 1)
+  unfolding runEnd
+  run-on h e = loop-more (length s) (runTurn t s) (λ j x. j) i tt (i + 1) tt h (rw e) (omega arith)
+
+  pub run-out : length s ≤ i → runEnd t s i ≡ i
+  unfolding runEnd
+  run-out h = loop-out (length s) (runTurn t s) (λ j x. j) i tt h
+
+-- ---- a whole run
+module _ (t : ℕ → Bool) (s : List ℕ) (Inv Q : ℕ → Type 0)
+    (goes : (i : ℕ) → i < length s → t (getD s i 0) ≡ true → Inv i → Inv (i + 1))
+    (stops : (i : ℕ) → i < length s → t (getD s i 0) ≡ false → Inv i → Q i)
+    (ends : (i : ℕ) → length s ≤ i → Inv i → Q i)
+  where
+    halts : (i : ℕ) (x : Unit {0}) (r : ℕ) → i < length s → Inv i → runTurn t s i x ≡ halt r → Q r
+    halts i x r h j w = by (t (getD s i 0)) refl
+      where
+        by : (b : Bool) → t (getD s i 0) ≡ b → Q r
+        by true e = absurd (more≢halt (rw e at w))
+        by false e = subst Q (halt-inj (rw e at w)) (stops i h e j)
+
+    passes : (i : ℕ) (x : Unit {0}) (q : ℕ) (y : Unit {0}) → i < length s → Inv i → runTurn t s i x ≡ more q y → (i < q) × Inv q
+    passes i x q y h j w = by (t (getD s i 0)) refl
+      where
+        by : (b : Bool) → t (getD s i 0) ≡ b → (i < q) × Inv q
+        by true e = let z : i + 1 ≡ q = more-inj (rw e at w) in (omega arith, subst Inv z (goes i h e j))
+        by false e = absurd (halt≢more (rw e at w))
+
+    pub run-ind : (p : ℕ) → Inv p → Q (runEnd t s p)
+    unfolding runEnd
+    run-ind p i = loop-ind (length s) (runTurn t s) (λ i x. i) (λ i x. Inv i) Q halts passes (λ i x h j. ends i h j) p tt i
+
+-- what the definition says of itself, with no code
+module _ (t : ℕ → Bool) (s : List ℕ) (p : ℕ) where
+  pub run-low : p ≤ runEnd t s p
+  run-low = run-ind t s (λ i. p ≤ i) (λ r. p ≤ r) (λ i h e j. omega arith) (λ i h e j. j) (λ i h j. j) p (omega arith)
+
+  pub run-high : p ≤ length s → runEnd t s p ≤ length s
+  run-high l = run-ind t s (λ i. i ≤ length s) (λ r. r ≤ length s) (λ i h e j. omega arith) (λ i h e j. j) (λ i h j. j) p l
+
+  pub run-stops : runEnd t s p < length s → t (getD s (runEnd t s p) 0) ≡ false
+  run-stops = run-ind t s (λ i. Unit {0}) (λ r. r < length s → t (getD s r 0) ≡ false) (λ i h e j. tt) (λ i h e j l. e) (λ i h j l. absurd (omega arith)) p tt
+
+  pub run-all : (k : ℕ) → p ≤ k → k < runEnd t s p → t (getD s k 0) ≡ true
+  run-all = run-ind t s passed passed goes (λ i h e j. j) (λ i h j. j) p (λ k l h. absurd (omega arith))
+    where
+      passed : ℕ → Type 0
+      passed i = (k : ℕ) → p ≤ k → k < i → t (getD s k 0) ≡ true
+
+      goes : (i : ℕ) → i < length s → t (getD s i 0) ≡ true → passed i → passed (i + 1)
+      goes i h e j k l m = by (eqb k i) refl
+        where
+          by : (b : Bool) → eqb k i ≡ b → t (getD s k 0) ≡ true
+          by true w = rw (eqb-true k i w) e
+          by false w = let n : k ≡ i → ⊥ = eqb-false k i w in j k l (omega arith)
+
+-- ---- what the loops over bytes ensure where they end
+module _ (t : ℕ → Bool) (s : List ℕ) (p i : ℕ) (l : p ≤ i) (w : runEnd t s p ≡ runEnd t s i) where
+  pub ends-here : i < length s → t (getD s i 0) ≡ false → Ends t s p i
+  ends-here h e = record { is = sym (w ∙ run-here t s i h e); after = l; within = omega arith; stops = λ g. e }
+
+  pub ends-out : i ≤ length s → length s ≤ i → Ends t s p i
+  ends-out g h = record { is = sym (w ∙ run-out t s i h); after = l; within = g; stops = λ k. absurd (omega arith) }

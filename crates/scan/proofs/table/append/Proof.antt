@@ -1,0 +1,71 @@
+-- `append` meets its contract. The loop's invariant: the first `i` bytes of the piece stand from `at` on, and all else is as it was. The measure is what is left of the piece.
+use Prim.Native.Nat.{_-_}
+use mathlib.Core.Path.{refl}
+use native.Mathlib.Omega.{arith}
+use lib.ListN.{length}
+use Rattle.scan.proofs.Stores.{Copied, copied-none, copied-more, copied-all}
+use Rattle.scan.proofs.table.append.Statement.{statement}
+use Rattle.scan.proofs.table.append.Tie as tie
+use Rattle.scan.proofs.table.append.Reads as reads
+use Rattle.scan.proofs.table.append.Lts as lts
+
+abbrev Inv-loop : tie.InvT-loop
+Inv-loop out₀ at piece i₀ out i = Copied piece at out₀ i out
+
+abbrev μ-loop : tie.MeasureT-loop
+μ-loop out₀ at piece i₀ out i = length piece - i
+
+sub-if1 : tie.Need-sub-if1 Inv-loop μ-loop
+sub-if1 c = omega arith
+
+returns : tie.Need-returns Inv-loop μ-loop
+returns c = (omega arith, refl)
+
+loop-holds : tie.Need-loop-holds Inv-loop μ-loop
+loop-holds c = copied-none (c .before .args .piece .now) (c .before .args .out .now) _ (omega arith)
+
+shared-slice-read-out : tie.Need-shared-slice-read-out Inv-loop μ-loop
+shared-slice-read-out c = omega arith
+
+add-out : tie.Need-add-out Inv-loop μ-loop
+add-out c = omega arith
+
+slice-write-out : tie.Need-slice-write-out Inv-loop μ-loop
+slice-write-out c = omega arith
+
+add-i : tie.Need-add-i Inv-loop μ-loop
+add-i c = omega arith
+
+loop-less : tie.Need-loop-less Inv-loop μ-loop
+loop-less c = omega arith
+
+loop-again : tie.Need-loop-again Inv-loop μ-loop
+loop-again c = copied-more (c .before .before .before .before .args .piece .now) (c .before .before .before .before .args .out .now) _ _ _ (c .before .before .loop .inv) (c .before .loop-test .taken)
+
+add-t5 : tie.Need-add-t5 Inv-loop μ-loop
+add-t5 c = omega arith
+
+same-length : tie.Need-same-length Inv-loop μ-loop
+same-length c = omega arith
+
+returns-2 : tie.Need-returns-2 Inv-loop μ-loop
+returns-2 c = record { next = omega arith; within = omega arith; laid = copied-all (c .before .before .before .args .piece .now) (c .before .before .before .args .out .now) _ _ _ (c .before .loop .inv) (c .loop-test .left) }
+
+pub append-spec : {M : Type 1} → statement M
+append-spec =
+    tie.close
+    (tie.spec
+    Inv-loop
+    μ-loop
+    sub-if1
+    returns
+    loop-holds
+    shared-slice-read-out
+    add-out
+    slice-write-out
+    add-i
+    loop-less
+    loop-again
+    add-t5
+    same-length
+    returns-2)

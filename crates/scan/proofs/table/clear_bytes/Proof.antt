@@ -1,0 +1,50 @@
+-- `clear_bytes` meets its contract. The loop's invariant: the first `i` cells are 0, the others as they were. The measure is what is left of the table.
+use Prim.Native.Nat.{_-_}
+use native.Mathlib.Omega.{arith}
+use lib.ListN.{length}
+use Rattle.scan.proofs.Stores.{Cleared, cleared-none, cleared-more, cleared-all}
+use Rattle.scan.proofs.table.clear_bytes.Statement.{statement}
+use Rattle.scan.proofs.table.clear_bytes.Tie as tie
+use Rattle.scan.proofs.table.clear_bytes.Reads as reads
+use Rattle.scan.proofs.table.clear_bytes.Lts as lts
+
+abbrev Inv-loop : tie.InvT-loop
+Inv-loop cells₀ i₀ cells i = Cleared cells₀ i cells
+
+abbrev μ-loop : tie.MeasureT-loop
+μ-loop cells₀ i₀ cells i = length cells₀ - i
+
+loop-holds : tie.Need-loop-holds Inv-loop μ-loop
+loop-holds c = cleared-none _
+
+slice-write-cells : tie.Need-slice-write-cells Inv-loop μ-loop
+slice-write-cells c = omega arith
+
+add-i : tie.Need-add-i Inv-loop μ-loop
+add-i c = omega arith
+
+loop-less : tie.Need-loop-less Inv-loop μ-loop
+loop-less c = omega arith
+
+loop-again : tie.Need-loop-again Inv-loop μ-loop
+loop-again c = cleared-more (c .before .before .args .cells .now) _ _ (c .before .loop .inv) (omega arith)
+
+same-length : tie.Need-same-length Inv-loop μ-loop
+same-length c = omega arith
+
+returns : tie.Need-returns Inv-loop μ-loop
+returns c = cleared-all (c .before .before .args .cells .now) _ _ (c .before .loop .inv) (omega arith)
+
+pub clear-bytes-spec : {M : Type 1} → statement M
+clear-bytes-spec =
+    tie.close
+    (tie.spec
+    Inv-loop
+    μ-loop
+    loop-holds
+    slice-write-cells
+    add-i
+    loop-less
+    loop-again
+    same-length
+    returns)

@@ -1,0 +1,22 @@
+-- `get` meets its contract: a cell of 32 bits fits a `usize`.
+use native.Mathlib.Omega.{arith}
+use borrow.Author.Needs.{needs}
+use Rattle.scan.proofs.table.get.Statement.{statement}
+use Rattle.scan.proofs.table.get.Tie as tie
+use Rattle.scan.proofs.table.get.Reads as reads
+use Rattle.scan.proofs.table.get.Lts as lts
+
+mul-result : tie.Need-mul-result
+mul-result c = search needs
+
+shared-slice-read-result : tie.Need-shared-slice-read-result
+shared-slice-read-result c = search needs
+
+cast-result : tie.Need-cast-result
+cast-result c = omega (arith, c .shared-slice-known .given (c .before .args .at))
+
+returns : tie.Need-returns
+returns c = search needs
+
+pub get-spec : {M : Type 1} → statement M
+get-spec = tie.close (tie.spec mul-result shared-slice-read-result cast-result returns)
