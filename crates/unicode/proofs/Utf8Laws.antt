@@ -193,10 +193,10 @@ module _ (s t : List ℕ) (p q n : ℕ) (l : 0 < n) (h : q + n ≤ length t) (e 
       by-test (fitsAt s p (r ∷ rs))
       (λ f. let m : length (r ∷ rs) ≡ n = sym (first-here s p (r ∷ rs) rows f) ∙ w in first-here t q (r ∷ rs) rows (row-same (r ∷ rs) m f) ∙ m)
       (λ f.
-        let z : firstFit s p rows ≡ n = sym (first-skip s p (r ∷ rs) rows f) ∙ w in
-        by-test (within (getD s p 0) r)
-        (λ g. absurd (omega (arith, first-none s p r rows (a .0) g)))
-        (λ g. first-skip t q (r ∷ rs) rows (fits-not t q r rs (rw lead-same at g)) ∙ first-same rows (a .1) z))
+      let z : firstFit s p rows ≡ n = sym (first-skip s p (r ∷ rs) rows f) ∙ w in
+      by-test (within (getD s p 0) r)
+      (λ g. absurd (omega (arith, first-none s p r rows (a .0) g)))
+      (λ g. first-skip t q (r ∷ rs) rows (fits-not t q r rs (rw lead-same at g)) ∙ first-same rows (a .1) z))
 
   pub sequence-same : sequenceAt s p ≡ n → sequenceAt t q ≡ n
   unfolding sequenceAt
@@ -220,10 +220,10 @@ module _ (s : List ℕ) (p n : ℕ) (h : p ≤ length s) (w : sequenceAt s p ≡
 
   pub well-part : WellFormed (take n (drop p s))
   well-part =
-      record
-        { some-byte = rw part-length l
-        ; whole = sequence-same s (take n (drop p s)) p 0 n l (omega (arith, part-length)) part-agrees w ∙ sym part-length
-        }
+      record {
+        some-byte = rw part-length l;
+        whole = sequence-same s (take n (drop p s)) p 0 n l (omega (arith, part-length)) part-agrees w ∙ sym part-length;
+      }
 
 -- ---- texts of sequences
 pub utf8-append : {a b : List ℕ} → Utf8 a → Utf8 b → Utf8 (a ++ b)
@@ -264,9 +264,9 @@ module _ (s : List ℕ) where
           by-test (eqb (sequenceAt s j) 0)
           (λ e. absurd (halt≢more (rw e at w)))
           (λ e.
-            let z : j + sequenceAt s j ≡ q = more-inj (rw e at w) in
-            let l : 0 < sequenceAt s j = omega (arith, eqb-false (sequenceAt s j) 0 e) in
-            (omega arith, subst Inv z (step j (sequenceAt s j) h k refl l)))
+          let z : j + sequenceAt s j ≡ q = more-inj (rw e at w) in
+          let l : 0 < sequenceAt s j = omega (arith, eqb-false (sequenceAt s j) 0 e) in
+          (omega arith, subst Inv z (step j (sequenceAt s j) h k refl l)))
 
   pub end-low : (p : ℕ) → p ≤ endFrom s p
   end-low p = end-ind (λ j. p ≤ j) (λ j n h k w l. omega arith) p (omega arith)
@@ -303,12 +303,12 @@ module _ (s : List ℕ) where
 
   pub longest-valid : (r : ℕ) → r ≡ utf8End s → LongestValid s r
   longest-valid r e =
-      record
-        { is = e
-        ; within-text = rw e (end-within s)
-        ; valid = rw e (end-valid s)
-        ; longest = λ n h v. rw e (end-longest n h v)
-        }
+      record {
+        is = e;
+        within-text = rw e (end-within s);
+        valid = rw e (end-valid s);
+        longest = λ n h v. rw e (end-longest n h v);
+      }
 
   -- a text is UTF-8 where its sequences reach its end
   pub utf8-end : Utf8 s → utf8End s ≡ length s
@@ -382,9 +382,9 @@ module _ (s : List ℕ) where
       let e = and-true (ltb b 128 || high ((a to b) ∷ rs)) (clear rows) d in
       by-test (fitsAt s p ((a to b) ∷ rs))
       (λ f.
-        or-true (ltb b 128) (high ((a to b) ∷ rs)) (e .0)
-        (λ k. absurd (omega (arith, ltb-true b 128 k, range-high (getD s p 0) a b (fits-first s p (a to b) rs f .1))))
-        (λ k. fits-high p ((a to b) ∷ rs) k f i (rw (first-here s p ((a to b) ∷ rs) rows f) at l)))
+      or-true (ltb b 128) (high ((a to b) ∷ rs)) (e .0)
+      (λ k. absurd (omega (arith, ltb-true b 128 k, range-high (getD s p 0) a b (fits-first s p (a to b) rs f .1))))
+      (λ k. fits-high p ((a to b) ∷ rs) k f i (rw (first-here s p ((a to b) ∷ rs) rows f) at l)))
       (λ f. first-high p rows (e .1) h i (rw (first-skip s p ((a to b) ∷ rs) rows f) at l))
 
   pub sequence-high : (p i : ℕ) → 128 ≤ getD s p 0 → i < sequenceAt s p → 128 ≤ getD s (p + i) 0
@@ -446,12 +446,12 @@ encoded P c one two three four =
     by-test (ltb c 0x80)
     (λ e. rw e (one (ltb-true c 0x80 e)))
     (λ e.
-      by-test (ltb c 0x800)
-      (λ f. rw (e, f) (two (ltb-false c 0x80 e) (ltb-true c 0x800 f)))
-      (λ f.
-        by-test (ltb c 0x10000)
-        (λ g. rw (e, f, g) (three (ltb-false c 0x800 f) (ltb-true c 0x10000 g)))
-        (λ g. rw (e, f, g) (four (ltb-false c 0x10000 g)))))
+    by-test (ltb c 0x800)
+    (λ f. rw (e, f) (two (ltb-false c 0x80 e) (ltb-true c 0x800 f)))
+    (λ f.
+    by-test (ltb c 0x10000)
+    (λ g. rw (e, f, g) (three (ltb-false c 0x800 f) (ltb-true c 0x10000 g)))
+    (λ g. rw (e, f, g) (four (ltb-false c 0x10000 g)))))
 
 pub encode-some : (c : ℕ) → 0 < length (encode c)
 encode-some c = encoded (λ w. 0 < length w) c (λ h. omega arith) (λ h g. omega arith) (λ h g. omega arith) (λ h. omega arith)
@@ -556,40 +556,40 @@ module _ (c : ℕ) (k : scalar c ≡ true) where
   encoded-3 h g =
       by-test (ltb c 0x1000)
       (λ e.
-        let l = ltb-true c 0x1000 e in
-        formed-3 c 2 (0xE0 to 0xE0) (0xA0 to 0xBF) refl refl refl (in-range (0xE0 + c / 4096) 0xE0 0xE0 (omega arith) (omega arith)) (in-range (0x80 + c / 64 % 64) 0xA0 0xBF (omega arith) (omega arith)))
+      let l = ltb-true c 0x1000 e in
+      formed-3 c 2 (0xE0 to 0xE0) (0xA0 to 0xBF) refl refl refl (in-range (0xE0 + c / 4096) 0xE0 0xE0 (omega arith) (omega arith)) (in-range (0x80 + c / 64 % 64) 0xA0 0xBF (omega arith) (omega arith)))
       (λ e.
-        let l = ltb-false c 0x1000 e in
-        by-test (ltb c 0xD000)
-        (λ f.
-          let m = ltb-true c 0xD000 f in
-          formed-3 c 3 (0xE1 to 0xEC) (0x80 to 0xBF) refl refl refl (in-range (0xE0 + c / 4096) 0xE1 0xEC (omega arith) (omega arith)) (tail-in (c / 64)))
-        (λ f.
-          let m = ltb-false c 0xD000 f in
-          by-test (ltb c 0xD800)
-          (λ d.
-            let n = ltb-true c 0xD800 d in
-            formed-3 c 4 (0xED to 0xED) (0x80 to 0x9F) refl refl refl (in-range (0xE0 + c / 4096) 0xED 0xED (omega arith) (omega arith)) (in-range (0x80 + c / 64 % 64) 0x80 0x9F (omega arith) (omega arith)))
-          (λ d.
-            let n = scalar-apart c k (ltb-false c 0xD800 d) in
-            formed-3 c 5 (0xEE to 0xEF) (0x80 to 0xBF) refl refl refl (in-range (0xE0 + c / 4096) 0xEE 0xEF (omega arith) (omega arith)) (tail-in (c / 64)))))
+      let l = ltb-false c 0x1000 e in
+      by-test (ltb c 0xD000)
+      (λ f.
+      let m = ltb-true c 0xD000 f in
+      formed-3 c 3 (0xE1 to 0xEC) (0x80 to 0xBF) refl refl refl (in-range (0xE0 + c / 4096) 0xE1 0xEC (omega arith) (omega arith)) (tail-in (c / 64)))
+      (λ f.
+      let m = ltb-false c 0xD000 f in
+      by-test (ltb c 0xD800)
+      (λ d.
+      let n = ltb-true c 0xD800 d in
+      formed-3 c 4 (0xED to 0xED) (0x80 to 0x9F) refl refl refl (in-range (0xE0 + c / 4096) 0xED 0xED (omega arith) (omega arith)) (in-range (0x80 + c / 64 % 64) 0x80 0x9F (omega arith) (omega arith)))
+      (λ d.
+      let n = scalar-apart c k (ltb-false c 0xD800 d) in
+      formed-3 c 5 (0xEE to 0xEF) (0x80 to 0xBF) refl refl refl (in-range (0xE0 + c / 4096) 0xEE 0xEF (omega arith) (omega arith)) (tail-in (c / 64)))))
 
   encoded-4 : 0x10000 ≤ c → WellFormed ((0xF0 + c / 262144) ∷ (0x80 + c / 4096 % 64) ∷ (0x80 + c / 64 % 64) ∷ (0x80 + c % 64) ∷ [])
   encoded-4 h =
       by-test (ltb c 0x40000)
       (λ e.
-        let l = ltb-true c 0x40000 e in
-        formed-4 c 6 (0xF0 to 0xF0) (0x90 to 0xBF) refl refl refl (in-range (0xF0 + c / 262144) 0xF0 0xF0 (omega arith) (omega arith)) (in-range (0x80 + c / 4096 % 64) 0x90 0xBF (omega arith) (omega arith)))
+      let l = ltb-true c 0x40000 e in
+      formed-4 c 6 (0xF0 to 0xF0) (0x90 to 0xBF) refl refl refl (in-range (0xF0 + c / 262144) 0xF0 0xF0 (omega arith) (omega arith)) (in-range (0x80 + c / 4096 % 64) 0x90 0xBF (omega arith) (omega arith)))
       (λ e.
-        let l = ltb-false c 0x40000 e in
-        by-test (ltb c 0x100000)
-        (λ f.
-          let m = ltb-true c 0x100000 f in
-          formed-4 c 7 (0xF1 to 0xF3) (0x80 to 0xBF) refl refl refl (in-range (0xF0 + c / 262144) 0xF1 0xF3 (omega arith) (omega arith)) (tail-in (c / 4096)))
-        (λ f.
-          let m = ltb-false c 0x100000 f in
-          let n = scalar-small c k in
-          formed-4 c 8 (0xF4 to 0xF4) (0x80 to 0x8F) refl refl refl (in-range (0xF0 + c / 262144) 0xF4 0xF4 (omega arith) (omega arith)) (in-range (0x80 + c / 4096 % 64) 0x80 0x8F (omega arith) (omega arith))))
+      let l = ltb-false c 0x40000 e in
+      by-test (ltb c 0x100000)
+      (λ f.
+      let m = ltb-true c 0x100000 f in
+      formed-4 c 7 (0xF1 to 0xF3) (0x80 to 0xBF) refl refl refl (in-range (0xF0 + c / 262144) 0xF1 0xF3 (omega arith) (omega arith)) (tail-in (c / 4096)))
+      (λ f.
+      let m = ltb-false c 0x100000 f in
+      let n = scalar-small c k in
+      formed-4 c 8 (0xF4 to 0xF4) (0x80 to 0x8F) refl refl refl (in-range (0xF0 + c / 262144) 0xF4 0xF4 (omega arith) (omega arith)) (in-range (0x80 + c / 4096 % 64) 0x80 0x8F (omega arith) (omega arith))))
 
   pub encode-formed : WellFormed (encode c)
   encode-formed = encoded WellFormed c (λ h. ascii-formed c h) encoded-2 encoded-3 encoded-4

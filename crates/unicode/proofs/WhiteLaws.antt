@@ -13,7 +13,8 @@ use borrow.Author.Tests.{eqb-true, eqb-false, leb-true, leb-false, ltb-true, ltb
 use Rattle.scan.specs.Loop.{Next, halt, more, loop}
 use Rattle.scan.specs.Part.{part}
 use Rattle.scan.proofs.Loop.{loop-out, loop-halt, loop-more}
-use Rattle.unicode.specs.Utf8.{Range, within, table, fitsAt, firstFit, sequenceAt, charAt}
+use Rattle.unicode.specs.Utf8.{sequenceAt, charAt}
+use Rattle.unicode.proofs.Utf8Laws.{sequence-within}
 use Rattle.unicode.specs.White.{whiteSpace, isIn, isWhite, whiteAt, endsWith, whiteBefore, whiteTurn, whiteEnd, whiteBack, whiteStart, wordTurn, wordEnd, trimmed, wordsTurn, wordsFrom, WhiteEnd, Trimmed, WordAt}
 
 -- either way of a test
@@ -71,28 +72,11 @@ module _ (s : List ℕ) (p w : ℕ) (e : w ≡ sequenceAt s p) where
   whiteAt-white n t = rw (← e, ne-eqb w 0 n, t)
 
 -- it lies within the text
-and-true : (a b : Bool) → a && b ≡ true → (a ≡ true) × (b ≡ true)
-and-true true b h = (refl, h)
-and-true false b h = absurd (true≢false (sym h))
-
-fits-within : (s : List ℕ) (p : ℕ) (rs : List Range) → p ≤ length s → fitsAt s p rs ≡ true → p + length rs ≤ length s
-unfolding fitsAt
-fits-within s p [] h t = omega arith
-fits-within s p (r ∷ rs) h t =
-    let a = and-true (ltb p (length s) && within (getD s p 0) r) (fitsAt s (p + 1) rs) t in
-    let l : p < length s = ltb-true p (length s) (and-true (ltb p (length s)) (within (getD s p 0) r) (a .0) .0) in
-    omega (arith, fits-within s (p + 1) rs (omega arith) (a .1))
-
-first-within : (s : List ℕ) (p : ℕ) (rows : List (List Range)) → p ≤ length s → p + firstFit s p rows ≤ length s
-unfolding firstFit
-first-within s p [] h = omega arith
-first-within s p (r ∷ rows) h = by-test (fitsAt s p r) (λ t. rw t (fits-within s p r h t)) (λ t. rw t (first-within s p rows h))
-
 pub whiteAt-within : (s : List ℕ) (p : ℕ) → p ≤ length s → p + whiteAt s p ≤ length s
-unfolding whiteAt sequenceAt
+unfolding whiteAt
 whiteAt-within s p h =
     by-test (eqb (sequenceAt s p) 0) (λ z. rw z (omega arith))
-    (λ z. by-test (isWhite (charAt s p (sequenceAt s p))) (λ t. rw (z, t) (first-within s p table h)) (λ t. rw (z, t) (omega arith)))
+    (λ z. by-test (isWhite (charAt s p (sequenceAt s p))) (λ t. rw (z, t) (sequence-within s p h)) (λ t. rw (z, t) (omega arith)))
 
 -- ---- one that ends at a place
 module _ (s : List ℕ) (e : ℕ) where
@@ -122,7 +106,8 @@ module _ (s : List ℕ) (e : ℕ) where
   unfolding endsWith
   endsWith-low k zero = omega arith
   endsWith-low k (suc n) =
-      by-test (leb k e && eqb (whiteAt s (e - k)) k) (λ t. rw t (leb-true k e (and-true (leb k e) (eqb (whiteAt s (e - k)) k) t .0))) (λ t. rw t (endsWith-low (k + 1) n))
+      by-test (leb k e) (λ t. by-test (eqb (whiteAt s (e - k)) k) (λ u. rw (t, u) (leb-true k e t)) (λ u. rw (t, u) (endsWith-low (k + 1) n)))
+      (λ t. rw t (endsWith-low (k + 1) n))
 
   pub whiteBefore-low : whiteBefore s e ≤ e
   unfolding whiteBefore
