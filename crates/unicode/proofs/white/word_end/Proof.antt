@@ -1,6 +1,7 @@
 -- `word_end` answers where the word at the place ends. The loop's invariant: it ends where that at `i` does.
 use Prim.Native.Nat.{_-_, _≤_}
 use mathlib.Core.Path.{_≡_, sym, _∙_}
+use native.Mathlib.Omega.{arith}
 use lib.ListN.{length}
 use borrow.Author.Needs.{needs}
 use Rattle.unicode.specs.White.{wordEnd}
@@ -21,7 +22,7 @@ white-at-requires : tie.Need-white-at-requires Inv-loop μ-loop
 white-at-requires c κs = search needs
 
 returns : tie.Need-returns Inv-loop μ-loop
-returns c = (sym (c .before .before .before .loop .inv .2 ∙ wordEnd-here (c .before .before .before .before .before .args .src .now) _ (c .before .before .loop-test .taken) (λ z. c .if1 .taken (c .before .white-at .ensures .is ∙ z))), search needs, search needs)
+returns c = (sym (c .before .before .before .loop .inv .2 ∙ wordEnd-here (c .before .before .before .before .before .args .src .now) (c .before .before .before .loop .i) (c .before .before .loop-test .taken) (λ z. omega arith)), search needs, search needs)
 
 add-i : tie.Need-add-i Inv-loop μ-loop
 add-i c = search needs
@@ -30,7 +31,7 @@ loop-less : tie.Need-loop-less Inv-loop μ-loop
 loop-less c = search needs
 
 loop-again : tie.Need-loop-again Inv-loop μ-loop
-loop-again c = (search needs, search needs, c .before .before .before .loop .inv .2 ∙ wordEnd-on (c .before .before .before .before .before .args .src .now) _ (c .before .before .loop-test .taken) (sym (c .before .white-at .ensures .is) ∙ c .if1 .left))
+loop-again c = (search needs, search needs, c .before .before .before .loop .inv .2 ∙ wordEnd-on (c .before .before .before .before .before .args .src .now) (c .before .before .before .loop .i) (c .before .before .loop-test .taken) (omega arith))
 
 returns-2 : tie.Need-returns-2 Inv-loop μ-loop
 returns-2 c = (sym (c .before .loop .inv .2 ∙ wordEnd-out (c .before .before .before .args .src .now) _ (c .loop-test .left)), search needs, search needs)
