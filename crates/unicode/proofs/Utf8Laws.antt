@@ -5,11 +5,11 @@ use mathlib.Core.Bool.{Bool, true, false, cond, _&&_, _||_, true≢false}
 use mathlib.Core.List.{List, [], _∷_, _++_, append-assoc, append-nil}
 use native.Mathlib.Omega.{arith}
 use native.Mathlib.Nat.{add-zero, zero-add}
-use lib.ListN.{length, getD, take, drop, length-append, length-take, length-drop, take-append-drop, List·getD-append}
-use lib.Seq.{length-take-le, take-length, take-at, drop-at, take-add, getD-take, getD-drop, getD-append-add}
+use lib.ListN.{length, getD, take, drop, length-append, length-drop, take-append-drop, List·getD-append}
+use lib.Seq.{length-take-le, take-length, drop-at, take-add, getD-take, getD-drop, getD-append-add}
 use lib.Dec.{eqb, leb, ltb}
-use borrow.Author.Tests.{ltb-true, ltb-false, leb-true, leb-false, lt-ltb, le-ltb, le-leb, lt-leb, eq-eqb, ne-eqb, eqb-false}
-use Rattle.scan.specs.Loop.{Next, halt, more, loop}
+use borrow.Author.Tests.{ltb-true, ltb-false, leb-true, lt-ltb, le-ltb, le-leb, lt-leb, ne-eqb, eqb-false}
+use Rattle.scan.specs.Loop.{halt, more, loop}
 use Rattle.scan.proofs.Loop.{loop-out, loop-halt, loop-more, loop-ind, halt-inj, more-inj, halt≢more, more≢halt}
 use Rattle.unicode.specs.Utf8.{Range, _to_, within, table, fitsAt, firstFit, sequenceAt, WellFormed, Utf8, empty, sequence, utf8Turn, utf8End, LongestValid, Sequence, tails, followed, scalar, encode, charAt}
 
@@ -234,7 +234,7 @@ pub utf8-one : {w : List ℕ} → WellFormed w → Utf8 w
 utf8-one {w} f = rw (append-nil w) at (sequence f empty)
 
 -- ---- where the sequences end
-abbrev endFrom : List ℕ → ℕ → ℕ
+abbrev pub endFrom : List ℕ → ℕ → ℕ
 endFrom s p = loop (length s) (utf8Turn s) (λ i x. i) p tt
 
 module _ (s : List ℕ) where
@@ -593,3 +593,22 @@ module _ (c : ℕ) (k : scalar c ≡ true) where
 
   pub encode-formed : WellFormed (encode c)
   encode-formed = encoded WellFormed c (λ h. ascii-formed c h) encoded-2 encoded-3 encoded-4
+
+-- ---- what stands at a place, by the lead byte
+-- a lead byte from a to b, of the row with that range: the bytes after it decide
+module _ (s : List ℕ) (p i a b width low high : ℕ) where
+  pub sequence-row : table ≡ take i table ++ (a to b ∷ low to high ∷ tails (width - 2)) ∷ drop (suc i) table → alone (a to b) (take i table) ≡ true → alone (a to b) (drop (suc i) table) ≡ true
+      → length (a to b ∷ low to high ∷ tails (width - 2)) ≡ width → p < length s → a ≤ getD s p 0 → getD s p 0 ≤ b → (r : ℕ) → r ≡ followed s p width low high → Sequence s p r
+  unfolding followed
+  sequence-row e f g l h k m r w =
+      sequenced s p r (omega arith)
+      (w ∙ sym (at-row s p i (a to b) (low to high ∷ tails (width - 2)) e f g h (in-range (getD s p 0) a b k m) ∙ rw l))
+
+pub sequence-ascii : (s : List ℕ) (p : ℕ) → p < length s → getD s p 0 ≤ 0x7F → Sequence s p 1
+sequence-ascii s p h g =
+    sequenced s p 1 (omega arith)
+    (sym (at-row s p 0 (0x00 to 0x7F) [] refl refl refl h (in-range (getD s p 0) 0x00 0x7F (omega arith) g) ∙ rw (fits-none s (p + 1))))
+
+-- no row's first range reaches from low to high
+pub sequence-none : (s : List ℕ) (p low high : ℕ) → alone (low to high) table ≡ true → p < length s → low ≤ getD s p 0 → getD s p 0 ≤ high → Sequence s p 0
+sequence-none s p low high a h g k = sequenced s p 0 (omega arith) (sym (no-row s p (low to high) a (in-range (getD s p 0) low high g k)))

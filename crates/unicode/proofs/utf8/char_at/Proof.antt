@@ -1,116 +1,95 @@
+-- `utf8::char_at` meets its contract: the character by the width. Assumes nothing.
+use native.Mathlib.Omega.{arith}
+use borrow.Author.Tests.{eq-eqb, ne-eqb}
+use Rattle.unicode.specs.Utf8.{charAt}
 use borrow.Author.Needs.{needs}
 use Rattle.unicode.proofs.utf8.char_at.Statement.{statement}
 use Rattle.unicode.proofs.utf8.char_at.Tie as tie
-use Rattle.unicode.proofs.utf8.char_at.Reads as reads
-use Rattle.unicode.proofs.utf8.char_at.Lts as lts
 
--- src/utf8.rt:76:13
 shared-slice-read-a : tie.Need-shared-slice-read-a
 shared-slice-read-a c = search needs
 
--- src/utf8.rt:76:13
 cast-a : tie.Need-cast-a
-cast-a c = ?
+cast-a c = omega (arith, c .shared-slice-known .given (c .before .args .pos))
 
--- src/utf8.rt:78:9
 returns : tie.Need-returns
-returns c = ?
+unfolding charAt
+returns c = rw (eq-eqb (c .before .before .args .width) 1 (c .if1 .taken))
 
--- src/utf8.rt:80:18
 add-b : tie.Need-add-b
 add-b c = search needs
 
--- src/utf8.rt:80:14
 shared-slice-read-b : tie.Need-shared-slice-read-b
 shared-slice-read-b c = search needs
 
--- src/utf8.rt:80:13
 cast-b : tie.Need-cast-b
 cast-b c = search needs
 
--- src/utf8.rt:82:16
 mul-result : tie.Need-mul-result
 mul-result c = search needs
 
--- src/utf8.rt:82:16
 add-result : tie.Need-add-result
 add-result c = search needs
 
--- src/utf8.rt:82:9
 returns-2 : tie.Need-returns-2
-returns-2 c = ?
+unfolding charAt
+returns-2 c = rw (ne-eqb (c .before .before .before .before .args .width) 1 (c .before .before .if1 .left), eq-eqb (c .before .before .before .before .args .width) 2 (c .if2 .taken))
 
--- src/utf8.rt:84:18
 add-c : tie.Need-add-c
 add-c c = search needs
 
--- src/utf8.rt:84:14
 shared-slice-read-c : tie.Need-shared-slice-read-c
 shared-slice-read-c c = search needs
 
--- src/utf8.rt:84:13
 cast-c : tie.Need-cast-c
 cast-c c = search needs
 
--- src/utf8.rt:86:16
 mul-result-2 : tie.Need-mul-result-2
 mul-result-2 c = search needs
 
--- src/utf8.rt:86:32
 mul-result-3 : tie.Need-mul-result-3
 mul-result-3 c = search needs
 
--- src/utf8.rt:86:16
 add-result-2 : tie.Need-add-result-2
 add-result-2 c = search needs
 
--- src/utf8.rt:86:16
 add-result-3 : tie.Need-add-result-3
 add-result-3 c = search needs
 
--- src/utf8.rt:86:9
 returns-3 : tie.Need-returns-3
-returns-3 c = ?
+unfolding charAt
+returns-3 c = rw (ne-eqb (c .before .before .before .before .before .before .args .width) 1 (c .before .before .before .before .if1 .left), ne-eqb (c .before .before .before .before .before .before .args .width) 2 (c .before .before .if2 .left), eq-eqb (c .before .before .before .before .before .before .args .width) 3 (c .if3 .taken))
 
--- src/utf8.rt:88:18
 add-d : tie.Need-add-d
 add-d c = search needs
 
--- src/utf8.rt:88:14
 shared-slice-read-d : tie.Need-shared-slice-read-d
 shared-slice-read-d c = search needs
 
--- src/utf8.rt:88:13
 cast-d : tie.Need-cast-d
 cast-d c = search needs
 
--- src/utf8.rt:89:5
 mul-result-4 : tie.Need-mul-result-4
 mul-result-4 c = search needs
 
--- src/utf8.rt:89:22
 mul-result-5 : tie.Need-mul-result-5
 mul-result-5 c = search needs
 
--- src/utf8.rt:89:5
 add-result-4 : tie.Need-add-result-4
 add-result-4 c = search needs
 
--- src/utf8.rt:89:33
 mul-result-6 : tie.Need-mul-result-6
 mul-result-6 c = search needs
 
--- src/utf8.rt:89:5
 add-result-5 : tie.Need-add-result-5
 add-result-5 c = search needs
 
--- src/utf8.rt:89:5
 add-result-6 : tie.Need-add-result-6
 add-result-6 c = search needs
 
--- src/utf8.rt:72:1
 returns-4 : tie.Need-returns-4
-returns-4 c = ?
+unfolding charAt
+returns-4 c = rw (ne-eqb (c .before .before .before .before .before .before .before .args .width) 1 (c .before .before .before .before .before .if1 .left), ne-eqb (c .before .before .before .before .before .before .before .args .width) 2 (c .before .before .before .if2 .left), ne-eqb (c .before .before .before .before .before .before .before .args .width) 3 (c .before .if3 .left))
 
 pub char-at-spec : {M : Type 1} → statement M
 char-at-spec =

@@ -1,89 +1,75 @@
+-- `utf8::follow` meets its contract: each turn keeps that the bytes from `pos + i` on decide. Assumes nothing.
+use Prim.Native.Nat.{_+_, _-_, _≤_}
+use mathlib.Core.Path.{_≡_, sym, _∙_}
+use mathlib.Core.Bool.{cond}
+use native.Mathlib.Omega.{arith}
+use Rattle.unicode.specs.Utf8.{fitsAt, tails, followed}
+use Rattle.unicode.proofs.Utf8Laws.{below-range, above-range, followed-short, followed-not, followed-in, rest-not, rest-in, rest-out}
 use Rattle.unicode.proofs.utf8.follow.Statement.{statement}
 use Rattle.unicode.proofs.utf8.follow.Tie as tie
-use Rattle.unicode.proofs.utf8.follow.Reads as reads
-use Rattle.unicode.proofs.utf8.follow.Lts as lts
 
 abbrev Inv-loop : tie.InvT-loop
-Inv-loop src pos width low high i₀ i = ?
+Inv-loop src pos width low high i₀ i = (2 ≤ i) × (i ≤ width) × (followed src pos width low high ≡ cond (fitsAt src (pos + i) (tails (width - i))) width 0)
 
 abbrev μ-loop : tie.MeasureT-loop
-μ-loop src pos width low high i₀ i = ?
+μ-loop src pos width low high i₀ i = width - i
 
--- src/utf8.rt:14:8
 sub-if1 : tie.Need-sub-if1 Inv-loop μ-loop
-sub-if1 c = ?
+sub-if1 c = omega arith
 
--- src/utf8.rt:15:9
 returns : tie.Need-returns Inv-loop μ-loop
-returns c = ?
+returns c = sym (followed-short (c .before .args .src .now) _ _ _ _ (c .before .pre .0) (c .before .pre .1) (c .if1 .taken))
 
--- src/utf8.rt:17:12
 add-if2 : tie.Need-add-if2 Inv-loop μ-loop
-add-if2 c = ?
+add-if2 c = omega arith
 
--- src/utf8.rt:17:8
 shared-slice-read-if2 : tie.Need-shared-slice-read-if2 Inv-loop μ-loop
-shared-slice-read-if2 c = ?
+shared-slice-read-if2 c = omega arith
 
--- src/utf8.rt:18:9
 returns-2 : tie.Need-returns-2 Inv-loop μ-loop
-returns-2 c = ?
+returns-2 c = sym (followed-not (c .before .before .before .args .src .now) _ _ _ _ (below-range _ _ _ (c .if2 .taken)))
 
--- src/utf8.rt:20:19
 add-if3 : tie.Need-add-if3 Inv-loop μ-loop
-add-if3 c = ?
+add-if3 c = omega arith
 
--- src/utf8.rt:20:15
 shared-slice-read-if3 : tie.Need-shared-slice-read-if3 Inv-loop μ-loop
-shared-slice-read-if3 c = ?
+shared-slice-read-if3 c = omega arith
 
--- src/utf8.rt:21:9
 returns-3 : tie.Need-returns-3 Inv-loop μ-loop
-returns-3 c = ?
+returns-3 c = sym (followed-not (c .before .before .before .before .before .args .src .now) _ _ _ _ (above-range _ _ _ (c .if3 .taken)))
 
--- src/utf8.rt:24:5
 loop-holds : tie.Need-loop-holds Inv-loop μ-loop
-loop-holds c = ?
+loop-holds c = (omega arith, omega arith, followed-in (c .before .before .before .before .before .args .src .now) _ _ _ _ (omega arith) (c .before .before .if2 .left) (c .if3 .left))
 
--- src/utf8.rt:25:16
 add-if4 : tie.Need-add-if4 Inv-loop μ-loop
-add-if4 c = ?
+add-if4 c = omega arith
 
--- src/utf8.rt:25:12
 shared-slice-read-if4 : tie.Need-shared-slice-read-if4 Inv-loop μ-loop
-shared-slice-read-if4 c = ?
+shared-slice-read-if4 c = omega arith
 
--- src/utf8.rt:26:13
 returns-4 : tie.Need-returns-4 Inv-loop μ-loop
-returns-4 c = ?
+returns-4 c = sym (c .before .before .before .loop .inv .2 ∙ rest-not (c .before .before .before .before .before .before .before .before .before .args .src .now) _ _ _ (c .before .before .loop-test .taken) (below-range _ _ _ (c .if4 .taken)))
 
--- src/utf8.rt:28:23
 add-if5 : tie.Need-add-if5 Inv-loop μ-loop
-add-if5 c = ?
+add-if5 c = omega arith
 
--- src/utf8.rt:28:19
 shared-slice-read-if5 : tie.Need-shared-slice-read-if5 Inv-loop μ-loop
-shared-slice-read-if5 c = ?
+shared-slice-read-if5 c = omega arith
 
--- src/utf8.rt:29:13
 returns-5 : tie.Need-returns-5 Inv-loop μ-loop
-returns-5 c = ?
+returns-5 c = sym (c .before .before .before .before .before .loop .inv .2 ∙ rest-not (c .before .before .before .before .before .before .before .before .before .before .before .args .src .now) _ _ _ (c .before .before .before .before .loop-test .taken) (above-range _ _ _ (c .if5 .taken)))
 
--- src/utf8.rt:31:9
 add-i : tie.Need-add-i Inv-loop μ-loop
-add-i c = ?
+add-i c = omega arith
 
--- src/utf8.rt:24:5
 loop-less : tie.Need-loop-less Inv-loop μ-loop
-loop-less c = ?
+loop-less c = omega arith
 
--- src/utf8.rt:24:5
 loop-again : tie.Need-loop-again Inv-loop μ-loop
-loop-again c = ?
+loop-again c = (omega arith, omega arith, c .before .before .before .before .before .loop .inv .2 ∙ rest-in (c .before .before .before .before .before .before .before .before .before .before .before .args .src .now) _ _ _ (c .before .before .before .before .loop-test .taken) (omega arith) (c .before .before .if4 .left) (c .if5 .left))
 
--- src/utf8.rt:10:1
 returns-6 : tie.Need-returns-6 Inv-loop μ-loop
-returns-6 c = ?
+returns-6 c = sym (c .before .loop .inv .2 ∙ rest-out (c .before .before .before .before .before .before .before .args .src .now) _ _ _ (c .loop-test .left))
 
 pub follow-spec : {M : Type 1} → statement M
 follow-spec =

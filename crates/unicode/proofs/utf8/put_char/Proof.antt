@@ -1,196 +1,153 @@
+-- `utf8::put_char` meets its contract: the stores of each range are the character's bytes there. Assumes nothing.
+use mathlib.Core.Path.{refl, ap}
+use native.Mathlib.Omega.{arith}
+use native.Mathlib.Numerals.{add-one, add-two, add-three}
+use lib.ListN.{length, length-set}
+use Rattle.unicode.proofs.Utf8Laws.{encode-1, encode-2, encode-3, encode-4}
 use borrow.Author.Needs.{needs}
 use Rattle.unicode.proofs.utf8.put_char.Statement.{statement}
 use Rattle.unicode.proofs.utf8.put_char.Tie as tie
-use Rattle.unicode.proofs.utf8.put_char.Reads as reads
-use Rattle.unicode.proofs.utf8.put_char.Lts as lts
 
--- src/utf8.rt:98:19
 cast-out : tie.Need-cast-out
 cast-out c = search needs
 
--- src/utf8.rt:98:9
 slice-write-out : tie.Need-slice-write-out
-slice-write-out c = ?
+slice-write-out c = omega (arith, ap length (encode-1 (c .before .args .c) (c .if1 .taken)))
 
--- src/utf8.rt:99:16
 add-result : tie.Need-add-result
 add-result c = search needs
 
--- src/utf8.rt:99:9
 same-length : tie.Need-same-length
 same-length c = search needs
 
--- src/utf8.rt:99:9
 returns : tie.Need-returns
-returns c = ?
+returns c = rw (encode-1 (c .before .args .c) (c .if1 .taken)) (record { next = refl; within = omega (arith, ap length (encode-1 (c .before .args .c) (c .if1 .taken))); laid = refl })
 
--- src/utf8.rt:102:20
 add-out : tie.Need-add-out
 add-out c = search needs
 
--- src/utf8.rt:102:19
 cast-out-2 : tie.Need-cast-out-2
 cast-out-2 c = search needs
 
--- src/utf8.rt:102:9
 slice-write-out-2 : tie.Need-slice-write-out-2
-slice-write-out-2 c = ?
+slice-write-out-2 c = omega (arith, ap length (encode-2 (c .before .before .args .c) (c .before .if1 .left) (c .if2 .taken)))
 
--- src/utf8.rt:103:24
 add-out-2 : tie.Need-add-out-2
 add-out-2 c = search needs
 
--- src/utf8.rt:103:23
 cast-out-3 : tie.Need-cast-out-3
 cast-out-3 c = search needs
 
--- src/utf8.rt:103:13
 add-out-3 : tie.Need-add-out-3
 add-out-3 c = search needs
 
--- src/utf8.rt:103:9
 slice-write-out-3 : tie.Need-slice-write-out-3
-slice-write-out-3 c = ?
+slice-write-out-3 c = simp length-set (omega (arith, ap length (encode-2 (c .before .before .args .c) (c .before .if1 .left) (c .if2 .taken))))
 
--- src/utf8.rt:104:16
 add-result-2 : tie.Need-add-result-2
 add-result-2 c = search needs
 
--- src/utf8.rt:104:9
 same-length-2 : tie.Need-same-length-2
 same-length-2 c = search needs
 
--- src/utf8.rt:104:9
 returns-2 : tie.Need-returns-2
-returns-2 c = ?
+returns-2 c = rw (encode-2 (c .before .before .args .c) (c .before .if1 .left) (c .if2 .taken)) (record { next = refl; within = omega (arith, ap length (encode-2 (c .before .before .args .c) (c .before .if1 .left) (c .if2 .taken))); laid = simp add-one })
 
--- src/utf8.rt:107:20
 add-out-4 : tie.Need-add-out-4
 add-out-4 c = search needs
 
--- src/utf8.rt:107:19
 cast-out-4 : tie.Need-cast-out-4
 cast-out-4 c = search needs
 
--- src/utf8.rt:107:9
 slice-write-out-4 : tie.Need-slice-write-out-4
-slice-write-out-4 c = ?
+slice-write-out-4 c = omega (arith, ap length (encode-3 (c .before .before .before .args .c) (c .before .if2 .left) (c .if3 .taken)))
 
--- src/utf8.rt:108:24
 add-out-5 : tie.Need-add-out-5
 add-out-5 c = search needs
 
--- src/utf8.rt:108:23
 cast-out-5 : tie.Need-cast-out-5
 cast-out-5 c = search needs
 
--- src/utf8.rt:108:13
 add-out-6 : tie.Need-add-out-6
 add-out-6 c = search needs
 
--- src/utf8.rt:108:9
 slice-write-out-5 : tie.Need-slice-write-out-5
-slice-write-out-5 c = ?
+slice-write-out-5 c = simp length-set (omega (arith, ap length (encode-3 (c .before .before .before .args .c) (c .before .if2 .left) (c .if3 .taken))))
 
--- src/utf8.rt:109:24
 add-out-7 : tie.Need-add-out-7
 add-out-7 c = search needs
 
--- src/utf8.rt:109:23
 cast-out-6 : tie.Need-cast-out-6
 cast-out-6 c = search needs
 
--- src/utf8.rt:109:13
 add-out-8 : tie.Need-add-out-8
 add-out-8 c = search needs
 
--- src/utf8.rt:109:9
 slice-write-out-6 : tie.Need-slice-write-out-6
-slice-write-out-6 c = ?
+slice-write-out-6 c = simp length-set (omega (arith, ap length (encode-3 (c .before .before .before .args .c) (c .before .if2 .left) (c .if3 .taken))))
 
--- src/utf8.rt:110:16
 add-result-3 : tie.Need-add-result-3
 add-result-3 c = search needs
 
--- src/utf8.rt:110:9
 same-length-3 : tie.Need-same-length-3
 same-length-3 c = search needs
 
--- src/utf8.rt:110:9
 returns-3 : tie.Need-returns-3
-returns-3 c = ?
+returns-3 c = rw (encode-3 (c .before .before .before .args .c) (c .before .if2 .left) (c .if3 .taken)) (record { next = refl; within = omega (arith, ap length (encode-3 (c .before .before .before .args .c) (c .before .if2 .left) (c .if3 .taken))); laid = simp (add-one, add-two) })
 
--- src/utf8.rt:112:16
 add-out-9 : tie.Need-add-out-9
 add-out-9 c = search needs
 
--- src/utf8.rt:112:15
 cast-out-7 : tie.Need-cast-out-7
 cast-out-7 c = search needs
 
--- src/utf8.rt:112:5
 slice-write-out-7 : tie.Need-slice-write-out-7
-slice-write-out-7 c = ?
+slice-write-out-7 c = omega (arith, ap length (encode-4 (c .before .before .before .args .c) (c .if3 .left)))
 
--- src/utf8.rt:113:20
 add-out-10 : tie.Need-add-out-10
 add-out-10 c = search needs
 
--- src/utf8.rt:113:19
 cast-out-8 : tie.Need-cast-out-8
 cast-out-8 c = search needs
 
--- src/utf8.rt:113:9
 add-out-11 : tie.Need-add-out-11
 add-out-11 c = search needs
 
--- src/utf8.rt:113:5
 slice-write-out-8 : tie.Need-slice-write-out-8
-slice-write-out-8 c = ?
+slice-write-out-8 c = simp length-set (omega (arith, ap length (encode-4 (c .before .before .before .args .c) (c .if3 .left))))
 
--- src/utf8.rt:114:20
 add-out-12 : tie.Need-add-out-12
 add-out-12 c = search needs
 
--- src/utf8.rt:114:19
 cast-out-9 : tie.Need-cast-out-9
 cast-out-9 c = search needs
 
--- src/utf8.rt:114:9
 add-out-13 : tie.Need-add-out-13
 add-out-13 c = search needs
 
--- src/utf8.rt:114:5
 slice-write-out-9 : tie.Need-slice-write-out-9
-slice-write-out-9 c = ?
+slice-write-out-9 c = simp length-set (omega (arith, ap length (encode-4 (c .before .before .before .args .c) (c .if3 .left))))
 
--- src/utf8.rt:115:20
 add-out-14 : tie.Need-add-out-14
 add-out-14 c = search needs
 
--- src/utf8.rt:115:19
 cast-out-10 : tie.Need-cast-out-10
 cast-out-10 c = search needs
 
--- src/utf8.rt:115:9
 add-out-15 : tie.Need-add-out-15
 add-out-15 c = search needs
 
--- src/utf8.rt:115:5
 slice-write-out-10 : tie.Need-slice-write-out-10
-slice-write-out-10 c = ?
+slice-write-out-10 c = simp length-set (omega (arith, ap length (encode-4 (c .before .before .before .args .c) (c .if3 .left))))
 
--- src/utf8.rt:116:5
 add-result-4 : tie.Need-add-result-4
 add-result-4 c = search needs
 
--- src/utf8.rt:93:1
 same-length-4 : tie.Need-same-length-4
 same-length-4 c = search needs
 
--- src/utf8.rt:93:1
 returns-4 : tie.Need-returns-4
-returns-4 c = ?
+returns-4 c = rw (encode-4 (c .before .before .before .args .c) (c .if3 .left)) (record { next = refl; within = omega (arith, ap length (encode-4 (c .before .before .before .args .c) (c .if3 .left))); laid = simp (add-one, add-two, add-three) })
 
 pub put-char-spec : {M : Type 1} → statement M
 put-char-spec =

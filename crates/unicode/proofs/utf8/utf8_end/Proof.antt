@@ -1,42 +1,39 @@
+-- `utf8::utf8_end` meets its contract: each turn keeps where the sequences end; that this is the longest valid beginning is a law. Assumes nothing.
+use Prim.Native.Nat.{_-_, _≤_}
+use mathlib.Core.Path.{_≡_, sym, _∙_}
+use native.Mathlib.Omega.{arith}
+use lib.ListN.{length}
+use Rattle.unicode.specs.Utf8.{utf8End}
+use Rattle.unicode.proofs.Utf8Laws.{endFrom, end-start, end-here, end-on, end-out, longest-valid}
 use Rattle.unicode.proofs.utf8.utf8_end.Statement.{statement}
 use Rattle.unicode.proofs.utf8.utf8_end.Tie as tie
-use Rattle.unicode.proofs.utf8.utf8_end.Reads as reads
-use Rattle.unicode.proofs.utf8.utf8_end.Lts as lts
-use Rattle.unicode.proofs.utf8.sequence_at.Reads as sequence-at-reads
 
 abbrev Inv-loop : tie.InvT-loop
-Inv-loop src i₀ i = ?
+Inv-loop src i₀ i = (i ≤ length src) × (utf8End src ≡ endFrom src i)
 
 abbrev μ-loop : tie.MeasureT-loop
-μ-loop src i₀ i = ?
+μ-loop src i₀ i = length src - i
 
--- src/utf8.rt:61:5
 loop-holds : tie.Need-loop-holds Inv-loop μ-loop
-loop-holds c = ?
+loop-holds c = (omega arith, end-start _)
 
--- src/utf8.rt:62:13
 sequence-at-requires : tie.Need-sequence-at-requires Inv-loop μ-loop
-sequence-at-requires c κs = ?
+sequence-at-requires c κs = c .loop-test .taken
 
--- src/utf8.rt:64:13
 returns : tie.Need-returns Inv-loop μ-loop
-returns c = ?
+returns c = longest-valid (c .before .before .before .before .before .args .src .now) _ (sym (c .before .before .before .loop .inv .1 ∙ end-here (c .before .before .before .before .before .args .src .now) _ (c .before .before .loop-test .taken) (sym (c .before .sequence-at .ensures .is) ∙ c .if1 .taken)))
 
--- src/utf8.rt:66:9
 add-i : tie.Need-add-i Inv-loop μ-loop
-add-i c = ?
+add-i c = omega arith
 
--- src/utf8.rt:61:5
 loop-less : tie.Need-loop-less Inv-loop μ-loop
-loop-less c = ?
+loop-less c = omega arith
 
--- src/utf8.rt:61:5
 loop-again : tie.Need-loop-again Inv-loop μ-loop
-loop-again c = ?
+loop-again c = (omega arith, c .before .before .before .loop .inv .1 ∙ end-on (c .before .before .before .before .before .args .src .now) _ _ (c .before .before .loop-test .taken) (sym (c .before .sequence-at .ensures .is)) (omega arith))
 
--- src/utf8.rt:57:1
 returns-2 : tie.Need-returns-2 Inv-loop μ-loop
-returns-2 c = ?
+returns-2 c = longest-valid (c .before .before .before .args .src .now) _ (sym (c .before .loop .inv .1 ∙ end-out (c .before .before .before .args .src .now) _ (c .loop-test .left)))
 
 pub utf8-end-spec : {M : Type 1} → statement M
 utf8-end-spec =
