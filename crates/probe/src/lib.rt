@@ -1,8 +1,9 @@
 // C names for the functions that the comparison with the Rust calls. None asks anything of its
 // caller: each tests what the function below it asks.
 ghost use mathlib.Core.Path.{_≡_};
+ghost use mathlib.Core.Bool.{true, false};
 ghost use mathlib.Core.List.{[], _∷_};
-ghost use Prim.Native.Nat.{_≤_};
+ghost use Prim.Native.Nat.{_≤_, _<_};
 ghost use lib.ListN.{length};
 ghost use lib.Seq.{sets};
 ghost use Rattle.scan.specs.Names.{sameFolded, afterLastColon, afterFirstColon, PartFrom};
@@ -121,6 +122,21 @@ pub extern "C" fn probe_strip_ns(name: &[u8]) -> usize
 }
 
 // 0: no number, 1: a number, 2: a negative number. Its size goes to the first cell.
+fn put_number(n: Numeral, out: &mut [u64]) -> u32
+    requires { ⌜ 0 < length (now out) ⌝ }
+    ensures { λ r. ⌜ Numbered n (now (out .entry)) (now (out .exit)) r ⌝ }
+{
+    match n {
+        Numeral::Is(w) => {
+            out[0] = w.magnitude;
+            if w.negative { 2 } else { 1 }
+        }
+        Numeral::Nothing => 0,
+    }
+}
+
+// The number that the text spells: none also if the radix is not from 2 to 36, the largest value
+// is past 2^63 - 1, or there is no cell.
 #[no_mangle]
 pub extern "C" fn probe_numeral(
     text: &[u8],
@@ -143,13 +159,7 @@ pub extern "C" fn probe_numeral(
     if out.len() == 0 {
         return 0;
     }
-    match numerals::read_numeral(text, radix as u64, max, minus) {
-        Numeral::Is(w) => {
-            out[0] = w.magnitude;
-            if w.negative { 2 } else { 1 }
-        }
-        Numeral::Nothing => 0,
-    }
+    put_number(numerals::read_numeral(text, radix as u64, max, minus), out)
 }
 
 // The character that the name stands for, or 2^32 - 1.
