@@ -3,6 +3,7 @@
 --     absent, absent-run               a byte that is escaped, but `&`, stands nowhere in escaped text
 --     text-run                         escaped text is one run of bytes other than `<`
 --     escaped-longer, escaped-none     it is no shorter than the text, and empty only for the empty text
+--     utf8-escaped                     it is UTF-8 where the text is
 use Prim.Native.Nat.{ℕ, zero, suc, _≤_, _<_}
 use mathlib.Core.Path.{_≡_, refl, sym, ap, _∙_}
 use mathlib.Core.Bool.{Bool, true, false, _&&_, false≢true, and-eq-true-iff}
@@ -10,15 +11,16 @@ use mathlib.Core.List.{List, [], _∷_, _++_}
 use native.Mathlib.Omega.{arith}
 use lib.ListN.{length, getD, length-append}
 use lib.Dec.{ltb}
-use borrow.Author.Tests.{ne-eqb, eqb-false, ltb-true, ltb-false, not-true}
+use borrow.Author.Tests.{ne-eqb, eqb-false, lt-ltb, ltb-true, ltb-false, not-true}
 use Rattle.scan.specs.Bytes.{other, textByte, runEnd}
 use Rattle.scan.specs.Names.{sameBytes}
-use Rattle.unicode.specs.Utf8.{encode}
+use Rattle.unicode.specs.Utf8.{WellFormed, Utf8, empty, sequence, encode}
+use Rattle.unicode.proofs.Utf8Laws.{by-test, utf8-append, utf8-one, utf8-ascii, sequence-ascii, well-high}
 use Rattle.scan.proofs.Runs.{run-high, run-stops}
 use Rattle.entities.specs.Reference.{named, lookup, nameByte, nameLength, reference}
 use Rattle.entities.specs.Decode.{decodedFrom, decoded}
 use Rattle.entities.specs.Escape.{plain, escapeByte, escaped}
-use Rattle.entities.proofs.Escapes.{Way, amp, lt, gt, quot, self, way}
+use Rattle.entities.proofs.Escapes.{Way, amp, lt, gt, quot, self, way, plain-other, escaped-append, escaped-plain}
 
 -- ---- decoding undoes escaping
 back-byte : (q : Bool) (b : ℕ) (s : List ℕ) → Way q b → decoded (escapeByte q b ++ s) ≡ b ∷ decoded s
@@ -133,3 +135,29 @@ escaped-longer q (b ∷ s) = simp length-append (omega (arith, some-byte q b (wa
 pub escaped-none : (q : Bool) (s : List ℕ) → escaped q s ≡ [] → s ≡ []
 escaped-none q [] e = refl
 escaped-none q (b ∷ s) e = absurd (omega (arith, escaped-longer q (b ∷ s), ap length e))
+
+-- ---- escaped UTF-8 is UTF-8
+module _ (q : Bool) where
+  high-plain : (b : ℕ) → 128 ≤ b → plain q b ≡ true
+  high-plain b h = plain-other q b (λ e. omega arith) (λ e. omega arith) (λ e. omega arith) (λ e. omega arith)
+
+  ascii-escaped : (b : ℕ) → b < 128 → every (λ a. ltb a 128) (escaped q (b ∷ [])) ≡ true
+  unfolding every escaped escapeByte
+  ascii-escaped b h = every-append (λ a. ltb a 128) (escapeByte q b) [] (every-byte (λ a. ltb a 128) q b refl refl refl refl (λ e. lt-ltb b 128 h) (way q b)) refl
+
+  -- a sequence that starts below 128 is one byte
+  low-formed : (w : List ℕ) → WellFormed w → getD w 0 0 < 128 → Utf8 (escaped q w)
+  low-formed [] f h = absurd (omega (arith, f .some-byte))
+  low-formed (b ∷ []) f h = utf8-ascii (escaped q (b ∷ [])) (λ i l. ltb-true _ 128 (every-at (λ a. ltb a 128) (escaped q (b ∷ [])) (ascii-escaped b h) i l))
+  low-formed (b ∷ c ∷ w) f h = absurd (omega (arith, f .whole, sequence-ascii (b ∷ c ∷ w) 0 (omega arith) (omega arith) .is))
+
+  formed : (w : List ℕ) → WellFormed w → Utf8 (escaped q w)
+  formed w f =
+      by-test (ltb (getD w 0 0) 128)
+      (λ e. low-formed w f (ltb-true _ _ e))
+      (λ e. rw (escaped-plain q w (λ k l. high-plain _ (well-high w f (ltb-false _ _ e) k l))) (utf8-one f))
+
+  pub utf8-escaped : {s : List ℕ} → Utf8 s → Utf8 (escaped q s)
+  unfolding escaped
+  utf8-escaped empty = empty
+  utf8-escaped (sequence {w} {s} f u) = rw (escaped-append q w s) (utf8-append (formed w f) (utf8-escaped u))

@@ -87,7 +87,7 @@ escaped-append q [] b = refl
 escaped-append q (x ∷ a) b = rw (escaped-append q a b, append-assoc)
 
 -- bytes that stand for themselves
-escaped-plain : (q : Bool) (w : List ℕ) → ((k : ℕ) → k < length w → plain q (getD w k 0) ≡ true) → escaped q w ≡ w
+pub escaped-plain : (q : Bool) (w : List ℕ) → ((k : ℕ) → k < length w → plain q (getD w k 0) ≡ true) → escaped q w ≡ w
 unfolding escaped
 escaped-plain q [] h = refl
 escaped-plain q (b ∷ w) h = rw (plain-self q b (h 0 (omega arith)), escaped-plain q w (λ k l. h (suc k) (omega arith)))
