@@ -7,7 +7,7 @@
 --     first-colon                     the part after the first
 use Prim.Native.Nat.{ℕ, zero, suc, _+_, _-_, _≤_, _<_}
 use mathlib.Core.Path.{_≡_, refl, sym, ap, _∙_}
-use mathlib.Core.Bool.{Bool, true, false, cond, not, _&&_, and-false, false≢true, true≢false}
+use mathlib.Core.Bool.{Bool, true, false, cond, _&&_, and-false, false≢true, true≢false}
 use mathlib.Core.List.{List, [], _∷_, map, map-id}
 use native.Mathlib.Omega.{arith}
 use native.Mathlib.Numerals.{add-one}
@@ -184,9 +184,9 @@ module _ (s : List ℕ) where
   unfolding hasColon pastColon
   goes i h e j =
       let n : eqb (getD s i 0) 58 ≡ false = not-true _ e in
-      record
-      { has = j .has ∙ rw (add-one i, drop-cons s i 0 h, n)
-      ; past = j .past ∙ rw (add-one i, drop-cons s i 0 h, n)
+      record {
+        has = j .has ∙ rw (add-one i, drop-cons s i 0 h, n);
+        past = j .past ∙ rw (add-one i, drop-cons s i 0 h, n);
       }
 
   stops : (i : ℕ) → i < length s → other 58 (getD s i 0) ≡ false → Passing s i → FirstColon s i
@@ -195,18 +195,18 @@ module _ (s : List ℕ) where
       let n : eqb (getD s i 0) 58 ≡ true = not-false _ e in
       let b : hasColon s ≡ true = j .has ∙ rw (drop-cons s i 0 h, n) in
       let p : pastColon s ≡ drop (i + 1) s = j .past ∙ rw (add-one i, drop-cons s i 0 h, n) in
-      record
-      { got = λ l. record { within = omega arith; is = rw (b, p) }
-      ; none = λ l. absurd (omega arith)
+      record {
+        got = λ l. record { within = omega arith; is = rw (b, p) };
+        none = λ l. absurd (omega arith);
       }
 
   ends : (i : ℕ) → length s ≤ i → Passing s i → FirstColon s i
   unfolding hasColon afterFirstColon
   ends i h j =
       let b : hasColon s ≡ false = j .has ∙ rw (drop-of-length-le s h) in
-      record
-      { got = λ l. absurd (omega arith)
-      ; none = λ l. record { within = omega arith; is = rw b }
+      record {
+        got = λ l. absurd (omega arith);
+        none = λ l. record { within = omega arith; is = rw b };
       }
 
   pub first-colon : (r : ℕ) → r ≡ runEnd (other 58) s 0 → FirstColon s r

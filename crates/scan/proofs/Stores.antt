@@ -1,5 +1,5 @@
 -- Laws of lent tables: runs of stores, one after the other and one before the other, read back, and of the loops that make them. Assumes nothing.
-use Prim.Native.Nat.{ℕ, zero, suc, _+_, _-_, _≤_, _<_}
+use Prim.Native.Nat.{ℕ, suc, _+_, _≤_, _<_}
 use mathlib.Core.Path.{_≡_, refl, sym, ap, _∙_}
 use mathlib.Core.List.{List, [], _∷_, _++_, append-nil, append-assoc}
 use mathlib.Core.Logic.{_⊎_, inl, inr}
@@ -8,7 +8,7 @@ use native.Mathlib.Nat.{add-zero, add-suc, suc-add}
 use native.Mathlib.Numerals.{add-one}
 use borrow.Author.Fill.{fill-none, fill-more}
 use lib.ListN.{length, getD, set, take, drop, replicate, length-set, drop-of-length-le}
-use lib.Seq.{sets, set-comm, length-sets, sets-eq, length-take-le, take-suc, take-length, take-append-seam, drop-at, getD-set-other}
+use lib.Seq.{sets, set-comm, sets-eq, length-take-le, take-suc, take-length, take-append-seam, drop-at, getD-set-other}
 
 -- what is stored after a run
 pub sets-append : (a b t : List ℕ) (i : ℕ) → sets (sets t i a) (i + length a) b ≡ sets t i (a ++ b)
@@ -55,10 +55,10 @@ cleared-none t = record { within = omega arith; is = fill-none t 0; kept = refl 
 
 pub cleared-more : (t t′ : List ℕ) (i : ℕ) → Cleared t i t′ → i < length t → Cleared t (i + 1) (set t′ i 0)
 cleared-more t t′ i c h =
-    record
-    { within = omega arith
-    ; is = rw (c .is) (fill-more i 0 t h)
-    ; kept = simp length-set (c .kept)
+    record {
+      within = omega arith;
+      is = rw (c .is) (fill-more i 0 t h);
+      kept = simp length-set (c .kept);
     }
 
 pub cleared-all : (t t′ : List ℕ) (i : ℕ) → Cleared t i t′ → length t ≤ i → t′ ≡ replicate (length t) 0
@@ -79,11 +79,11 @@ copied-none w t a h = record { some = omega arith; room = h; is = refl; kept = r
 pub copied-more : (w t t′ : List ℕ) (a i : ℕ) → Copied w a t i t′ → i < length w → Copied w a t (i + 1) (set t′ (a + i) (getD w i 0))
 copied-more w t t′ a i c h =
     let l : length (take i w) ≡ i = length-take-le i w (c .some) in
-    record
-    { some = omega arith
-    ; room = c .room
-    ; is = rw (c .is, add-one i, take-suc w i 0 h) (ap (λ (k : ℕ). set (sets t a (take i w)) (a + k) (getD w i 0)) (sym l) ∙ sets-append (take i w) (getD w i 0 ∷ []) t a)
-    ; kept = simp length-set (c .kept)
+    record {
+      some = omega arith;
+      room = c .room;
+      is = rw (c .is, add-one i, take-suc w i 0 h) (ap (λ (k : ℕ). set (sets t a (take i w)) (a + k) (getD w i 0)) (sym l) ∙ sets-append (take i w) (getD w i 0 ∷ []) t a);
+      kept = simp length-set (c .kept);
     }
 
 pub copied-all : (w t t′ : List ℕ) (a i : ℕ) → Copied w a t i t′ → length w ≤ i → t′ ≡ sets t a w
