@@ -1,7 +1,7 @@
 -- Laws of UTF-8. Assumes nothing.
 use Prim.Native.Nat.{ℕ, zero, suc, _+_, _-_, _*_, _/_, _%_, _≤_, _<_}
 use mathlib.Core.Path.{_≡_, refl, sym, ap, subst, _∙_}
-use mathlib.Core.Bool.{Bool, true, false, cond, _&&_, _||_, true≢false}
+use mathlib.Core.Bool.{Bool, true, false, cond, _&&_, _||_, and-false, and-eq-true-iff, true≢false}
 use mathlib.Core.List.{List, [], _∷_, _++_, append-assoc, append-nil}
 use native.Mathlib.Omega.{arith}
 use native.Mathlib.Nat.{add-zero, zero-add}
@@ -13,17 +13,17 @@ use Rattle.scan.specs.Loop.{halt, more, loop}
 use Rattle.scan.proofs.Loop.{loop-out, loop-halt, loop-more, loop-ind, halt-inj, more-inj, halt≢more, more≢halt}
 use Rattle.unicode.specs.Utf8.{Range, _to_, within, table, fitsAt, firstFit, sequenceAt, WellFormed, Utf8, empty, sequence, utf8Turn, utf8End, LongestValid, Sequence, tails, followed, scalar, encode, charAt}
 
-by-test : {A : Type 0} (t : Bool) → (t ≡ true → A) → (t ≡ false → A) → A
+-- ---- tests
+pub by-test : {A : Type 0} (t : Bool) → (t ≡ true → A) → (t ≡ false → A) → A
 by-test true f g = f refl
 by-test false f g = g refl
 
-and-true : (a b : Bool) → a && b ≡ true → (a ≡ true) × (b ≡ true)
-and-true true b h = (refl, h)
-and-true false b h = absurd (true≢false (sym h))
+both : (a b : Bool) → a && b ≡ true → (a ≡ true) × (b ≡ true)
+both a b h = and-eq-true-iff a b .0 h
 
-and-false : (a : Bool) → a && false ≡ false
-and-false true = refl
-and-false false = refl
+either : {A : Type 0} (a b : Bool) → a || b ≡ true → (a ≡ true → A) → (b ≡ true → A) → A
+either true b h f g = f refl
+either false b h f g = g h
 
 -- ---- a byte in a range
 pub in-range : (b low high : ℕ) → low ≤ b → b ≤ high → within b (low to high) ≡ true
@@ -36,10 +36,10 @@ pub above-range : (b low high : ℕ) → high < b → within b (low to high) ≡
 above-range b low high h = rw (lt-leb b high h) (and-false (leb low b))
 
 pub range-low : (b low high : ℕ) → within b (low to high) ≡ true → low ≤ b
-range-low b low high h = leb-true low b (and-true (leb low b) (leb b high) h .0)
+range-low b low high h = leb-true low b (both (leb low b) (leb b high) h .0)
 
 pub range-high : (b low high : ℕ) → within b (low to high) ≡ true → b ≤ high
-range-high b low high h = leb-true b high (and-true (leb low b) (leb b high) h .1)
+range-high b low high h = leb-true b high (both (leb low b) (leb b high) h .1)
 
 -- ---- a row at a place
 module _ (s : List ℕ) (p : ℕ) (r : Range) (rs : List Range) where
@@ -54,8 +54,8 @@ module _ (s : List ℕ) (p : ℕ) (r : Range) (rs : List Range) where
   pub fits-first : fitsAt s p (r ∷ rs) ≡ true → (p < length s) × (within (getD s p 0) r ≡ true) × (fitsAt s (p + 1) rs ≡ true)
   unfolding fitsAt
   fits-first h =
-      let a = and-true (ltb p (length s) && within (getD s p 0) r) (fitsAt s (p + 1) rs) h in
-      let b = and-true (ltb p (length s)) (within (getD s p 0) r) (a .0) in
+      let a = both (ltb p (length s) && within (getD s p 0) r) (fitsAt s (p + 1) rs) h in
+      let b = both (ltb p (length s)) (within (getD s p 0) r) (a .0) in
       (ltb-true p (length s) (b .0), b .1, a .1)
 
 fits-none : (s : List ℕ) (p : ℕ) → fitsAt s p [] ≡ true
@@ -101,13 +101,9 @@ disjoint [] = true
 disjoint ([] ∷ rows) = false
 disjoint ((r ∷ rs) ∷ rows) = alone r rows && disjoint rows
 
-or-true : {A : Type 0} (a b : Bool) → a || b ≡ true → (a ≡ true → A) → (b ≡ true → A) → A
-or-true true b h f g = f refl
-or-true false b h f g = g h
-
 apart-not : (b : ℕ) (q r : Range) → apart r q ≡ true → within b r ≡ true → within b q ≡ false
 apart-not b (c to d) (l to h) w g =
-    or-true (ltb d l) (ltb h c) w (λ e. above-range b c d (omega (arith, ltb-true d l e, range-low b l h g))) (λ e. below-range b c d (omega (arith, ltb-true h c e, range-high b l h g)))
+    either (ltb d l) (ltb h c) w (λ e. above-range b c d (omega (arith, ltb-true d l e, range-low b l h g))) (λ e. below-range b c d (omega (arith, ltb-true h c e, range-high b l h g)))
 
 module _ (s : List ℕ) (p : ℕ) where
   first-skip : (row : List Range) (rows : List (List Range)) → fitsAt s p row ≡ false → firstFit s p (row ∷ rows) ≡ firstFit s p rows
@@ -123,7 +119,7 @@ module _ (s : List ℕ) (p : ℕ) where
   first-none r [] a g = refl
   first-none r ([] ∷ rows) a g = absurd (true≢false (sym a))
   first-none r ((q ∷ qs) ∷ rows) a g =
-      let d = and-true (apart r q) (alone r rows) a in
+      let d = both (apart r q) (alone r rows) a in
       first-skip (q ∷ qs) rows (fits-not s p q qs (apart-not (getD s p 0) q r (d .0) g)) ∙ first-none r rows (d .1) g
 
   -- the one row that can fit
@@ -133,7 +129,7 @@ module _ (s : List ℕ) (p : ℕ) where
   first-only [] after r rs a b h g = rw (fits-in s p r rs h g, first-none r after b g)
   first-only ([] ∷ before) after r rs a b h g = absurd (true≢false (sym a))
   first-only ((q ∷ qs) ∷ before) after r rs a b h g =
-      let d = and-true (apart r q) (alone r before) a in
+      let d = both (apart r q) (alone r before) a in
       first-skip (q ∷ qs) (before ++ (r ∷ rs) ∷ after) (fits-not s p q qs (apart-not (getD s p 0) q r (d .0) g)) ∙ first-only before after r rs (d .1) b h g
 
   pub at-row : (i : ℕ) (r : Range) (rs : List Range) → table ≡ take i table ++ (r ∷ rs) ∷ drop (suc i) table → alone r (take i table) ≡ true → alone r (drop (suc i) table) ≡ true
@@ -156,7 +152,7 @@ module _ (s : List ℕ) (p : ℕ) where
   unfolding firstFit
   first-short [] d = omega arith
   first-short (row ∷ rows) d =
-      let e = and-true (leb (length row) 4) (short rows) d in
+      let e = both (leb (length row) 4) (short rows) d in
       by-test (fitsAt s p row) (λ f. rw (first-here s p row rows f) (leb-true (length row) 4 (e .0))) (λ f. rw (first-skip s p row rows f) (first-short rows (e .1)))
 
   first-within : (rows : List (List Range)) → p ≤ length s → p + firstFit s p rows ≤ length s
@@ -189,7 +185,7 @@ module _ (s t : List ℕ) (p q n : ℕ) (l : 0 < n) (h : q + n ≤ length t) (e 
   first-same [] d w = w
   first-same ([] ∷ rows) d w = absurd (true≢false (sym d))
   first-same ((r ∷ rs) ∷ rows) d w =
-      let a = and-true (alone r rows) (disjoint rows) d in
+      let a = both (alone r rows) (disjoint rows) d in
       by-test (fitsAt s p (r ∷ rs))
       (λ f. let m : length (r ∷ rs) ≡ n = sym (first-here s p (r ∷ rs) rows f) ∙ w in first-here t q (r ∷ rs) rows (row-same (r ∷ rs) m f) ∙ m)
       (λ f.
@@ -367,10 +363,10 @@ module _ (s : List ℕ) where
   fits-high : (p : ℕ) (rs : List Range) → high rs ≡ true → fitsAt s p rs ≡ true → (i : ℕ) → i < length rs → 128 ≤ getD s (p + i) 0
   fits-high p [] d f i l = absurd (omega arith)
   fits-high p ((a to b) ∷ rs) d f zero l =
-      let e = and-true (leb 128 a) (high rs) d in
+      let e = both (leb 128 a) (high rs) d in
       rw (add-zero p) (omega (arith, leb-true 128 a (e .0), range-low (getD s p 0) a b (fits-first s p (a to b) rs f .1)))
   fits-high p ((a to b) ∷ rs) d f (suc i) l =
-      let e = and-true (leb 128 a) (high rs) d in
+      let e = both (leb 128 a) (high rs) d in
       let z : p + suc i ≡ p + 1 + i = omega arith in
       rw z (fits-high (p + 1) rs (e .1) (fits-first s p (a to b) rs f .2) i (omega arith))
 
@@ -379,10 +375,10 @@ module _ (s : List ℕ) where
   first-high p [] d h i l = absurd (omega arith)
   first-high p ([] ∷ rows) d h i l = absurd (omega (arith, rw (first-here s p [] rows (fits-none s p)) at l))
   first-high p (((a to b) ∷ rs) ∷ rows) d h i l =
-      let e = and-true (ltb b 128 || high ((a to b) ∷ rs)) (clear rows) d in
+      let e = both (ltb b 128 || high ((a to b) ∷ rs)) (clear rows) d in
       by-test (fitsAt s p ((a to b) ∷ rs))
       (λ f.
-      or-true (ltb b 128) (high ((a to b) ∷ rs)) (e .0)
+      either (ltb b 128) (high ((a to b) ∷ rs)) (e .0)
       (λ k. absurd (omega (arith, ltb-true b 128 k, range-high (getD s p 0) a b (fits-first s p (a to b) rs f .1))))
       (λ k. fits-high p ((a to b) ∷ rs) k f i (rw (first-here s p ((a to b) ∷ rs) rows f) at l)))
       (λ f. first-high p rows (e .1) h i (rw (first-skip s p ((a to b) ∷ rs) rows f) at l))
@@ -433,32 +429,26 @@ module _ (s : List ℕ) (p width i : ℕ) where
       let z : width - i ≡ 0 = omega arith in
       rw (z, fits-none s (p + i))
 
+-- ---- what stands at a place, by the lead byte
+-- a lead byte from a to b, of the row with that range: the bytes after it decide
+module _ (s : List ℕ) (p i a b width low high : ℕ) where
+  pub sequence-row : table ≡ take i table ++ (a to b ∷ low to high ∷ tails (width - 2)) ∷ drop (suc i) table → alone (a to b) (take i table) ≡ true → alone (a to b) (drop (suc i) table) ≡ true
+      → length (a to b ∷ low to high ∷ tails (width - 2)) ≡ width → p < length s → a ≤ getD s p 0 → getD s p 0 ≤ b → (r : ℕ) → r ≡ followed s p width low high → Sequence s p r
+  unfolding followed
+  sequence-row e f g l h k m r w =
+      sequenced s p r (omega arith)
+      (w ∙ sym (at-row s p i (a to b) (low to high ∷ tails (width - 2)) e f g h (in-range (getD s p 0) a b k m) ∙ rw l))
+
+pub sequence-ascii : (s : List ℕ) (p : ℕ) → p < length s → getD s p 0 ≤ 0x7F → Sequence s p 1
+sequence-ascii s p h g =
+    sequenced s p 1 (omega arith)
+    (sym (at-row s p 0 (0x00 to 0x7F) [] refl refl refl h (in-range (getD s p 0) 0x00 0x7F (omega arith) g) ∙ rw (fits-none s (p + 1))))
+
+-- no row's first range reaches from low to high
+pub sequence-none : (s : List ℕ) (p low high : ℕ) → alone (low to high) table ≡ true → p < length s → low ≤ getD s p 0 → getD s p 0 ≤ high → Sequence s p 0
+sequence-none s p low high a h g k = sequenced s p 0 (omega arith) (sym (no-row s p (low to high) a (in-range (getD s p 0) low high g k)))
+
 -- ---- the bytes of a character
--- what holds of the bytes in each of the four ranges of Table 3-6 holds of a character's bytes
-pub encoded : (P : List ℕ → Type 0) (c : ℕ)
-    → (c < 0x80 → P (c ∷ []))
-    → (0x80 ≤ c → c < 0x800 → P ((0xC0 + c / 64) ∷ (0x80 + c % 64) ∷ []))
-    → (0x800 ≤ c → c < 0x10000 → P ((0xE0 + c / 4096) ∷ (0x80 + c / 64 % 64) ∷ (0x80 + c % 64) ∷ []))
-    → (0x10000 ≤ c → P ((0xF0 + c / 262144) ∷ (0x80 + c / 4096 % 64) ∷ (0x80 + c / 64 % 64) ∷ (0x80 + c % 64) ∷ []))
-    → P (encode c)
-unfolding encode
-encoded P c one two three four =
-    by-test (ltb c 0x80)
-    (λ e. rw e (one (ltb-true c 0x80 e)))
-    (λ e.
-    by-test (ltb c 0x800)
-    (λ f. rw (e, f) (two (ltb-false c 0x80 e) (ltb-true c 0x800 f)))
-    (λ f.
-    by-test (ltb c 0x10000)
-    (λ g. rw (e, f, g) (three (ltb-false c 0x800 f) (ltb-true c 0x10000 g)))
-    (λ g. rw (e, f, g) (four (ltb-false c 0x10000 g)))))
-
-pub encode-some : (c : ℕ) → 0 < length (encode c)
-encode-some c = encoded (λ w. 0 < length w) c (λ h. omega arith) (λ h g. omega arith) (λ h g. omega arith) (λ h. omega arith)
-
-pub encode-short : (c : ℕ) → length (encode c) ≤ 4
-encode-short c = encoded (λ w. length w ≤ 4) c (λ h. omega arith) (λ h g. omega arith) (λ h g. omega arith) (λ h. omega arith)
-
 pub encode-1 : (c : ℕ) → c < 0x80 → encode c ≡ c ∷ []
 unfolding encode
 encode-1 c h = rw (lt-ltb c 0x80 h)
@@ -475,15 +465,33 @@ pub encode-4 : (c : ℕ) → 0x10000 ≤ c → encode c ≡ (0xF0 + c / 262144) 
 unfolding encode
 encode-4 c h = rw (le-ltb c 0x80 (omega arith), le-ltb c 0x800 (omega arith), le-ltb c 0x10000 h)
 
+-- what holds of the bytes in each of the four ranges of Table 3-6 holds of a character's bytes
+pub encoded : (P : List ℕ → Type 0) (c : ℕ)
+    → (c < 0x80 → P (c ∷ []))
+    → (0x80 ≤ c → c < 0x800 → P ((0xC0 + c / 64) ∷ (0x80 + c % 64) ∷ []))
+    → (0x800 ≤ c → c < 0x10000 → P ((0xE0 + c / 4096) ∷ (0x80 + c / 64 % 64) ∷ (0x80 + c % 64) ∷ []))
+    → (0x10000 ≤ c → P ((0xF0 + c / 262144) ∷ (0x80 + c / 4096 % 64) ∷ (0x80 + c / 64 % 64) ∷ (0x80 + c % 64) ∷ []))
+    → P (encode c)
+encoded P c one two three four =
+    by-test (ltb c 0x80) (λ e. let h = ltb-true c 0x80 e in rw (encode-1 c h) (one h)) (λ e. let h = ltb-false c 0x80 e in
+    by-test (ltb c 0x800) (λ f. let g = ltb-true c 0x800 f in rw (encode-2 c h g) (two h g)) (λ f. let g = ltb-false c 0x800 f in
+    by-test (ltb c 0x10000) (λ d. let k = ltb-true c 0x10000 d in rw (encode-3 c g k) (three g k)) (λ d. let k = ltb-false c 0x10000 d in rw (encode-4 c k) (four k))))
+
+pub encode-some : (c : ℕ) → 0 < length (encode c)
+encode-some c = encoded (λ w. 0 < length w) c (λ h. omega arith) (λ h g. omega arith) (λ h g. omega arith) (λ h. omega arith)
+
+pub encode-short : (c : ℕ) → length (encode c) ≤ 4
+encode-short c = encoded (λ w. length w ≤ 4) c (λ h. omega arith) (λ h g. omega arith) (λ h g. omega arith) (λ h. omega arith)
+
 pub scalar-small : (c : ℕ) → scalar c ≡ true → c < 0x110000
 unfolding scalar
 scalar-small c h =
-    or-true (ltb c 0xD800) (leb 0xE000 c && ltb c 0x110000) h (λ e. omega (arith, ltb-true c 0xD800 e)) (λ e. ltb-true c 0x110000 (and-true (leb 0xE000 c) (ltb c 0x110000) e .1))
+    either (ltb c 0xD800) (leb 0xE000 c && ltb c 0x110000) h (λ e. omega (arith, ltb-true c 0xD800 e)) (λ e. ltb-true c 0x110000 (both (leb 0xE000 c) (ltb c 0x110000) e .1))
 
 pub scalar-apart : (c : ℕ) → scalar c ≡ true → 0xD800 ≤ c → 0xE000 ≤ c
 unfolding scalar
 scalar-apart c h g =
-    or-true (ltb c 0xD800) (leb 0xE000 c && ltb c 0x110000) h (λ e. absurd (omega (arith, ltb-true c 0xD800 e))) (λ e. leb-true 0xE000 c (and-true (leb 0xE000 c) (ltb c 0x110000) e .0))
+    either (ltb c 0xD800) (leb 0xE000 c && ltb c 0x110000) h (λ e. absurd (omega (arith, ltb-true c 0xD800 e))) (λ e. leb-true 0xE000 c (both (leb 0xE000 c) (ltb c 0x110000) e .0))
 
 -- a character is read back from its bytes
 tail-bits : (x : ℕ) → (0x80 + x % 64) % 64 ≡ x % 64
@@ -533,18 +541,23 @@ fits-4 a b c d q r s t g h k l = rw (g, h, k, l)
 tail-in : (x : ℕ) → within (0x80 + x % 64) (0x80 to 0xBF) ≡ true
 tail-in x = in-range (0x80 + x % 64) 0x80 0xBF (omega arith) (omega arith)
 
-module _ (c i : ℕ) (q r : Range) where
-  formed-3 : table ≡ take i table ++ (q ∷ r ∷ 0x80 to 0xBF ∷ []) ∷ drop (suc i) table → alone q (take i table) ≡ true → alone q (drop (suc i) table) ≡ true
-      → within (0xE0 + c / 4096) q ≡ true → within (0x80 + c / 64 % 64) r ≡ true → WellFormed ((0xE0 + c / 4096) ∷ (0x80 + c / 64 % 64) ∷ (0x80 + c % 64) ∷ [])
-  formed-3 e a b g h =
-      formed-row i q (r ∷ 0x80 to 0xBF ∷ []) e a b _ refl (fits-3 (0xE0 + c / 4096) (0x80 + c / 64 % 64) (0x80 + c % 64) q r (0x80 to 0xBF) g h (tail-in c))
+-- three bytes and four, of the row i, whose first range is from a to b and whose second from low to high
+module _ (c i a b low high : ℕ) where
+  formed-3 : table ≡ take i table ++ (a to b ∷ low to high ∷ 0x80 to 0xBF ∷ []) ∷ drop (suc i) table → alone (a to b) (take i table) ≡ true → alone (a to b) (drop (suc i) table) ≡ true
+      → a ≤ 0xE0 + c / 4096 → 0xE0 + c / 4096 ≤ b → low ≤ 0x80 + c / 64 % 64 → 0x80 + c / 64 % 64 ≤ high
+      → WellFormed ((0xE0 + c / 4096) ∷ (0x80 + c / 64 % 64) ∷ (0x80 + c % 64) ∷ [])
+  formed-3 e f g h k l m =
+      formed-row i (a to b) (low to high ∷ 0x80 to 0xBF ∷ []) e f g _ refl
+      (fits-3 (0xE0 + c / 4096) (0x80 + c / 64 % 64) (0x80 + c % 64) (a to b) (low to high) (0x80 to 0xBF)
+      (in-range (0xE0 + c / 4096) a b h k) (in-range (0x80 + c / 64 % 64) low high l m) (tail-in c))
 
-  formed-4 : table ≡ take i table ++ (q ∷ r ∷ 0x80 to 0xBF ∷ 0x80 to 0xBF ∷ []) ∷ drop (suc i) table → alone q (take i table) ≡ true → alone q (drop (suc i) table) ≡ true
-      → within (0xF0 + c / 262144) q ≡ true → within (0x80 + c / 4096 % 64) r ≡ true
+  formed-4 : table ≡ take i table ++ (a to b ∷ low to high ∷ 0x80 to 0xBF ∷ 0x80 to 0xBF ∷ []) ∷ drop (suc i) table → alone (a to b) (take i table) ≡ true → alone (a to b) (drop (suc i) table) ≡ true
+      → a ≤ 0xF0 + c / 262144 → 0xF0 + c / 262144 ≤ b → low ≤ 0x80 + c / 4096 % 64 → 0x80 + c / 4096 % 64 ≤ high
       → WellFormed ((0xF0 + c / 262144) ∷ (0x80 + c / 4096 % 64) ∷ (0x80 + c / 64 % 64) ∷ (0x80 + c % 64) ∷ [])
-  formed-4 e a b g h =
-      formed-row i q (r ∷ 0x80 to 0xBF ∷ 0x80 to 0xBF ∷ []) e a b _ refl
-      (fits-4 (0xF0 + c / 262144) (0x80 + c / 4096 % 64) (0x80 + c / 64 % 64) (0x80 + c % 64) q r (0x80 to 0xBF) (0x80 to 0xBF) g h (tail-in (c / 64)) (tail-in c))
+  formed-4 e f g h k l m =
+      formed-row i (a to b) (low to high ∷ 0x80 to 0xBF ∷ 0x80 to 0xBF ∷ []) e f g _ refl
+      (fits-4 (0xF0 + c / 262144) (0x80 + c / 4096 % 64) (0x80 + c / 64 % 64) (0x80 + c % 64) (a to b) (low to high) (0x80 to 0xBF) (0x80 to 0xBF)
+      (in-range (0xF0 + c / 262144) a b h k) (in-range (0x80 + c / 4096 % 64) low high l m) (tail-in (c / 64)) (tail-in c))
 
 module _ (c : ℕ) (k : scalar c ≡ true) where
   encoded-2 : 0x80 ≤ c → c < 0x800 → WellFormed ((0xC0 + c / 64) ∷ (0x80 + c % 64) ∷ [])
@@ -554,61 +567,21 @@ module _ (c : ℕ) (k : scalar c ≡ true) where
 
   encoded-3 : 0x800 ≤ c → c < 0x10000 → WellFormed ((0xE0 + c / 4096) ∷ (0x80 + c / 64 % 64) ∷ (0x80 + c % 64) ∷ [])
   encoded-3 h g =
-      by-test (ltb c 0x1000)
-      (λ e.
-      let l = ltb-true c 0x1000 e in
-      formed-3 c 2 (0xE0 to 0xE0) (0xA0 to 0xBF) refl refl refl (in-range (0xE0 + c / 4096) 0xE0 0xE0 (omega arith) (omega arith)) (in-range (0x80 + c / 64 % 64) 0xA0 0xBF (omega arith) (omega arith)))
-      (λ e.
-      let l = ltb-false c 0x1000 e in
-      by-test (ltb c 0xD000)
-      (λ f.
-      let m = ltb-true c 0xD000 f in
-      formed-3 c 3 (0xE1 to 0xEC) (0x80 to 0xBF) refl refl refl (in-range (0xE0 + c / 4096) 0xE1 0xEC (omega arith) (omega arith)) (tail-in (c / 64)))
-      (λ f.
-      let m = ltb-false c 0xD000 f in
+      by-test (ltb c 0x1000) (λ e. let l = ltb-true c 0x1000 e in formed-3 c 2 0xE0 0xE0 0xA0 0xBF refl refl refl (omega arith) (omega arith) (omega arith) (omega arith)) (λ e. let l = ltb-false c 0x1000 e in
+      by-test (ltb c 0xD000) (λ f. let m = ltb-true c 0xD000 f in formed-3 c 3 0xE1 0xEC 0x80 0xBF refl refl refl (omega arith) (omega arith) (omega arith) (omega arith)) (λ f. let m = ltb-false c 0xD000 f in
       by-test (ltb c 0xD800)
-      (λ d.
-      let n = ltb-true c 0xD800 d in
-      formed-3 c 4 (0xED to 0xED) (0x80 to 0x9F) refl refl refl (in-range (0xE0 + c / 4096) 0xED 0xED (omega arith) (omega arith)) (in-range (0x80 + c / 64 % 64) 0x80 0x9F (omega arith) (omega arith)))
-      (λ d.
-      let n = scalar-apart c k (ltb-false c 0xD800 d) in
-      formed-3 c 5 (0xEE to 0xEF) (0x80 to 0xBF) refl refl refl (in-range (0xE0 + c / 4096) 0xEE 0xEF (omega arith) (omega arith)) (tail-in (c / 64)))))
+      (λ d. let n = ltb-true c 0xD800 d in formed-3 c 4 0xED 0xED 0x80 0x9F refl refl refl (omega arith) (omega arith) (omega arith) (omega arith))
+      (λ d. let n = scalar-apart c k (ltb-false c 0xD800 d) in formed-3 c 5 0xEE 0xEF 0x80 0xBF refl refl refl (omega arith) (omega arith) (omega arith) (omega arith))))
 
   encoded-4 : 0x10000 ≤ c → WellFormed ((0xF0 + c / 262144) ∷ (0x80 + c / 4096 % 64) ∷ (0x80 + c / 64 % 64) ∷ (0x80 + c % 64) ∷ [])
   encoded-4 h =
-      by-test (ltb c 0x40000)
-      (λ e.
-      let l = ltb-true c 0x40000 e in
-      formed-4 c 6 (0xF0 to 0xF0) (0x90 to 0xBF) refl refl refl (in-range (0xF0 + c / 262144) 0xF0 0xF0 (omega arith) (omega arith)) (in-range (0x80 + c / 4096 % 64) 0x90 0xBF (omega arith) (omega arith)))
-      (λ e.
-      let l = ltb-false c 0x40000 e in
+      by-test (ltb c 0x40000) (λ e. let l = ltb-true c 0x40000 e in formed-4 c 6 0xF0 0xF0 0x90 0xBF refl refl refl (omega arith) (omega arith) (omega arith) (omega arith)) (λ e. let l = ltb-false c 0x40000 e in
       by-test (ltb c 0x100000)
-      (λ f.
-      let m = ltb-true c 0x100000 f in
-      formed-4 c 7 (0xF1 to 0xF3) (0x80 to 0xBF) refl refl refl (in-range (0xF0 + c / 262144) 0xF1 0xF3 (omega arith) (omega arith)) (tail-in (c / 4096)))
-      (λ f.
-      let m = ltb-false c 0x100000 f in
-      let n = scalar-small c k in
-      formed-4 c 8 (0xF4 to 0xF4) (0x80 to 0x8F) refl refl refl (in-range (0xF0 + c / 262144) 0xF4 0xF4 (omega arith) (omega arith)) (in-range (0x80 + c / 4096 % 64) 0x80 0x8F (omega arith) (omega arith))))
+      (λ f. let m = ltb-true c 0x100000 f in formed-4 c 7 0xF1 0xF3 0x80 0xBF refl refl refl (omega arith) (omega arith) (omega arith) (omega arith))
+      (λ f. let m = ltb-false c 0x100000 f in let n = scalar-small c k in formed-4 c 8 0xF4 0xF4 0x80 0x8F refl refl refl (omega arith) (omega arith) (omega arith) (omega arith)))
 
   pub encode-formed : WellFormed (encode c)
   encode-formed = encoded WellFormed c (λ h. ascii-formed c h) encoded-2 encoded-3 encoded-4
 
--- ---- what stands at a place, by the lead byte
--- a lead byte from a to b, of the row with that range: the bytes after it decide
-module _ (s : List ℕ) (p i a b width low high : ℕ) where
-  pub sequence-row : table ≡ take i table ++ (a to b ∷ low to high ∷ tails (width - 2)) ∷ drop (suc i) table → alone (a to b) (take i table) ≡ true → alone (a to b) (drop (suc i) table) ≡ true
-      → length (a to b ∷ low to high ∷ tails (width - 2)) ≡ width → p < length s → a ≤ getD s p 0 → getD s p 0 ≤ b → (r : ℕ) → r ≡ followed s p width low high → Sequence s p r
-  unfolding followed
-  sequence-row e f g l h k m r w =
-      sequenced s p r (omega arith)
-      (w ∙ sym (at-row s p i (a to b) (low to high ∷ tails (width - 2)) e f g h (in-range (getD s p 0) a b k m) ∙ rw l))
-
-pub sequence-ascii : (s : List ℕ) (p : ℕ) → p < length s → getD s p 0 ≤ 0x7F → Sequence s p 1
-sequence-ascii s p h g =
-    sequenced s p 1 (omega arith)
-    (sym (at-row s p 0 (0x00 to 0x7F) [] refl refl refl h (in-range (getD s p 0) 0x00 0x7F (omega arith) g) ∙ rw (fits-none s (p + 1))))
-
--- no row's first range reaches from low to high
-pub sequence-none : (s : List ℕ) (p low high : ℕ) → alone (low to high) table ≡ true → p < length s → low ≤ getD s p 0 → getD s p 0 ≤ high → Sequence s p 0
-sequence-none s p low high a h g k = sequenced s p 0 (omega arith) (sym (no-row s p (low to high) a (in-range (getD s p 0) low high g k)))
+  pub encode-utf8 : Utf8 (encode c)
+  encode-utf8 = utf8-one encode-formed
