@@ -111,14 +111,14 @@ module _ (radix most v : ℕ) (r : 1 ≤ radix) where
 -- The reader of digits at i, with the value of those before: what is left decides what the whole text spells.
 pub record Going (radix most : ℕ) (s : List ℕ) (v i : ℕ) : Type 0 where
   pub within : i ≤ length s
-  pub least : v ≤ most
+  pub fits : v ≤ most
   pub some : 1 ≤ length s
   pub value : valueFrom radix 0 s ≡ valueFrom radix v (drop i s)
   pub only : digitsOnly radix s ≡ digitsOnly radix (drop i s)
 
 module _ (radix most : ℕ) (s : List ℕ) where
   pub going-start : 1 ≤ length s → Going radix most s 0 0
-  going-start h = record { within = omega arith; least = omega arith; some = h; value = refl; only = refl }
+  going-start h = record { within = omega arith; fits = omega arith; some = h; value = refl; only = refl }
 
   module _ (v i : ℕ) (g : Going radix most s v i) where
     pub going-done : length s ≤ i → unsignedOf s radix most ≡ Unsigned.Is v
@@ -138,7 +138,7 @@ module _ (radix most : ℕ) (s : List ℕ) where
       pub going-step : d < radix → v * radix + d ≤ most → Going radix most s (v * radix + d) (i + 1)
       going-step l m = record {
         within = omega arith;
-        least = m;
+        fits = m;
         some = g .some;
         value = value-on;
         only = only-on ∙ rw (lt-ltb d radix l);

@@ -5,7 +5,7 @@
 --     run-low, run-high, run-stops, run-all   what follows for every run
 --     ends-here, ends-out            what a loop over bytes ensures where it ends
 use Prim.Native.Nat.{ℕ, _+_, _≤_, _<_}
-use mathlib.Core.Path.{_≡_, refl, sym, ap, subst, _∙_}
+use mathlib.Core.Path.{_≡_, refl, sym, subst, _∙_}
 use mathlib.Core.Bool.{Bool, true, false}
 use mathlib.Core.List.{List}
 use mathlib.Core.Logic.{_⊎_, inl, inr}
@@ -13,7 +13,7 @@ use native.Mathlib.Omega.{arith}
 use lib.ListN.{length, getD}
 use lib.Dec.{eqb}
 use borrow.Author.Tests.{eqb-true, eqb-false, ne-eqb}
-use Rattle.scan.specs.Loop.{Next, halt, more, loop}
+use Rattle.scan.specs.Loop.{halt, more}
 use Rattle.scan.specs.Bytes.{blank, nameByte, attrNameByte, runTurn, runEnd}
 use Rattle.scan.specs.Posts.{Ends}
 use Rattle.scan.proofs.Loop.{loop-out, loop-halt, loop-more, loop-ind, halt-inj, more-inj, halt≢more, more≢halt}

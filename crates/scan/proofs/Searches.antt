@@ -1,14 +1,13 @@
 -- Laws of marks. Assumes nothing.
 use Prim.Native.Nat.{ℕ, _+_, _≤_, _<_}
 use mathlib.Core.Path.{_≡_, sym, _∙_}
-use mathlib.Core.Bool.{Bool, true, false}
+use mathlib.Core.Bool.{true, false}
 use mathlib.Core.List.{List}
 use native.Mathlib.Omega.{arith}
 use native.Mathlib.Numerals.{add-one}
 use lib.ListN.{length, getD, drop, drop-of-length-le}
 use lib.Seq.{drop-cons}
 use borrow.Author.Tests.{lt-ltb, le-ltb, eq-eqb, ne-eqb}
-use Rattle.scan.specs.Loop.{loop}
 use Rattle.scan.specs.Marks.{startsAt, seekTurn, seek, past}
 use Rattle.scan.specs.Posts.{Found, Passed}
 use Rattle.scan.proofs.Loop.{loop-out, loop-halt, loop-more}

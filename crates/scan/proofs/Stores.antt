@@ -1,5 +1,5 @@
 -- Laws of lent tables: runs of stores, one after the other and one before the other, read back, and of the loops that make them. Assumes nothing.
-use Prim.Native.Nat.{ℕ, zero, suc, _+_, _-_, _≤_, _<_}
+use Prim.Native.Nat.{ℕ, suc, _+_, _≤_, _<_}
 use mathlib.Core.Path.{_≡_, refl, sym, ap, _∙_}
 use mathlib.Core.List.{List, [], _∷_, _++_, append-nil, append-assoc}
 use mathlib.Core.Logic.{_⊎_, inl, inr}
@@ -8,7 +8,7 @@ use native.Mathlib.Nat.{add-zero, add-suc, suc-add}
 use native.Mathlib.Numerals.{add-one}
 use borrow.Author.Fill.{fill-none, fill-more}
 use lib.ListN.{length, getD, set, take, drop, replicate, length-set, drop-of-length-le}
-use lib.Seq.{sets, set-comm, length-sets, sets-eq, length-take-le, take-suc, take-length, take-append-seam, drop-at, getD-set-other}
+use lib.Seq.{sets, set-comm, sets-eq, length-take-le, take-suc, take-length, take-append-seam, drop-at, getD-set-other}
 
 -- what is stored after a run
 pub sets-append : (a b t : List ℕ) (i : ℕ) → sets (sets t i a) (i + length a) b ≡ sets t i (a ++ b)

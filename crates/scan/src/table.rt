@@ -27,7 +27,7 @@ pub fn clear_bytes(cells: &mut [u8])
 {
     let mut i = 0;
     while i < cells.len() {
-        cells[i] = 0;
+        cells[i] = b'\0';
         i += 1;
     }
 }

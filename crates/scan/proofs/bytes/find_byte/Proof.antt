@@ -1,6 +1,6 @@
 -- `find_byte` meets its contract. The loop's invariant: the run from `pos` ends where the run from `i` does. The measure is what is left of the text.
 use Prim.Native.Nat.{_-_, _≤_}
-use mathlib.Core.Path.{_≡_, refl, sym, ap, _∙_}
+use mathlib.Core.Path.{_≡_, refl, ap, _∙_}
 use mathlib.Core.Bool.{not}
 use native.Mathlib.Omega.{arith}
 use borrow.Author.Tests.{eq-eqb, ne-eqb}
@@ -9,8 +9,6 @@ use Rattle.scan.specs.Bytes.{other, runEnd}
 use Rattle.scan.proofs.Runs.{run-on, ends-here, ends-out}
 use Rattle.scan.proofs.bytes.find_byte.Statement.{statement}
 use Rattle.scan.proofs.bytes.find_byte.Tie as tie
-use Rattle.scan.proofs.bytes.find_byte.Reads as reads
-use Rattle.scan.proofs.bytes.find_byte.Lts as lts
 
 abbrev Inv-loop : tie.InvT-loop
 Inv-loop src pos b i₀ i = (i ≤ length src) × (pos ≤ i) × (runEnd (other b) src pos ≡ runEnd (other b) src i)

@@ -6,8 +6,6 @@ use Rattle.scan.specs.Bytes.{attrNameByte}
 use Rattle.scan.proofs.Runs.{blank-not, attr-name-yes, either}
 use Rattle.scan.proofs.bytes.is_attr_name.Statement.{statement}
 use Rattle.scan.proofs.bytes.is_attr_name.Tie as tie
-use Rattle.scan.proofs.bytes.is_attr_name.Reads as reads
-use Rattle.scan.proofs.bytes.is_attr_name.Lts as lts
 
 returns : tie.Need-returns
 returns c = sym (attr-name-yes _ (blank-not _ (omega arith) (omega arith) (omega arith) (omega arith)) (omega arith) (omega arith) (omega arith))

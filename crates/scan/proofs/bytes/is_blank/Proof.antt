@@ -6,8 +6,6 @@ use Rattle.scan.specs.Bytes.{blank}
 use Rattle.scan.proofs.Runs.{blank-not, either}
 use Rattle.scan.proofs.bytes.is_blank.Statement.{statement}
 use Rattle.scan.proofs.bytes.is_blank.Tie as tie
-use Rattle.scan.proofs.bytes.is_blank.Reads as reads
-use Rattle.scan.proofs.bytes.is_blank.Lts as lts
 
 returns : tie.Need-returns
 returns c = sym (blank-not _ (omega arith) (omega arith) (omega arith) (omega arith))

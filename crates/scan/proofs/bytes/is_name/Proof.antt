@@ -6,8 +6,6 @@ use Rattle.scan.specs.Bytes.{nameByte}
 use Rattle.scan.proofs.Runs.{blank-not, name-yes, either}
 use Rattle.scan.proofs.bytes.is_name.Statement.{statement}
 use Rattle.scan.proofs.bytes.is_name.Tie as tie
-use Rattle.scan.proofs.bytes.is_name.Reads as reads
-use Rattle.scan.proofs.bytes.is_name.Lts as lts
 
 returns : tie.Need-returns
 returns c = sym (name-yes _ (blank-not _ (omega arith) (omega arith) (omega arith) (omega arith)) (omega arith) (omega arith))

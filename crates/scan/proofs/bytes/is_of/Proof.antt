@@ -3,11 +3,6 @@ use borrow.Author.Needs.{needs}
 use Rattle.scan.specs.Bytes.{textByte}
 use Rattle.scan.proofs.bytes.is_of.Statement.{statement}
 use Rattle.scan.proofs.bytes.is_of.Tie as tie
-use Rattle.scan.proofs.bytes.is_of.Reads as reads
-use Rattle.scan.proofs.bytes.is_of.Lts as lts
-use Rattle.scan.proofs.bytes.is_attr_name.Reads as is-attr-name-reads
-use Rattle.scan.proofs.bytes.is_blank.Reads as is-blank-reads
-use Rattle.scan.proofs.bytes.is_name.Reads as is-name-reads
 
 enum-told : tie.Need-enum-told
 enum-told c = search needs

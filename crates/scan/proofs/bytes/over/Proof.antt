@@ -1,6 +1,6 @@
 -- `over` meets its contract. The loop's invariant: the run from `pos` ends where the run from `i` does. The measure is what is left of the text.
 use Prim.Native.Nat.{_-_, _≤_}
-use mathlib.Core.Path.{_≡_, refl, sym, ap, _∙_}
+use mathlib.Core.Path.{_≡_, refl, sym, _∙_}
 use native.Mathlib.Omega.{arith}
 use borrow.Author.Needs.{needs}
 use borrow.Author.Tests.{not-true, not-false}
@@ -9,9 +9,6 @@ use Rattle.scan.specs.Bytes.{member, runEnd}
 use Rattle.scan.proofs.Runs.{run-on, ends-here, ends-out}
 use Rattle.scan.proofs.bytes.over.Statement.{statement}
 use Rattle.scan.proofs.bytes.over.Tie as tie
-use Rattle.scan.proofs.bytes.over.Reads as reads
-use Rattle.scan.proofs.bytes.over.Lts as lts
-use Rattle.scan.proofs.bytes.is_of.Reads as is-of-reads
 
 abbrev Inv-loop : tie.InvT-loop
 Inv-loop src pos class i₀ i = (i ≤ length src) × (pos ≤ i) × (runEnd (member class) src pos ≡ runEnd (member class) src i)

@@ -9,9 +9,6 @@ use Rattle.scan.specs.Bytes.{isOut, runEnd}
 use Rattle.scan.proofs.Runs.{run-on, ends-here, ends-out}
 use Rattle.scan.proofs.bytes.until.Statement.{statement}
 use Rattle.scan.proofs.bytes.until.Tie as tie
-use Rattle.scan.proofs.bytes.until.Reads as reads
-use Rattle.scan.proofs.bytes.until.Lts as lts
-use Rattle.scan.proofs.bytes.is_of.Reads as is-of-reads
 
 abbrev Inv-loop : tie.InvT-loop
 Inv-loop src pos class i₀ i = (i ≤ length src) × (pos ≤ i) × (runEnd (isOut class) src pos ≡ runEnd (isOut class) src i)

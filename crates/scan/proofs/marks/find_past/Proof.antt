@@ -3,9 +3,6 @@ use borrow.Author.Needs.{needs}
 use Rattle.scan.proofs.Searches.{passed-got, passed-none}
 use Rattle.scan.proofs.marks.find_past.Statement.{statement}
 use Rattle.scan.proofs.marks.find_past.Tie as tie
-use Rattle.scan.proofs.marks.find_past.Reads as reads
-use Rattle.scan.proofs.marks.find_past.Lts as lts
-use Rattle.scan.proofs.marks.find_seq.Reads as find-seq-reads
 
 find-seq-requires : tie.Need-find-seq-requires
 find-seq-requires c κs = search needs

@@ -3,14 +3,10 @@ use Prim.Native.Nat.{_-_, _≤_}
 use mathlib.Core.Path.{_≡_, refl, sym, _∙_}
 use native.Mathlib.Omega.{arith}
 use lib.ListN.{length}
-use borrow.Author.Needs.{needs}
 use Rattle.scan.specs.Marks.{seek}
 use Rattle.scan.proofs.Searches.{seek-on, found-here, found-out}
 use Rattle.scan.proofs.marks.find_seq.Statement.{statement}
 use Rattle.scan.proofs.marks.find_seq.Tie as tie
-use Rattle.scan.proofs.marks.find_seq.Reads as reads
-use Rattle.scan.proofs.marks.find_seq.Lts as lts
-use Rattle.scan.proofs.marks.starts_with.Reads as starts-with-reads
 
 abbrev Inv-loop : tie.InvT-loop
 Inv-loop src pos mark i₀ i = (i ≤ length src) × (pos ≤ i) × (seek mark src pos ≡ seek mark src i)

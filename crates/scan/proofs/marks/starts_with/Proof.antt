@@ -4,13 +4,10 @@ use mathlib.Core.Path.{_≡_, refl, sym, _∙_}
 use mathlib.Core.Bool.{false≢true}
 use native.Mathlib.Omega.{arith}
 use lib.ListN.{length, drop}
-use borrow.Author.Needs.{needs}
 use Rattle.scan.specs.Marks.{startsAt}
 use Rattle.scan.proofs.Searches.{mark-out, mark-end, mark-off, mark-on}
 use Rattle.scan.proofs.marks.starts_with.Statement.{statement}
 use Rattle.scan.proofs.marks.starts_with.Tie as tie
-use Rattle.scan.proofs.marks.starts_with.Reads as reads
-use Rattle.scan.proofs.marks.starts_with.Lts as lts
 
 abbrev Inv-loop : tie.InvT-loop
 Inv-loop src pos mark i₀ j₀ i j = (j ≤ length mark) × (i ≡ pos + j) × (i ≤ length src) × (startsAt src pos mark ≡ startsAt src i (drop j mark))

@@ -8,9 +8,6 @@ use Rattle.scan.specs.Names.{lower}
 use Rattle.scan.proofs.Naming.{agree, folded-agree, agree-lengths, agree-off, agree-on, agree-out}
 use Rattle.scan.proofs.names.eq_ignore_ascii_case.Statement.{statement}
 use Rattle.scan.proofs.names.eq_ignore_ascii_case.Tie as tie
-use Rattle.scan.proofs.names.eq_ignore_ascii_case.Reads as reads
-use Rattle.scan.proofs.names.eq_ignore_ascii_case.Lts as lts
-use Rattle.scan.proofs.names.to_ascii_lowercase.Reads as to-ascii-lowercase-reads
 
 abbrev Inv-loop : tie.InvT-loop
 Inv-loop a b i₀ i = (i ≤ length a) × (agree lower a b ≡ agree lower (drop i a) (drop i b))

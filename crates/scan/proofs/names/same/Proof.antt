@@ -6,8 +6,6 @@ use lib.ListN.{length, drop}
 use Rattle.scan.proofs.Naming.{agree, itself, same-agree, agree-lengths, agree-off, agree-on, agree-out}
 use Rattle.scan.proofs.names.same.Statement.{statement}
 use Rattle.scan.proofs.names.same.Tie as tie
-use Rattle.scan.proofs.names.same.Reads as reads
-use Rattle.scan.proofs.names.same.Lts as lts
 
 abbrev Inv-loop : tie.InvT-loop
 Inv-loop a b i₀ i = (i ≤ length a) × (agree itself a b ≡ agree itself (drop i a) (drop i b))

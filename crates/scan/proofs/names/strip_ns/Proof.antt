@@ -3,9 +3,6 @@ use borrow.Author.Needs.{needs}
 use Rattle.scan.proofs.Naming.{first-colon}
 use Rattle.scan.proofs.names.strip_ns.Statement.{statement}
 use Rattle.scan.proofs.names.strip_ns.Tie as tie
-use Rattle.scan.proofs.names.strip_ns.Reads as reads
-use Rattle.scan.proofs.names.strip_ns.Lts as lts
-use Rattle.scan.proofs.bytes.find_byte.Reads as find-byte-reads
 
 find-byte-requires : tie.Need-find-byte-requires
 find-byte-requires c κs = search needs

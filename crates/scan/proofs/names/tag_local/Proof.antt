@@ -8,8 +8,6 @@ use Rattle.scan.specs.Names.{hasColon}
 use Rattle.scan.proofs.Naming.{colon-out, last-here, last-on, last-none}
 use Rattle.scan.proofs.names.tag_local.Statement.{statement}
 use Rattle.scan.proofs.names.tag_local.Tie as tie
-use Rattle.scan.proofs.names.tag_local.Reads as reads
-use Rattle.scan.proofs.names.tag_local.Lts as lts
 
 abbrev Inv-loop : tie.InvT-loop
 Inv-loop name i₀ i = (i ≤ length name) × (hasColon (drop i name) ≡ false)
@@ -27,7 +25,7 @@ shared-slice-read-if1 : tie.Need-shared-slice-read-if1 Inv-loop μ-loop
 shared-slice-read-if1 c = omega arith
 
 returns : tie.Need-returns Inv-loop μ-loop
-returns c = last-here (c .before .before .before .before .args .name .now) _ (c .before .before .loop-test .taken) (c .before .before .before .loop .inv .0) (c .if1 .taken) (c .before .before .before .loop .inv .1)
+returns c = last-here (c .before .before .before .before .args .name .now) (c .before .before .before .loop .i) (omega arith) (c .before .before .before .loop .inv .0) (c .if1 .taken) (c .before .before .before .loop .inv .1)
 
 sub-i : tie.Need-sub-i Inv-loop μ-loop
 sub-i c = omega arith
@@ -36,10 +34,10 @@ loop-less : tie.Need-loop-less Inv-loop μ-loop
 loop-less c = omega arith
 
 loop-again : tie.Need-loop-again Inv-loop μ-loop
-loop-again c = (omega arith, last-on (c .before .before .before .before .args .name .now) _ (c .before .before .loop-test .taken) (c .before .before .before .loop .inv .0) (c .if1 .left) (c .before .before .before .loop .inv .1))
+loop-again c = (omega arith, last-on (c .before .before .before .before .args .name .now) (c .before .before .before .loop .i) (omega arith) (c .before .before .before .loop .inv .0) (c .if1 .left) (c .before .before .before .loop .inv .1))
 
 returns-2 : tie.Need-returns-2 Inv-loop μ-loop
-returns-2 c = last-none (c .before .before .args .name .now) _ (c .loop-test .left) (c .before .loop .inv .1)
+returns-2 c = last-none (c .before .before .args .name .now) (c .before .loop .i) (omega arith) (c .before .loop .inv .1)
 
 pub tag-local-spec : {M : Type 1} → statement M
 tag-local-spec =

@@ -5,8 +5,6 @@ use borrow.Author.Needs.{needs}
 use Rattle.scan.proofs.Naming.{lower-capital, lower-below, lower-above}
 use Rattle.scan.proofs.names.to_ascii_lowercase.Statement.{statement}
 use Rattle.scan.proofs.names.to_ascii_lowercase.Tie as tie
-use Rattle.scan.proofs.names.to_ascii_lowercase.Reads as reads
-use Rattle.scan.proofs.names.to_ascii_lowercase.Lts as lts
 
 add-result : tie.Need-add-result
 add-result c = search needs

@@ -6,8 +6,6 @@ use lib.ListN.{length}
 use Rattle.scan.proofs.Stores.{Copied, copied-none, copied-more, copied-all}
 use Rattle.scan.proofs.table.append.Statement.{statement}
 use Rattle.scan.proofs.table.append.Tie as tie
-use Rattle.scan.proofs.table.append.Reads as reads
-use Rattle.scan.proofs.table.append.Lts as lts
 
 abbrev Inv-loop : tie.InvT-loop
 Inv-loop out₀ at piece i₀ out i = Copied piece at out₀ i out

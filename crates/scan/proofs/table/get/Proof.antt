@@ -3,8 +3,6 @@ use native.Mathlib.Omega.{arith}
 use borrow.Author.Needs.{needs}
 use Rattle.scan.proofs.table.get.Statement.{statement}
 use Rattle.scan.proofs.table.get.Tie as tie
-use Rattle.scan.proofs.table.get.Reads as reads
-use Rattle.scan.proofs.table.get.Lts as lts
 
 mul-result : tie.Need-mul-result
 mul-result c = search needs

@@ -1,0 +1,75 @@
+//! The port's functions, as its static library exports them. A slice passes as a pointer and a length.
+
+/// Declares each function and wraps it, so that a signature is written once, with slices.
+///
+/// The rules below `@` take the arguments from the left, one in a step, and add each to three lists: the
+/// parameters of the C function, those of the wrapper, and what the wrapper passes.
+macro_rules! exports {
+    ($($(#[$doc:meta])* fn $name:ident($($args:tt)*) -> $answer:ty;)*) => {
+        $(exports!(@ [$(#[$doc])*] $name -> $answer; [] [] []; $($args)*,);)*
+    };
+    (@ $doc:tt $name:ident -> $answer:ty; [$($c:tt)*] [$($own:tt)*] [$($pass:tt)*];
+        $arg:ident: &[$cell:ty], $($rest:tt)*) => {
+        exports!(@ $doc $name -> $answer; [$($c)* _: *const $cell, _: usize,]
+            [$($own)* $arg: &[$cell],] [$($pass)* $arg.as_ptr(), $arg.len(),]; $($rest)*);
+    };
+    (@ $doc:tt $name:ident -> $answer:ty; [$($c:tt)*] [$($own:tt)*] [$($pass:tt)*];
+        $arg:ident: &mut [$cell:ty], $($rest:tt)*) => {
+        exports!(@ $doc $name -> $answer; [$($c)* _: *mut $cell, _: usize,]
+            [$($own)* $arg: &mut [$cell],] [$($pass)* $arg.as_mut_ptr(), $arg.len(),]; $($rest)*);
+    };
+    (@ $doc:tt $name:ident -> $answer:ty; [$($c:tt)*] [$($own:tt)*] [$($pass:tt)*];
+        $arg:ident: $number:ty, $($rest:tt)*) => {
+        exports!(@ $doc $name -> $answer; [$($c)* _: $number,]
+            [$($own)* $arg: $number,] [$($pass)* $arg,]; $($rest)*);
+    };
+    (@ [$($doc:tt)*] $name:ident -> $answer:ty; [$($c:tt)*] [$($own:tt)*] [$($pass:tt)*];) => {
+        $($doc)*
+        #[inline]
+        pub fn $name($($own)*) -> $answer {
+            #[cfg(feature = "linked")]
+            {
+                unsafe extern "C" {
+                    fn $name($($c)*) -> $answer;
+                }
+                // Each pointer and length is that of a slice that lives through the call.
+                unsafe { $name($($pass)*) }
+            }
+            #[cfg(not(feature = "linked"))]
+            {
+                let _ = ($($pass)*);
+                panic!("built without the port")
+            }
+        }
+    };
+}
+
+exports! {
+    /// Where the longest valid beginning ends.
+    fn probe_utf8_end(text: &[u8]) -> usize;
+
+    /// `out[0]` and `out[1]` are where the trimmed text starts and ends; false if `out` has fewer cells.
+    fn probe_trim(text: &[u8], out: &mut [u64]) -> bool;
+    /// The next word at or after `from`, as `probe_trim` gives its text; false if there is none.
+    fn probe_next_word(text: &[u8], from: usize, out: &mut [u64]) -> bool;
+    /// The first place at or after `from`, or `usize::MAX`.
+    fn probe_find_seq(src: &[u8], from: usize, mark: &[u8]) -> usize;
+    fn probe_starts_with(src: &[u8], from: usize, mark: &[u8]) -> bool;
+    fn probe_eq_ignore_ascii_case(a: &[u8], b: &[u8]) -> bool;
+    /// Where the local name starts: after the last colon.
+    fn probe_tag_local(name: &[u8]) -> usize;
+    /// After the first colon, or 0.
+    fn probe_strip_ns(name: &[u8]) -> usize;
+
+    /// 0: no number; 1: a number; 2: a negative one. `out[0]` is its magnitude.
+    fn probe_numeral(text: &[u8], radix: u32, max: u64, minus: bool, out: &mut [u64]) -> u32;
+
+    /// The code point, or `u32::MAX`.
+    fn probe_lookup_entity(name: &[u8]) -> u32;
+    /// The bytes written, or `usize::MAX` if `out` is shorter than `text`.
+    fn probe_decode_entities(text: &[u8], out: &mut [u8]) -> usize;
+    /// The bytes written, or `usize::MAX` if they do not fit.
+    fn probe_escape_text(text: &[u8], out: &mut [u8]) -> usize;
+    /// As `probe_escape_text`.
+    fn probe_escape_attr(text: &[u8], out: &mut [u8]) -> usize;
+}

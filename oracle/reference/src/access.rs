@@ -1,0 +1,47 @@
+//! A child module of the Rust's `ttml`, so that other crates can call what is private there.
+
+use oxideav_core::{Result, SubtitleCue};
+
+macro_rules! pass_on {
+    ($(fn $name:ident($($arg:ident: $type:ty),*) -> $answer:ty;)*) => {
+        $(pub fn $name($($arg: $type),*) -> $answer { super::$name($($arg),*) })*
+    };
+}
+
+pass_on! {
+    fn decode_entities(s: &str) -> String;
+    fn lookup_entity(name: &str) -> Option<char>;
+    fn escape_text(s: &str) -> String;
+    fn escape_attr(s: &str) -> String;
+    fn find_seq(haystack: &[u8], from: usize, needle: &[u8]) -> Option<usize>;
+    fn tag_local(name: &str) -> String;
+    fn strip_ns(name: &str) -> &str;
+    fn format_ts(us: i64) -> String;
+    fn parse_ttml_color_rgba(s: &str) -> Option<(u8, u8, u8, u8)>;
+    fn bytes_to_cue(bytes: &[u8]) -> Result<SubtitleCue>;
+    fn cue_to_bytes(cue: &SubtitleCue) -> Vec<u8>;
+}
+
+pub fn parse_ttml_time(s: &str, frame_rate: Option<f64>, tick_rate: Option<f64>) -> Option<i64> {
+    super::parse_ttml_time(s, &super::TimingCtx { frame_rate, tick_rate })
+}
+
+/// A node of the Rust's tree, whose own types are not public.
+#[derive(Clone, Debug, PartialEq)]
+pub enum Tree {
+    Element { name: String, attrs: Vec<(String, String)>, children: Vec<Tree> },
+    Text(String),
+}
+
+pub fn parse_xml(src: &str) -> Result<Vec<Tree>> {
+    fn shown(nodes: Vec<super::Node>) -> Vec<Tree> {
+        let tree = |node| match node {
+            super::Node::Text(text) => Tree::Text(text),
+            super::Node::Element(e) => {
+                Tree::Element { name: e.name, attrs: e.attrs, children: shown(e.children) }
+            }
+        };
+        nodes.into_iter().map(tree).collect()
+    }
+    super::parse_xml(src).map(shown)
+}

@@ -1,0 +1,67 @@
+//! Buffers lent to the port, with an area around them that it must leave alone.
+
+use crate::compare::Esc;
+
+/// What the port may not do with what it is lent.
+#[derive(Debug, PartialEq)]
+pub enum Fault {
+    WroteOutside,
+    /// It wrote after the bytes or cells that its answer speaks of.
+    WroteAfter,
+    /// It answered more bytes than it was lent.
+    Answered(usize),
+}
+
+/// What a buffer holds before it is lent. No UTF-8 has this byte, so an answer cannot be mistaken for it.
+const FILL: u8 = 0xFF;
+const GUARD: usize = 32;
+
+/// A byte buffer that serves many questions.
+#[derive(Default)]
+pub struct Lent(Vec<u8>);
+
+impl Lent {
+    /// Lends `length` bytes. The question answers how many it wrote at their start, or `usize::MAX`, then
+    /// what they hold is open.
+    pub fn ask(&mut self, length: usize, question: impl FnOnce(&mut [u8]) -> usize) -> Result<Option<Esc<'_>>, Fault> {
+        let whole = length + 2 * GUARD;
+        if self.0.len() < whole {
+            self.0.resize(whole, FILL);
+        }
+        let whole = &mut self.0[..whole];
+        whole.fill(FILL);
+        let written = question(&mut whole[GUARD..GUARD + length]);
+        let (before, rest) = whole.split_at(GUARD);
+        let (lent, after) = rest.split_at(length);
+        if before != [FILL; GUARD] || after != [FILL; GUARD] {
+            return Err(Fault::WroteOutside);
+        }
+        if written == usize::MAX {
+            return Ok(None);
+        }
+        let Some((text, rest)) = lent.split_at_checked(written) else {
+            return Err(Fault::Answered(written));
+        };
+        if rest.iter().any(|&b| b != FILL) {
+            return Err(Fault::WroteAfter);
+        }
+        Ok(Some(Esc(text)))
+    }
+}
+
+/// Lends `lent` cells, at most 4, to a question that may write the first `USED`. Gives its answer and those.
+pub fn cells<const USED: usize, A>(
+    lent: usize,
+    question: impl FnOnce(&mut [u64]) -> A,
+) -> Result<(A, [u64; USED]), Fault> {
+    const CELL: u64 = 0xFFFF_0BAD_0BAD_FFFF;
+    let mut cells = [CELL; 8];
+    let answer = question(&mut cells[..lent]);
+    if cells[lent..].iter().any(|&cell| cell != CELL) {
+        return Err(Fault::WroteOutside);
+    }
+    if cells[USED..].iter().any(|&cell| cell != CELL) {
+        return Err(Fault::WroteAfter);
+    }
+    Ok((answer, cells[..USED].try_into().unwrap()))
+}
