@@ -2,3 +2,4 @@
 pub mod References
 pub mod Decoding
 pub mod Examples
+pub mod Valid
