@@ -91,6 +91,12 @@ fn ascii_end(src: &[u8], pos: usize) -> usize
     requires { ⌜ pos ≤ length (now src) ⌝ }
     ensures { λ r. ⌜ AsciiTo (now (src .entry)) pos r ⌝ }
 {
+    // a text in another script than Latin has few: look at one byte before a block
+    if pos < src.len() {
+        if 0x7F < src[pos] {
+            return pos;
+        }
+    }
     let mut i = ascii_blocks(src, pos);
     while i < src.len() {
         if 0x7F < src[i] {

@@ -14,17 +14,23 @@ Inv-loop src pos i₀ i = AsciiTo src pos i
 abbrev μ-loop : tie.MeasureT-loop
 μ-loop src pos i₀ i = length src - i
 
+shared-slice-read-if2 : tie.Need-shared-slice-read-if2 Inv-loop μ-loop
+shared-slice-read-if2 c = omega arith
+
+returns : tie.Need-returns Inv-loop μ-loop
+returns c = record { after = omega arith; within-text = omega arith; ascii = λ k l h. absurd (omega arith) }
+
 ascii-blocks-requires : tie.Need-ascii-blocks-requires Inv-loop μ-loop
-ascii-blocks-requires c κs = c .before .pre
+ascii-blocks-requires c κs = omega arith
 
 loop-holds : tie.Need-loop-holds Inv-loop μ-loop
 loop-holds c = c .ascii-blocks .ensures
 
-shared-slice-read-if1 : tie.Need-shared-slice-read-if1 Inv-loop μ-loop
-shared-slice-read-if1 c = omega arith
+shared-slice-read-if3 : tie.Need-shared-slice-read-if3 Inv-loop μ-loop
+shared-slice-read-if3 c = omega arith
 
-returns : tie.Need-returns Inv-loop μ-loop
-returns c = c .before .before .before .loop .inv
+returns-2 : tie.Need-returns-2 Inv-loop μ-loop
+returns-2 c = c .before .before .before .loop .inv
 
 add-i : tie.Need-add-i Inv-loop μ-loop
 add-i c = omega arith
@@ -38,11 +44,11 @@ loop-again c =
     record {
       after = omega arith;
       within-text = omega arith;
-      ascii = bounded-more (a .before .before .before .args .src .now) _ (a .loop .i) _ _ refl (a .loop .inv .ascii) (c .if1 .left);
+      ascii = bounded-more (a .before .before .before .before .args .src .now) _ (a .loop .i) _ _ refl (a .loop .inv .ascii) (c .if3 .left);
     }
 
-returns-2 : tie.Need-returns-2 Inv-loop μ-loop
-returns-2 c = c .before .loop .inv
+returns-3 : tie.Need-returns-3 Inv-loop μ-loop
+returns-3 c = c .before .loop .inv
 
 pub ascii-end-spec : {M : Type 1} → statement M
 ascii-end-spec =
@@ -50,11 +56,13 @@ ascii-end-spec =
     (tie.spec
     Inv-loop
     μ-loop
+    shared-slice-read-if2
+    returns
     ascii-blocks-requires
     loop-holds
-    shared-slice-read-if1
-    returns
+    shared-slice-read-if3
+    returns-2
     add-i
     loop-less
     loop-again
-    returns-2)
+    returns-3)
