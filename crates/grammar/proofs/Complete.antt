@@ -1,9 +1,11 @@
--- What the grammar derives, the reader gives. Assumes nothing.
+-- What the grammar derives, the reader without limits gives; so no text has two trees. Assumes nothing.
+--     value-complete, attribute-complete, attributes-complete, opening-complete, node-complete, prolog-complete, nodes-complete
+--     complete, unique
 use mathlib.Core.Path.{_≡_, refl, sym, ap, ap₂, _∙_, subst}
 use Prim.Native.Nat.{ℕ, zero, suc, _≤_, _<_}
 use native.Mathlib.Omega.{arith}
 use mathlib.Core.Logic.{_⊎_, inl, inr}
-use mathlib.Core.Bool.{Bool, true, false, not, _||_, true≢false}
+use mathlib.Core.Bool.{Bool, true, false, true≢false}
 use mathlib.Core.List.{List, [], _∷_, _++_, append-nil, append-assoc, nil≢cons, head-eq-of-cons-eq, tail-eq-of-cons-eq}
 use lib.ListN.{length, drop, length-append}
 use lib.Dec.{eqb}
@@ -14,19 +16,9 @@ use Rattle.grammar.specs.Tree.{`>`, `/`, `=`, `</`, `<?`, `<!`, `<!--`, 
 use Rattle.grammar.specs.Grammar.{Blanks, Piece, one-blank, instruction, declaration, Prolog, no-piece, piece, NoPiece, Name, Value, quoted, unquoted, Attribute, alone, named, nameless, Attributes, no-attribute, attribute, Opening, opening, Comment, Before, a-comment, no-comment, Node, a-text, a-section, last-section, an-element, Element, without-content, with-content, Content, Nodes, Document, document}
 use Rattle.grammar.specs.Demand.{tree}
 use Rattle.grammar.specs.Scan.{run, past, prefix, from, before, beyond}
-use Rattle.grammar.specs.Reader.{Res, next, mapRes, valueAs, readValue, afterNameAs, afterName, readAttribute, tagEnd, attributesAs, attributesStep, readAttributes, slashAs, afterSlash, openedAs, afterOpening, afterTagName, readElement, NodeKind, kind, nodeAs, afterClose, contentAs, contentStep, readContent, nodesAs, nodesStep, readNodes, pieceKind, prologAs, pastProlog, finish, readDocument, ok, as-text, as-section, as-element, as-close, as-comment, as-node, to-mark, no-more}
-use Rattle.grammar.proofs.Scans
-use Rattle.grammar.proofs.Scans.{by-test, both, eqb-same, eqb-eq, run-past, past-stops, run-is, past-is, prefix-begins, not-prefix, from-first, before-first, from-lacks, before-lacks, beyond-is}
-
--- ---- tests that fail or pass
-
-pub not-or : (a b : Bool) → not (a || b) ≡ true → (a ≡ false) × (not b ≡ true)
-not-or true b e = absurd (true≢false (sym e))
-not-or false b e = (refl, e)
-
-pub not-true : (a : Bool) → not a ≡ true → a ≡ false
-not-true true e = absurd (true≢false (sym e))
-not-true false e = refl
+use Rattle.grammar.specs.Reader.{Res, next, mapRes, valueAs, readValue, afterNameAs, afterName, readAttribute, tagEnd, attributesAs, attributesStep, readAttributes, slashAs, afterSlash, openedAs, afterOpening, afterTagName, readElement, NodeKind, kind, nodeAs, afterClose, contentAs, contentStep, readContent, nodesAs, nodesStep, readNodes, pieceKind, prologAs, pastProlog, finish, readDocument, ok, as-text, as-section, as-element, as-comment, as-node, to-mark, no-more}
+use Rattle.grammar.proofs.Tests.{by-test, eqb-same, eqb-eq, test-sym, not-true, or-true, not-or3, not-or4}
+use Rattle.grammar.proofs.Scans.{run-past, run-only, past-stops, run-is, past-is, prefix-begins, not-prefix, prefix-not, from-first, before-first, from-lacks, before-lacks, beyond-is, up-to}
 
 -- ---- values
 
@@ -51,23 +43,6 @@ value-complete {after} k (unquoted {v} f r e) = go v f r e
     go (a ∷ v) f r e = rw f (ap₂ ok (run-is nameByte (a ∷ v) after (r .only) (r .longest)) (past-is nameByte (a ∷ v) after (r .only) (r .longest)))
 
 -- ---- attributes
-
-pub not-or4 : (a b c d : Bool) → not (a || b || c || d) ≡ true → (a ≡ false) × (b ≡ false) × (c ≡ false) × (d ≡ false)
-not-or4 true b c d e = absurd (true≢false (sym e))
-not-or4 false true c d e = absurd (true≢false (sym e))
-not-or4 false false true d e = absurd (true≢false (sym e))
-not-or4 false false false true e = absurd (true≢false (sym e))
-not-or4 false false false false e = (refl, refl, refl, refl)
-
-pub not-or3 : (a b c : Bool) → not (a || b || c) ≡ true → (a ≡ false) × (b ≡ false) × (c ≡ false)
-not-or3 true b c e = absurd (true≢false (sym e))
-not-or3 false true c e = absurd (true≢false (sym e))
-not-or3 false false true e = absurd (true≢false (sym e))
-not-or3 false false false e = (refl, refl, refl)
-
-pub or-true : (a b : Bool) → (a || b) ≡ true → (a ≡ true) ⊎ (b ≡ true)
-or-true true b e = inl refl
-or-true false b e = inr e
 
 -- the first byte of an attribute ends neither blanks nor the tag
 pub record Front (u : Bytes) : Type 0 where
@@ -145,7 +120,7 @@ alone-rest n after h = go (past blank after) refl
     go [] e = refl
     go (a ∷ s) e =
         by-test (eqb a 61)
-        (λ t. absurd (h (run blank after) s (record { all = Scans.run-only blank after }) (run-past blank after ∙ ap (run blank after ++_) (e ∙ ap (_∷ s) (eqb-eq a 61 t)))))
+        (λ t. absurd (h (run blank after) s (record { all = run-only blank after }) (run-past blank after ∙ ap (run blank after ++_) (e ∙ ap (_∷ s) (eqb-eq a 61 t)))))
         (λ t. rw t)
 
 pub with-value : (n c w after v : Bytes) → Blanks c → Value after w v → afterName n (`=` then c then w then after) ≡ ok (attr n v) after
@@ -255,21 +230,11 @@ opening-complete {after} rec h (opening {n} {b} {w} {l = l} nm bb at) =
     go [] e k = absurd (e refl)
     go (c ∷ n) e k = ap (λ q. next q (afterOpening rec (c ∷ n))) (attributes-complete h at (suc (length (w ++ after))) (omega arith))
 
--- an opening is `<` and at least one byte more
-pub opening-length : {after o n : Bytes} {l : List Attr} → Opening after o n l → 0 < length o
-opening-length (opening nm bb at) = omega arith
-
 -- ---- what begins here
-
-pub test-sym : (a b : ℕ) → eqb a b ≡ false → eqb b a ≡ false
-test-sym a b e = by-test (eqb b a) (λ t. absurd (both (eqb a b) (rw (eqb-eq b a t) (eqb-same a)) e)) (λ t. t)
 
 pub kind-text : (a : ℕ) (s : Bytes) → textByte a ≡ true → kind (a ∷ s) ≡ as-node as-text
 unfolding textByte
 kind-text a s h = rw (test-sym a 60 (not-true (eqb a 60) h))
-
-pub kind-close : (s : Bytes) → Begins `</` s → kind s ≡ as-close
-kind-close s h = rw (h .1)
 
 pub kind-comment : (s : Bytes) → Begins `<!--` s → kind s ≡ as-comment
 kind-comment s h = rw (h .1)
@@ -555,15 +520,15 @@ no-more-here (a ∷ s) h =
     let t : Bytes = a ∷ s in
     by-test (blank a) (λ e. absurd (h (a ∷ []) s refl (one-blank e))) (λ e.
     by-test (prefix `<?` t)
-    (λ q. let b = prefix-begins `<?` t q in let w = Scans.up-to 63 (62 ∷ []) t in
+    (λ q. let b = prefix-begins `<?` t q in let w = up-to 63 (62 ∷ []) t in
     absurd (h (w .0) _ (w .1) (instruction (begins-piece `<?` (63 ∷ []) _ (w .0) open-instruction (w .2) (subst (Begins `<?`) (w .1) b)) (w .2)))) (λ q₁.
     by-test (prefix `<!--` t)
-    (λ q. let b = prefix-begins `<!--` t q in let w = Scans.up-to 45 (45 ∷ 62 ∷ []) t in
+    (λ q. let b = prefix-begins `<!--` t q in let w = up-to 45 (45 ∷ 62 ∷ []) t in
     absurd (h (w .0) _ (w .1) (Piece.comment (begins-piece `<!--` (45 ∷ 45 ∷ []) _ (w .0) open-comment (w .2) (subst (Begins `<!--`) (w .1) b)) (w .2)))) (λ q₂.
     by-test (prefix `<!` t)
-    (λ q. let b = prefix-begins `<!` t q in let w = Scans.up-to 62 [] t in
+    (λ q. let b = prefix-begins `<!` t q in let w = up-to 62 [] t in
     absurd (h (w .0) _ (w .1) (declaration (begins-piece `<!` [] _ (w .0) open-declaration (w .2) (subst (Begins `<!`) (w .1) b))
-    (λ z. Scans.prefix-not `<!--` t q₂ (subst (Begins `<!--`) (sym (w .1)) (begins-more `<!--` (w .0) _ z))) (w .2))))
+    (λ z. prefix-not `<!--` t q₂ (subst (Begins `<!--`) (sym (w .1)) (begins-more `<!--` (w .0) _ z))) (w .2))))
     (λ q₃. rw (e, q₁, q₂, q₃)))))
 
 pub prolog-complete : {s p : Bytes} → Prolog s p → NoPiece s → (n : ℕ) → length (p ++ s) < n → pastProlog n (p ++ s) ≡ s

@@ -1,4 +1,6 @@
--- The counts that bound the rounds never run out: number 0 is never given. Assumes nothing.
+-- The counts that bound the reader's rounds never run out: number 0 is never given. Assumes nothing.
+--     value-ends, attribute-ends, attributes-ends, element-ends, node-ends, content-ends, nodes-ends   what is left is no longer than what was
+--     never-zero
 use mathlib.Core.Path.{_≡_, sym, ap, subst}
 use Prim.Native.Nat.{ℕ, zero, suc, _≤_, _<_}
 use native.Mathlib.Omega.{arith}
@@ -14,9 +16,10 @@ use Rattle.grammar.specs.Grammar.{Before, a-comment, no-comment}
 use Rattle.grammar.specs.Demand.{refused}
 use Rattle.grammar.specs.Scan.{run, past, from, before, beyond}
 use Rattle.grammar.specs.Reader.{Res, next, mapRes, valueAs, readValue, afterNameAs, afterName, readAttribute, tagEnd, attributesAs, attributesStep, readAttributes, slashAs, afterSlash, openedAs, afterOpening, afterTagName, readElement, NodeKind, Kind, kind, nodeAs, afterClose, contentAs, contentStep, readContent, nodesAs, nodesStep, readNodes, pastProlog, finish, readDocument, ok, bad, as-text, as-section, as-element, as-close, as-comment, as-node}
-use Rattle.grammar.proofs.Scans.{by-test, eqb-eq, run-past, past-stops, before-from}
-use Rattle.grammar.proofs.Complete
-use Rattle.grammar.proofs.Sound.{equals-byte, View, view, comment-sound, comments, sections, elements, texts}
+use Rattle.grammar.proofs.Tests.{by-test, eqb-eq, equals-byte}
+use Rattle.grammar.proofs.Scans.{run-past, past-stops, before-from}
+use Rattle.grammar.proofs.Complete.{comment-length}
+use Rattle.grammar.proofs.Sound.{View, view, comment-sound, comments, sections, elements, texts}
 
 -- what is left is no longer than N, and a number is not 0
 abbrev pub Ends : {A : Type 0} → ℕ → Res A → Type 0
@@ -139,7 +142,7 @@ module _ (rec : Bytes → Res Forest) (N : ℕ) (ih : (s : Bytes) → length s <
 pub comment-ends : (a : ℕ) (s : Bytes) → Begins `<!--` (a ∷ s) → length (beyond `-->` (a ∷ s)) ≤ length s
 comment-ends a s h =
     let c = comment-sound (a ∷ s) h in
-    omega (arith, ap length (c .1), length-append (c .0) (beyond `-->` (a ∷ s)), Complete.comment-length (c .2))
+    omega (arith, ap length (c .1), length-append (c .0) (beyond `-->` (a ∷ s)), comment-length (c .2))
 
 pub node-next : (rec : Bytes → Res Forest) (N : ℕ) → ((s : Bytes) → length s < N → Ends (length s) (rec s)) → (M : ℕ) (x : Res Tree) → Ends M x → M < N
     → Ends (suc M) (next x (λ t r. mapRes (more t) (rec r)))

@@ -1,5 +1,7 @@
--- The bound on the rounds does not matter where it is large enough, so the reader has the equation of a recursion without one. Assumes
--- nothing.
+-- The bound on the reader's rounds does not matter where it is large enough, so the reader of content has the equation of a recursion without
+-- one. Assumes nothing.
+--     rounds                 any bound that is large enough gives the same
+--     content, content-is    the reader of content, and its equation
 use mathlib.Core.Path.{_≡_, refl, ap, _∙_}
 use Prim.Native.Nat.{ℕ, zero, suc, _≤_, _<_}
 use native.Mathlib.Omega.{arith}

@@ -1,41 +1,19 @@
 -- Laws of the scans. Assumes nothing.
+--     run-past, run-only, past-stops, run-is, past-is      a longest run and what follows it, and that there is no other
+--     prefix-begins, begins-prefix, not-prefix, prefix-not, prefix-cut   the test of a beginning
+--     found, from-first, before-first, from-lacks, before-lacks   the first mark
+--     beyond-is, up-to                       what follows the first mark
 use mathlib.Core.Path.{_≡_, refl, sym, ap, ap₂, _∙_, subst}
 use Prim.Native.Nat.{ℕ, _≤_}
 use native.Mathlib.Omega.{arith}
-use mathlib.Core.Bool.{Bool, true, false, cond, _&&_, true≢false}
+use mathlib.Core.Bool.{Bool, true, false, cond, true≢false}
 use mathlib.Core.List.{[], _∷_, _++_, append-nil, append-assoc, nil≢cons, tail-eq-of-cons-eq}
 use lib.ListN.{length, drop, length-append}
 use lib.Seq.{drop-append-seam}
-use lib.Dec.{T, eqb, eqb→eq, eqb-refl}
+use lib.Dec.{eqb}
 use Rattle.grammar.specs.Words.{Bytes, Only, Stops, Begins, Lacks, UpTo, closed, unclosed}
 use Rattle.grammar.specs.Scan.{run, past, prefix, from, before, beyond}
-
--- ---- tools
-
-pub by-test {ℓ} : {X : Type ℓ} (b : Bool) → (b ≡ true → X) → (b ≡ false → X) → X
-by-test true f g = f refl
-by-test false f g = g refl
-
-pub T→is : (b : Bool) → T b → b ≡ true
-T→is true t = refl
-T→is false t = absurd t
-
-pub is→T : (b : Bool) → b ≡ true → T b
-is→T true e = tt
-is→T false e = absurd (true≢false (sym e))
-
-pub both : (b : Bool) → b ≡ true → b ≡ false → ⊥
-both b p q = true≢false (sym p ∙ q)
-
-pub eqb-same : (n : ℕ) → eqb n n ≡ true
-eqb-same n = T→is (eqb n n) (eqb-refl n)
-
-pub eqb-eq : (m n : ℕ) → eqb m n ≡ true → m ≡ n
-eqb-eq m n e = eqb→eq m n (is→T (eqb m n) e)
-
-pub and-both : (a b : Bool) → (a && b) ≡ true → (a ≡ true) × (b ≡ true)
-and-both true b e = (refl, e)
-and-both false b e = absurd (true≢false (sym e))
+use Rattle.grammar.proofs.Tests.{by-test, both, eqb-same, eqb-eq, and-both}
 
 -- ---- runs
 

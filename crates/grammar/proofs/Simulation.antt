@@ -1,4 +1,8 @@
--- The reader with the limits and the one without go in step. Assumes nothing.
+-- The reader with the limits and the one without go in step, so the first takes a text exactly if the tree that the grammar derives is within
+-- the limits. Assumes nothing.
+--     attributes-sim, element-sim, node-sim, content-sim, nodes-sim
+--     within-exactly         for any limits
+--     text-exactly           for document 01's
 use mathlib.Core.Path.{_≡_, subst}
 use Prim.Native.Nat.{ℕ, zero, suc, _+_, _≤_}
 use native.Mathlib.Omega.{arith}
@@ -17,11 +21,11 @@ use Rattle.grammar.specs.Demand.{tree}
 use Rattle.grammar.specs.Scan.{run, past, before, beyond}
 use Rattle.grammar.specs.Reader.{Res, next, mapRes, readAttribute, tagEnd, attributesAs, attributesStep, readAttributes, slashAs, afterSlash, openedAs, afterOpening, afterTagName, readElement, NodeKind, Kind, kind, nodeAs, afterClose, contentAs, contentStep, readContent, nodesAs, nodesStep, readNodes, pastProlog, finish, readDocument, ok, bad, as-text, as-section, as-element, as-close, as-comment, as-node}
 use Rattle.grammar.specs.Counted.{LRes, lnext, lmap, lift, Counted, attributesAsL, attributesStepL, attributesL, openedAsL, afterOpeningL, afterTagNameL, elementL, nodeL, contentAsL, contentStepL, contentL, nodesAsL, nodesStepL, nodesL, finishL, readDocumentL, textAs, readText, lok, lbad}
-use Rattle.grammar.proofs.Scans.{by-test, T→is, is→T, both}
-use Rattle.grammar.proofs.Complete
-use Rattle.grammar.proofs.Sound
+use Rattle.grammar.proofs.Tests.{by-test, T→is, is→T, both}
+use Rattle.grammar.proofs.Complete.{complete}
+use Rattle.grammar.proofs.Sound.{sound}
 
--- ---- the two readers go in step
+-- ---- attributes
 
 -- the reader without limits gives u, the one with limits gives v: the same, and the counts have fallen by what was read; or u is
 -- past a limit; or both fail
@@ -254,8 +258,8 @@ within-exactly d k j s f =
     let r : Bytes = pastProlog (suc (length s)) s in
     let n : ℕ = suc (length r) in
     let sim : SimF d k j (readNodes n r) (nodesL n d k j r) = nodes-sim n d k j r in (
-      (λ e. let q = finish-taken (length s) d k j f (readNodes n r) (nodesL n d k j r) sim e in (Sound.sound s f (q .0), q .1)),
-      (λ h. finish-within (length s) d k j f (readNodes n r) (nodesL n d k j r) sim (Complete.complete (h .0)) (h .1)),
+      (λ e. let q = finish-taken (length s) d k j f (readNodes n r) (nodesL n d k j r) sim e in (sound s f (q .0), q .1)),
+      (λ h. finish-within (length s) d k j f (readNodes n r) (nodesL n d k j r) sim (complete (h .0)) (h .1)),
     )
 
 -- Whatever text is handed over, the reader takes it exactly if the grammar derives a tree for it within the limits; the tree

@@ -1,9 +1,12 @@
--- What the reader gives, the grammar derives. Assumes nothing.
+-- What the reader without limits gives, the grammar derives. Assumes nothing.
+--     value-sound, attribute-sound, attributes-sound, element-sound, node-sound, content-sound, nodes-sound, prolog-sound
+--     View, view             what begins at the front of a string, and that the reader's test says it
+--     sound, taken-exactly
 use mathlib.Core.Path.{_≡_, refl, sym, ap, _∙_, subst}
 use Prim.Native.Nat.{ℕ, zero, suc, _<_}
 use native.Mathlib.Omega.{arith}
 use mathlib.Core.Logic.{_⊎_, inl, inr, _↔_}
-use mathlib.Core.Bool.{Bool, true, false, cond, not, _||_, true≢false}
+use mathlib.Core.Bool.{Bool, true, false, cond, _||_, true≢false}
 use mathlib.Core.List.{List, [], _∷_, _++_, append-nil, append-assoc, cons≢nil, nil≢cons, head-eq-of-cons-eq}
 use lib.ListN.{length, drop, length-append}
 use lib.Dec.{eqb}
@@ -15,19 +18,9 @@ use Rattle.grammar.specs.Grammar.{Blanks, Piece, one-blank, instruction,
 use Rattle.grammar.specs.Demand.{tree}
 use Rattle.grammar.specs.Scan.{run, past, prefix, from, before, beyond}
 use Rattle.grammar.specs.Reader.{Res, next, mapRes, valueAs, readValue, afterNameAs, afterName, readAttribute, tagEnd, attributesAs, attributesStep, readAttributes, slashAs, afterSlash, openedAs, afterOpening, afterTagName, readElement, NodeKind, Kind, kind, nodeAs, afterClose, contentAs, contentStep, readContent, nodesAs, nodesStep, readNodes, PieceKind, pieceKind, prologAs, pastProlog, finish, readDocument, ok, bad, as-text, as-section, as-element, as-close, as-comment, as-node, blank-byte, to-mark, no-more}
-use Rattle.grammar.proofs.Scans.{by-test, both, eqb-eq, run-past, run-only, past-stops, past-is, prefix-begins, prefix-not, before-from, Found, nowhere, at-first, found, before-lacks, up-to}
-use Rattle.grammar.proofs.Complete
-use Rattle.grammar.proofs.Complete.{or-true, past-none, AtTagEnd, begins-more, begins-piece, open-comment, open-instruction, open-declaration, kind-instruction, kind-comment-piece, kind-declaration}
-
--- ---- tests that fail or pass
-
-pub not-false : (a : Bool) → not a ≡ false → a ≡ true
-not-false true e = refl
-not-false false e = absurd (true≢false e)
-
-pub or-true3 : (a b c : Bool) → not (a || b || c) ≡ false → a ≡ false → (b ≡ true) ⊎ (c ≡ true)
-or-true3 true b c e h = absurd (true≢false h)
-or-true3 false b c e h = or-true b c (not-false (b || c) e)
+use Rattle.grammar.proofs.Tests.{by-test, both, eqb-eq, not-false, or-true3, equals-byte}
+use Rattle.grammar.proofs.Scans.{run-past, run-only, past-stops, past-is, prefix-begins, prefix-not, before-from, Found, found, before-lacks, up-to, nowhere, at-first}
+use Rattle.grammar.proofs.Complete.{past-none, blank-equals, AtTagEnd, begins-more, begins-piece, open-comment, open-instruction, open-declaration, piece-length, kind-instruction, kind-comment-piece, kind-declaration, complete}
 
 -- ---- values
 
@@ -116,7 +109,7 @@ nameless-sound s =
 pub not-equals : (b t : Bytes) (c : ℕ) → Only blank b → blank c ≡ false → eqb c 61 ≡ false → (b′ r : Bytes) → Blanks b′ → ¬ (b ++ (c ∷ t) ≡ b′ then `=` then r)
 not-equals b t c o u n b′ r o′ e =
     let x : past blank (b ++ (c ∷ t)) ≡ c ∷ t = past-is blank b (c ∷ t) o u in
-    let y : past blank (b′ ++ (61 ∷ r)) ≡ 61 ∷ r = past-is blank b′ (61 ∷ r) (o′ .all) Complete.blank-equals in
+    let y : past blank (b′ ++ (61 ∷ r)) ≡ 61 ∷ r = past-is blank b′ (61 ∷ r) (o′ .all) blank-equals in
     both (eqb c 61) (rw (head-eq-of-cons-eq (sym x ∙ ap (past blank) e ∙ y)) refl) n
 
 pub regroup : (n b c w : Bytes) → (n then b then `=` then c) ++ w ≡ n then b then `=` then c then w
@@ -153,12 +146,6 @@ named-sound n m nm = go (past blank m) refl (past-stops blank m)
         let same : past blank (c ∷ t) ≡ c ∷ t = past-none blank (c ∷ t) u in
         subst (λ z. (x : Bytes) × (y : Bytes) × (n ++ m ≡ x ++ (y ++ z)) × Attribute (y ++ z) x (attr n []) × Blanks y) (sym same)
         (n, b, ap (n ++_) m-is, alone (subst (λ z. Name attrNameByte z n) m-is nm) (not-equals b t c (run-only blank m) u q), all-blanks m)))
-
-pub equals-byte : (x b c d : Bool) → not (x || b || c || d) ≡ false → x ≡ false → (b || c) ≡ false → d ≡ true
-equals-byte true b c d e p q = absurd (true≢false p)
-equals-byte false true c d e p q = absurd (true≢false q)
-equals-byte false false true d e p q = absurd (true≢false q)
-equals-byte false false false d e p q = not-false d e
 
 pub begins-name : (a : ℕ) (s : Bytes) → attrNameByte a ≡ true → ¬ (run attrNameByte (a ∷ s) ≡ [])
 unfolding run
@@ -539,7 +526,7 @@ prolog-as rec n ih s g (blank-here a r e h) =
     let short : length r < n = omega (arith, ap length e) in
     subst (λ z. PrologS z (rec (drop 1 z))) (sym e) (prolog-piece (a ∷ r) (a ∷ []) r (rec r) refl (one-blank h) (ih r short))
 prolog-as rec n ih s g (piece-here b m u e x) =
-    let some-byte : 0 < length u = Complete.piece-length x in
+    let some-byte : 0 < length u = piece-length x in
     let short : length (beyond (b ∷ m) s) < n = omega (arith, ap length e, length-append u (beyond (b ∷ m) s)) in
     prolog-piece s u (beyond (b ∷ m) s) (rec (beyond (b ∷ m) s)) e x (ih (beyond (b ∷ m) s) short)
 prolog-as rec n ih s g (none-here e) = ([], refl, no-piece, no-piece-here s e)
@@ -566,4 +553,4 @@ sound s f e =
 
 -- A text is taken exactly if the grammar derives a tree for it, and then that tree is given.
 pub taken-exactly : (s : Bytes) (f : Forest) → (readDocument s ≡ tree f) ↔ Document s f
-taken-exactly s f = (sound s f, Complete.complete)
+taken-exactly s f = (sound s f, complete)

@@ -79,7 +79,7 @@ pub record Comment (after w : Bytes) : Type 0 where
   pub opens : Begins `<!--` w
   pub ends : UpTo `-->` after w
 
--- does a comment of this same content directly precede?
+-- does a comment of this same content directly precede? Only `close-tag` and `before-close` look at it.
 pub data Before : Type 0 where
   a-comment no-comment : Before
 

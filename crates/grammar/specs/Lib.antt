@@ -5,6 +5,7 @@ pub mod Tree
 pub mod Grammar
 pub mod Limits
 pub mod Demand
+pub mod Refusals
 pub mod Scan
 pub mod Reader
 pub mod Counted
