@@ -7,5 +7,6 @@ pub mod Simulation
 pub mod Ends
 pub mod Rounds
 pub mod CountedEnds
+pub mod CountedRounds
 pub mod Theorem
 pub mod Examples
