@@ -8,5 +8,6 @@ pub mod Ends
 pub mod Rounds
 pub mod CountedEnds
 pub mod CountedRounds
+pub mod Refusing
 pub mod Theorem
 pub mod Examples

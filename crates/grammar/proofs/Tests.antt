@@ -67,3 +67,7 @@ equals-byte true b c d e p q = absurd (true≢false p)
 equals-byte false true c d e p q = absurd (true≢false q)
 equals-byte false false true d e p q = absurd (true≢false q)
 equals-byte false false false d e p q = not-false d e
+
+pub or-else : (a b : Bool) → (a || b) ≡ true → a ≡ false → b ≡ true
+or-else true b p q = absurd (true≢false q)
+or-else false b p q = p
