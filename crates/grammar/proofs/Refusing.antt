@@ -1,5 +1,7 @@
 -- A number that the reader with the limits answers is met at its place. Assumes nothing.
---     attribute-fails, attributes-snoc, opening-snoc   an attribute that fails, and a start tag that goes on
+--     attribute-fails        what an attribute that fails has met
+--     attributes-snoc, opening-snoc, tag-snoc          a start tag, an attribute later
+--     attributes-refused, element-refused, node-refused, content-refused, nodes-refused   after a viable prefix
 --     refused-meets
 use mathlib.Core.Path.{_≡_, refl, sym, ap, ap₂, _∙_, subst}
 use Prim.Native.Nat.{ℕ, zero, suc, _+_, _-_, _≤_, _<_}
@@ -308,6 +310,16 @@ module _ (D K J N d₀ : ℕ) (rec : Counted Forest) (ih : ContentR D K J N (suc
       rw h (subst (λ z. RefusedS D K J (w ++ (o ++ (z ∷ t))) (lift (afterSlash (suc (length t)) (element n l none) (past blank t)) (λ t r. lok t k j r))) (sym a-is)
       (slash-refused o n l k j t (subst (λ z. Viable (o ++ (z ∷ t)) w d₀ k₀ j₀ p) a-is v) (subst (λ z. ElementBegins (o ++ (z ∷ t))) a-is eb) (subst (λ z. Opening (z ∷ t) o n l) a-is op))))
 
+  pub attributes-then-refused : (n b a t m : Bytes) (l : List Attr) (k j : ℕ) → m ≡ b ++ (a ++ t) → Viable (60 ∷ (n ++ m)) w d₀ k₀ j₀ p → ElementBegins (60 ∷ (n ++ m))
+      → Name nameByte m n → Blanks b → Attributes t a l → AtTagEnd t → k₀ + suc k ≡ K → j₀ + (length l + j) ≡ J → length t ≤ N
+      → RefusedS D K J (w ++ (60 ∷ (n ++ m))) (afterOpeningL rec n l k j t)
+  attributes-then-refused n b a t m l k j e v eb nm bb at end ck cj g =
+      let assoc : (60 ∷ (n ++ (b ++ a))) ++ t ≡ 60 ∷ (n ++ (b ++ (a ++ t))) = simp append-assoc in
+      let here : 60 ∷ (n ++ m) ≡ (60 ∷ (n ++ (b ++ a))) ++ t = ap (λ z. 60 ∷ (n ++ z)) e ∙ sym assoc in
+      subst (λ z. RefusedS D K J (w ++ z) (afterOpeningL rec n l k j t)) (sym here)
+      (opened-refused (60 ∷ (n ++ (b ++ a))) n l k j t (subst (λ z. Viable z w d₀ k₀ j₀ p) here v) (subst (λ z. ElementBegins z) here eb)
+      (opening (subst (λ z. Name nameByte z n) e nm) bb at) end ck cj g)
+
   pub tag-refused : (n m : Bytes) (k j : ℕ) → Viable (60 ∷ (n ++ m)) w d₀ k₀ j₀ p → ElementBegins (60 ∷ (n ++ m)) → Run nameByte m n → k₀ + suc k ≡ K → j₀ + j ≡ J
       → length m ≤ N → RefusedS D K J (w ++ (60 ∷ (n ++ m))) (afterTagNameL rec (suc (length (n ++ m))) n k j (past blank m))
   unfolding afterTagNameL
@@ -360,15 +372,9 @@ module _ (D K J N d₀ : ℕ) (rec : Counted Forest) (ih : ContentR D K J N (suc
           (end-in-tag v eb (record { run = h; some-byte = cons≢nil }) (no-opening c n m h (e ∙ f .0))))
       go u e (lok l k₂ j₂ t) f s z =
           let q = subst (AttributesS r) (s .0) z in
-          let a : Bytes = q .1 .0 in
-          let o : Bytes = `<` then name then b then a in
-          let assoc₂ : o ++ t ≡ 60 ∷ (name ++ (b ++ (a ++ t))) = simp append-assoc in
-          let here : 60 ∷ (name ++ m) ≡ o ++ t = ap (λ z. 60 ∷ (name ++ z)) (m-is ∙ ap (b ++_) (q .1 .1)) ∙ sym assoc₂ in
-          let short : length t ≤ N = omega (arith, ap length (q .1 .1), length-append a t, past-length blank m) in
-          subst (λ z. RefusedS D K J (w ++ z) (afterOpeningL rec name l k₂ j₂ t)) (sym here)
-          (opened-refused o name l k₂ j₂ t (subst (λ z. Viable z w d₀ k₀ j₀ p) here v) (subst (λ z. ElementBegins z) here eb)
-          (opening (record { run = subst (λ z. Run nameByte z name) (m-is ∙ ap (b ++_) (q .1 .1)) h; some-byte = cons≢nil }) (all-blanks m) (q .1 .2)) (q .0)
-          (omega (arith, s .1)) (omega (arith, s .2)) short)
+          let short : length t ≤ N = omega (arith, ap length (q .1 .1), length-append (q .1 .0) t, past-length blank m) in
+          attributes-then-refused name b (q .1 .0) t m l k₂ j₂ (m-is ∙ ap (b ++_) (q .1 .1)) v eb (record { run = h; some-byte = cons≢nil }) (all-blanks m) (q .1 .2) (q .0)
+          (omega (arith, s .1)) (omega (arith, s .2)) short
 
   pub element-refused : (k j : ℕ) (s : Bytes) → Viable (60 ∷ s) w d₀ k₀ j₀ p → ElementBegins (60 ∷ s) → k₀ + suc k ≡ K → j₀ + j ≡ J → length s ≤ N
       → RefusedS D K J (w ++ (60 ∷ s)) (elementL rec k j s)

@@ -1,16 +1,23 @@
 -- The theorem of the grammar: the reader on lists meets the demand, whatever the reading of entities is. Assumes nothing.
 --     taken              the reader takes a text, and gives f, exactly if the grammar derives f for it within the limits
 --     takes-exactly, gives-that-tree, no-two     the demand
-use mathlib.Core.Path.{_≡_, refl, ap}
-use Prim.Native.Nat.{ℕ}
+--     refuses-truly      a number that is answered is met at its place
+--     too-long           a text past 65,536 bytes meets 2
+use mathlib.Core.Path.{_≡_, refl, sym, ap, _∙_}
+use Prim.Native.Nat.{ℕ, _≤_, _<_}
 use native.Mathlib.Omega.{arith}
 use mathlib.Core.Logic.{_↔_}
+use lib.ListN.{length}
+use lib.Dec.{leb, leb→le, le→leb}
 use Rattle.grammar.specs.Words.{Bytes}
 use Rattle.grammar.specs.Tree.{Forest}
 use Rattle.grammar.specs.Demand.{Result, tree, refused, Derives, TakesExactly, GivesThatTree, NoTwo, decodeForest}
-use Rattle.grammar.specs.Counted.{readText, decodeResult, treeReader}
+use Rattle.grammar.specs.Refusals.{Meets, RefusesTruly}
+use Rattle.grammar.specs.Counted.{readDocumentL, textAs, readText, decodeResult, treeReader}
+use Rattle.grammar.proofs.Tests.{by-test, T→is, is→T}
 use Rattle.grammar.proofs.Complete.{unique}
 use Rattle.grammar.proofs.Simulation.{text-exactly}
+use Rattle.grammar.proofs.Refusing.{refused-meets}
 
 pub taken : (s : Bytes) (f : Forest) → (readText s ≡ tree f) ↔ Derives s f
 taken s f = (
@@ -38,3 +45,25 @@ gives-that-tree decode s f g d e = let h = gives decode s f d in cc
 -- no text, taken or not, has two
 pub no-two : NoTwo
 no-two s f g d e = unique d e
+
+-- ---- what is turned away
+
+pub too-long : (decode : Bytes → Bytes) (s : Bytes) → 65536 < length s → treeReader decode s ≡ refused 2 0
+unfolding treeReader readText textAs
+too-long decode s h =
+    by-test (leb (length s) 65536)
+    (λ e. let small : length s ≤ 65536 = leb→le (length s) 65536 (is→T (leb (length s) 65536) e) in absurd (omega arith))
+    (λ e. rw e)
+
+pub refuses-truly : (decode : Bytes → Bytes) → RefusesTruly (treeReader decode)
+unfolding treeReader readText textAs
+refuses-truly decode s n p h e =
+    go (readDocumentL 64 8192 8192 s) refl
+    (ap (λ b. decodeResult decode (textAs b s)) (sym (T→is (leb (length s) 65536) (le→leb (length s) 65536 h))) ∙ e)
+  where
+    go : (r : Result) → readDocumentL 64 8192 8192 s ≡ r → decodeResult decode (readDocumentL 64 8192 8192 s) ≡ refused n p → Meets 64 8192 8192 s n p
+    go (tree f) q z =
+        let y : _≡_ {A = Result} (tree (decodeForest decode f)) (refused n p) = ap (decodeResult decode) (sym q) ∙ z in
+        let o : _≡_ {A = ℕ} 0 1 = cc in
+        absurd (omega arith)
+    go (refused m a) q z = refused-meets 64 8192 8192 s n p (q ∙ (ap (decodeResult decode) (sym q) ∙ z))

@@ -88,6 +88,10 @@ pub record FirstMet (d k j : ℕ) (s : Bytes) (number place : ℕ) : Type 0 wher
   pub met : Meets d k j s number place
   pub first : (m q : ℕ) → Meets d k j s m q → (place < q) ⊎ ((place ≡ q) × (number ≤ m))
 
--- a tree reader, handed a text of at most 65,536 bytes, answers a number exactly if it is the first met
+-- what a tree reader answers is met at its place, in a text of at most 65,536 bytes
+abbrev pub RefusesTruly : (Bytes → Result) → Type 0
+RefusesTruly reader = (s : Bytes) (n p : ℕ) → length s ≤ 65536 → reader s ≡ refused n p → Meets 64 8192 8192 s n p
+
+-- and it answers exactly the first that is met
 abbrev pub RefusesExactly : (Bytes → Result) → Type 0
 RefusesExactly reader = (s : Bytes) (n p : ℕ) → length s ≤ 65536 → (reader s ≡ refused n p) ↔ FirstMet 64 8192 8192 s n p
