@@ -74,7 +74,7 @@ pub data Opening (after : Bytes) : Bytes → Bytes → List Attr → Type 0 wher
 
 -- ---- nodes
 
--- "with comments before, between and after, each ending as in the prolog"
+-- "with comments before, between and after, each ending as in the prolog"; "`<!-->` [is] whole, […] in content too"
 pub record Comment (after w : Bytes) : Type 0 where
   pub opens : Begins `<!--` w
   pub ends : UpTo `-->` after w

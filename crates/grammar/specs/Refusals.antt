@@ -1,6 +1,7 @@
 -- Which number of 4 to 11 a text meets, and where (document 01, "Limits and what is turned away"). Definitions alone.
 -- A place is told by what stands before it and what follows: there is no cursor and no order of trial, as in the grammar. What stands before
 -- is a viable prefix: a beginning of the text that the grammar's productions make up, with elements that are still open.
+-- docs/DECISIONS.md, readings 2 to 6, has the smallest texts in which the numbers could be read two ways.
 use mathlib.Core.Path.{_≡_}
 use Prim.Native.Nat.{ℕ, suc, _+_, _≤_, _<_}
 use mathlib.Core.Logic.{_⊎_, _↔_}
