@@ -1,0 +1,13 @@
+-- What the crates above cite: Theorem. The others are its proof, and the worked cases.
+pub mod Tests
+pub mod Scans
+pub mod Complete
+pub mod Sound
+pub mod Simulation
+pub mod Ends
+pub mod Rounds
+pub mod CountedEnds
+pub mod CountedRounds
+pub mod Refusing
+pub mod Theorem
+pub mod Examples
