@@ -1,3 +1,4 @@
 pub mod Decimal
+pub mod Counted
 pub mod Floats
 pub mod Size

@@ -1,10 +1,10 @@
 // Reading a decimal: its sign, its digits as a whole number, and how many stand behind the point.
 ghost use mathlib.Core.Path.{_≡_};
-ghost use Prim.Native.Nat.{_≤_, _<_, _^_};
-ghost use lib.ListN.{length};
-ghost use Rattle.scan.specs.Part.{part};
-ghost use Rattle.decimals.specs.Decimal.{onlyDigits, isExponent, isWord, unsignedDecimal, decimalOf};
-ghost use Rattle.decimals.specs.Counted.{Counted};
+ghost use mathlib.Core.List.{_++_};
+ghost use Prim.Native.Nat.{_-_, _≤_, _<_, _^_};
+ghost use lib.ListN.{length, take, drop};
+ghost use Rattle.decimals.specs.Decimal.{onlyDigits, isExponent, isWord, limited, unsignedDecimal, decimalOf};
+ghost use Rattle.decimals.specs.Counted.{OneMore, Room, Further, Digital, PointAt};
 
 use scan::Class;
 
@@ -30,7 +30,10 @@ pub struct Count {
 }
 
 // One digit more.
-fn count_digit(before: Count, b: u8) -> Count {
+fn count_digit(before: Count, b: u8) -> Count
+    requires { ⌜ (48 ≤ b) × (b ≤ 57) × (before .value < 10 ^ (before .significant)) × (before .significant < 2 ^ 63) ⌝ }
+    ensures { λ r. ⌜ OneMore before b r ⌝ }
+{
     let d = (b - 48) as u64;
     if before.significant == 0 && d == 0 {
         return before;
@@ -46,7 +49,10 @@ fn count_digit(before: Count, b: u8) -> Count {
 }
 
 // The digits from one place to another, after those read so far.
-fn count_digits(text: &[u8], from: usize, to: usize, before: Count) -> Count {
+fn count_digits(text: &[u8], from: usize, to: usize, before: Count) -> Count
+    requires { ⌜ Room before (now text) from to ⌝ }
+    ensures { λ r. ⌜ Further before (now (text .entry)) from to r ⌝ }
+{
     let mut count = before;
     let mut i = from;
     while i < to {
@@ -57,14 +63,20 @@ fn count_digits(text: &[u8], from: usize, to: usize, before: Count) -> Count {
 }
 
 // One digit or more, from the place to the end, and nothing else?
-fn only_digits(text: &[u8], from: usize) -> bool {
+fn only_digits(text: &[u8], from: usize) -> bool
+    requires { ⌜ from ≤ length (now text) ⌝ }
+    ensures { λ r. ⌜ r ≡ onlyDigits (drop from (now (text .entry))) ⌝ }
+{
     if text.len() <= from {
         return false;
     }
     scan::over(text, from, Class::Digit) == text.len()
 }
 
-fn is_exponent(text: &[u8], from: usize) -> bool {
+fn is_exponent(text: &[u8], from: usize) -> bool
+    requires { ⌜ from ≤ length (now text) ⌝ }
+    ensures { λ r. ⌜ r ≡ isExponent (drop from (now (text .entry))) ⌝ }
+{
     if text.len() <= from {
         return false;
     }
@@ -80,14 +92,19 @@ fn is_exponent(text: &[u8], from: usize) -> bool {
     only_digits(text, digits)
 }
 
-fn is_word(text: &[u8]) -> bool {
+fn is_word(text: &[u8]) -> bool
+    ensures { λ r. ⌜ r ≡ isWord (now (text .entry)) ⌝ }
+{
     scan::eq_ignore_ascii_case(text, b"inf")
         || scan::eq_ignore_ascii_case(text, b"infinity")
         || scan::eq_ignore_ascii_case(text, b"nan")
 }
 
 // A decimal whose digits stand before `whole`, and behind its point from `from` to the text's end.
-fn limit(text: &[u8], negative: bool, whole: usize, from: usize, digits: usize, decimals: usize) -> Decimal {
+fn limit(text: &[u8], negative: bool, whole: usize, from: usize, digits: usize, decimals: usize) -> Decimal
+    requires { ⌜ Digital (now text) whole from × (digits ≤ 18) × (decimals < 2 ^ 32) ⌝ }
+    ensures { λ r. ⌜ r ≡ limited negative (take whole (now (text .entry)) ++ drop from (now (text .entry))) (length (now (text .entry)) - from) digits decimals ⌝ }
+{
     let scale = text.len() - from;
     if decimals < scale {
         return Decimal::Beyond;
@@ -105,7 +122,10 @@ fn limit(text: &[u8], negative: bool, whole: usize, from: usize, digits: usize, 
 }
 
 // Where the fraction starts: behind a point, or at the place itself.
-fn fraction_start(text: &[u8], whole: usize) -> usize {
+fn fraction_start(text: &[u8], whole: usize) -> usize
+    requires { ⌜ whole ≤ length (now text) ⌝ }
+    ensures { λ r. ⌜ PointAt (now (text .entry)) whole r ⌝ }
+{
     if whole < text.len() {
         if text[whole] == b'.' {
             return whole + 1;
@@ -114,7 +134,10 @@ fn fraction_start(text: &[u8], whole: usize) -> usize {
     whole
 }
 
-fn read_unsigned(text: &[u8], negative: bool, digits: usize, decimals: usize) -> Decimal {
+fn read_unsigned(text: &[u8], negative: bool, digits: usize, decimals: usize) -> Decimal
+    requires { ⌜ (digits ≤ 18) × (decimals < 2 ^ 32) ⌝ }
+    ensures { λ r. ⌜ r ≡ unsignedDecimal negative (now (text .entry)) digits decimals ⌝ }
+{
     let whole = scan::over(text, 0, Class::Digit);
     let from = fraction_start(text, whole);
     let mut end = whole;
@@ -138,7 +161,10 @@ fn read_unsigned(text: &[u8], negative: bool, digits: usize, decimals: usize) ->
 
 // The decimal that the whole text spells, with at most so many digits after leading zeros and so
 // many behind the point.
-pub fn read_decimal(text: &[u8], digits: usize, decimals: usize) -> Decimal {
+pub fn read_decimal(text: &[u8], digits: usize, decimals: usize) -> Decimal
+    requires { ⌜ (digits ≤ 18) × (decimals < 2 ^ 32) ⌝ }
+    ensures { λ r. ⌜ r ≡ decimalOf (now (text .entry)) digits decimals ⌝ }
+{
     if text.len() == 0 {
         return Decimal::Nothing;
     }

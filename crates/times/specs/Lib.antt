@@ -1,3 +1,3 @@
 pub mod Sums
-pub mod Time
+pub mod Expressions
 pub mod Written

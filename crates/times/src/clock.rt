@@ -1,6 +1,11 @@
 // Clock times, and the choice between them and offset times.
 ghost use mathlib.Core.Path.{_≡_};
-ghost use Rattle.times.specs.Time.{timeIn};
+ghost use Prim.Native.Nat.{_≤_, _<_, min};
+ghost use lib.ListN.{length, take};
+ghost use Rattle.scan.specs.Split.{splitAt};
+ghost use Rattle.times.specs.Sums as sums;
+ghost use Rattle.times.specs.Expressions as expressions;
+ghost use Rattle.times.specs.Expressions.{timeDecimal, timeOf, charsLength, microsOf, secondsOf, afterHours, afterMinutes, afterSeconds, clockTime, timeIn};
 
 use crate::offset::Time;
 use crate::offset::TimingCtx;
@@ -9,18 +14,24 @@ use decimals::Decimal;
 use numerals::Numeral;
 use numerals::Whole;
 
-fn integer(text: &[u8]) -> Numeral {
+fn integer(text: &[u8]) -> Numeral
+    ensures { λ r. ⌜ r ≡ expressions.integer (now (text .entry)) ⌝ }
+{
     numerals::read_numeral(text, 10, 9223372036854775807, true)
 }
 
-fn time_of(sum: Sum) -> Time {
+fn time_of(sum: Sum) -> Time
+    ensures { λ r. ⌜ r ≡ timeOf sum ⌝ }
+{
     match sum {
         Sum::Is(us) => Time::Is(us),
         Sum::Overflow => Time::Overflow,
     }
 }
 
-fn plus(a: Sum, b: Sum) -> Sum {
+fn plus(a: Sum, b: Sum) -> Sum
+    ensures { λ r. ⌜ r ≡ sums.plus a b ⌝ }
+{
     match a {
         Sum::Is(x) => match b {
             Sum::Is(y) => crate::sums::add(x, y),
@@ -31,7 +42,9 @@ fn plus(a: Sum, b: Sum) -> Sum {
 }
 
 // How many bytes the first six characters have; 7 where they have more than six.
-fn six_chars(text: &[u8]) -> usize {
+fn six_chars(text: &[u8]) -> usize
+    ensures { λ r. ⌜ (r ≡ min (charsLength 6 (now (text .entry))) 7) × (r ≤ 7) ⌝ }
+{
     let mut chars = 0;
     let mut i = 0;
     while i < text.len() {
@@ -53,7 +66,10 @@ fn six_chars(text: &[u8]) -> usize {
 }
 
 // The microseconds of a fraction of up to six bytes, zeros added; 0 where it is no number.
-fn micros(text: &[u8], len: usize) -> Sum {
+fn micros(text: &[u8], len: usize) -> Sum
+    requires { ⌜ (len ≤ 6) × (len ≤ length (now text)) ⌝ }
+    ensures { λ r. ⌜ r ≡ Sum.Is (microsOf (take len (now (text .entry)))) ⌝ }
+{
     let mut six = [b'0'; 6];
     let mut i = 0;
     while i < len {
@@ -66,7 +82,9 @@ fn micros(text: &[u8], len: usize) -> Sum {
     }
 }
 
-fn fractioned(seconds: Whole, fraction: &[u8]) -> Time {
+fn fractioned(seconds: Whole, fraction: &[u8]) -> Time
+    ensures { λ r. ⌜ r ≡ expressions.fractioned (Numeral.Is seconds) (now (fraction .entry)) ⌝ }
+{
     let len = six_chars(fraction);
     if 6 < len {
         return Time::Cut;
@@ -74,7 +92,9 @@ fn fractioned(seconds: Whole, fraction: &[u8]) -> Time {
     time_of(plus(crate::sums::times(seconds, 1000000), micros(fraction, len)))
 }
 
-fn seconds(text: &[u8]) -> Time {
+fn seconds(text: &[u8]) -> Time
+    ensures { λ r. ⌜ r ≡ secondsOf (now (text .entry)) ⌝ }
+{
     let point = scan::find_byte(text, 0, b'.');
     match integer(&text[..point]) {
         Numeral::Is(w) => {
@@ -88,7 +108,9 @@ fn seconds(text: &[u8]) -> Time {
     }
 }
 
-fn summed(h: Whole, m: Whole, s: Time) -> Time {
+fn summed(h: Whole, m: Whole, s: Time) -> Time
+    ensures { λ r. ⌜ r ≡ expressions.summed (Numeral.Is h) (Numeral.Is m) s ⌝ }
+{
     match s {
         Time::Is(us) => {
             let hours = crate::sums::times(h, 3600000000);
@@ -99,7 +121,9 @@ fn summed(h: Whole, m: Whole, s: Time) -> Time {
     }
 }
 
-fn framed(us: i64, frames: &[u8], ctx: TimingCtx) -> Time {
+fn framed(us: i64, frames: &[u8], ctx: TimingCtx) -> Time
+    ensures { λ r. ⌜ r ≡ expressions.framed (Time.Is us) (timeDecimal (now (frames .entry))) ctx ⌝ }
+{
     match decimals::read_decimal(frames, 15, 22) {
         Decimal::Is(d) => {
             if ctx.has_frame_rate {
@@ -116,7 +140,9 @@ fn framed(us: i64, frames: &[u8], ctx: TimingCtx) -> Time {
 }
 
 // The clock time whose hours are h and whose minutes start at a place.
-fn after_hours(h: Whole, text: &[u8], ctx: TimingCtx) -> Time {
+fn after_hours(h: Whole, text: &[u8], ctx: TimingCtx) -> Time
+    ensures { λ r. ⌜ r ≡ afterHours (Numeral.Is h) (splitAt 58 (now (text .entry))) ctx ⌝ }
+{
     let colon = scan::find_byte(text, 0, b':');
     match integer(&text[..colon]) {
         Numeral::Is(m) => {
@@ -129,7 +155,9 @@ fn after_hours(h: Whole, text: &[u8], ctx: TimingCtx) -> Time {
     }
 }
 
-fn after_minutes(h: Whole, m: Whole, text: &[u8], ctx: TimingCtx) -> Time {
+fn after_minutes(h: Whole, m: Whole, text: &[u8], ctx: TimingCtx) -> Time
+    ensures { λ r. ⌜ r ≡ afterMinutes (Numeral.Is h) (Numeral.Is m) (splitAt 58 (now (text .entry))) ctx ⌝ }
+{
     let colon = scan::find_byte(text, 0, b':');
     let total = summed(h, m, seconds(&text[..colon]));
     if text.len() <= colon {
@@ -141,12 +169,16 @@ fn after_minutes(h: Whole, m: Whole, text: &[u8], ctx: TimingCtx) -> Time {
     }
 }
 
-fn after_seconds(us: i64, text: &[u8], ctx: TimingCtx) -> Time {
+fn after_seconds(us: i64, text: &[u8], ctx: TimingCtx) -> Time
+    ensures { λ r. ⌜ r ≡ afterSeconds (Time.Is us) (splitAt 58 (now (text .entry))) ctx ⌝ }
+{
     let colon = scan::find_byte(text, 0, b':');
     framed(us, &text[..colon], ctx)
 }
 
-fn clock_time(text: &[u8], ctx: TimingCtx) -> Time {
+fn clock_time(text: &[u8], ctx: TimingCtx) -> Time
+    ensures { λ r. ⌜ r ≡ clockTime (now (text .entry)) ctx ⌝ }
+{
     let colon = scan::find_byte(text, 0, b':');
     if text.len() <= colon {
         return Time::Nothing;
@@ -158,7 +190,10 @@ fn clock_time(text: &[u8], ctx: TimingCtx) -> Time {
 }
 
 // A time expression without white space around it.
-fn expression(text: &[u8], ctx: TimingCtx) -> Time {
+fn expression(text: &[u8], ctx: TimingCtx) -> Time
+    requires { ⌜ 0 < length (now text) ⌝ }
+    ensures { λ r. ⌜ r ≡ expressions.expression (now (text .entry)) ctx ⌝ }
+{
     let end = text.len() - 1;
     let last = text[end];
     match last {

@@ -1,7 +1,7 @@
 // Offset times: a count and its metric.
 ghost use mathlib.Core.Path.{_≡_};
-ghost use lib.Ieee.{binary64};
-ghost use Rattle.times.specs.Time.{each, counted, frameRate, tickRate, offsetOf, offsetTime};
+ghost use Rattle.unicode.specs.White.{trimmed};
+ghost use Rattle.times.specs.Expressions.{timeDecimal, eachTime, rateTime, given};
 
 use decimals::Decimal;
 
@@ -28,7 +28,9 @@ pub enum Time {
 }
 
 // The decimal that a count spells, white space around it passed over.
-pub fn read_count(text: &[u8]) -> Decimal {
+pub fn read_count(text: &[u8]) -> Decimal
+    ensures { λ r. ⌜ r ≡ timeDecimal (trimmed (now (text .entry))) ⌝ }
+{
     let span = unicode::trim(text);
     let start = span.start;
     let end = span.end;
@@ -36,7 +38,9 @@ pub fn read_count(text: &[u8]) -> Decimal {
 }
 
 // So many units, each so many microseconds.
-pub fn units(text: &[u8], unit: f64) -> Time {
+pub fn units(text: &[u8], unit: f64) -> Time
+    ensures { λ r. ⌜ r ≡ eachTime (timeDecimal (trimmed (now (text .entry)))) unit ⌝ }
+{
     match read_count(text) {
         Decimal::Is(d) => Time::Is(decimals::truncate(decimals::to_f64(d) * unit)),
         Decimal::Nothing => Time::Nothing,
@@ -45,7 +49,9 @@ pub fn units(text: &[u8], unit: f64) -> Time {
 }
 
 // So many frames or ticks, at a rate of so many a second.
-pub fn at_rate(text: &[u8], present: bool, rate: f64) -> Time {
+pub fn at_rate(text: &[u8], present: bool, rate: f64) -> Time
+    ensures { λ r. ⌜ r ≡ rateTime (timeDecimal (trimmed (now (text .entry)))) (given present rate) ⌝ }
+{
     match read_count(text) {
         Decimal::Is(d) => {
             if !present {

@@ -1,6 +1,6 @@
 // Signed sums and products of times, tested for overflow.
 ghost use mathlib.Core.Path.{_≡_};
-ghost use Prim.Native.Nat.{_≤_, _<_, _^_};
+ghost use Prim.Native.Nat.{_<_};
 ghost use lib.IntN.{_+ℤ_, _*ℤ_, pos};
 ghost use Rattle.times.specs.Sums.{checked, signed};
 
@@ -28,7 +28,7 @@ pub fn add(a: i64, b: i64) -> Sum
 }
 
 // The i64 of a sign and a magnitude, if it is one.
-fn whole(w: Whole) -> Sum
+pub fn whole(w: Whole) -> Sum
     ensures { λ r. ⌜ r ≡ checked (signed (w .negative) (w .magnitude)) ⌝ }
 {
     let size = w.magnitude;
@@ -50,7 +50,7 @@ fn whole(w: Whole) -> Sum
 
 // A whole number of units, each so many microseconds.
 pub fn times(w: Whole, unit: u64) -> Sum
-    requires { ⌜ (0 < unit) × (w .magnitude < 2 ^ 64) ⌝ }
+    requires { ⌜ 0 < unit ⌝ }
     ensures { λ r. ⌜ r ≡ checked (signed (w .negative) (w .magnitude) *ℤ pos unit) ⌝ }
 {
     let size = w.magnitude;

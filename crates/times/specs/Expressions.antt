@@ -11,6 +11,7 @@ use lib.ListN.{length, getD, take, drop, replicate}
 use lib.Dec.{eqb, leb, ltb}
 use lib.IntN.{ℤ, pos, _+ℤ_, _*ℤ_}
 use lib.Ieee.{Float, fin, binary64, mul, div, lt, le, ofInt, toSigned}
+use Rattle.scan.specs.Split.{splitAt, Halves, halves, no-half, splitOnce}
 use Rattle.unicode.specs.White.{trimmed}
 use Rattle.numerals.specs.declared.Numeral.{Numeral}
 use Rattle.numerals.specs.Numerals.{numeralOf}
@@ -56,41 +57,41 @@ pub data Rate : Type 0 where
   rate : Float → Rate
   no-rate : Rate
 
+abbrev pub given : Bool → Float → Rate
+given present r = cond present (rate r) no-rate
+
 abbrev pub frameRate : TimingCtx → Rate
-frameRate ctx = cond (ctx .«has_frame_rate») (rate (ctx .«frame_rate»)) no-rate
+frameRate ctx = given (ctx .«has_frame_rate») (ctx .«frame_rate»)
 
 abbrev pub tickRate : TimingCtx → Rate
-tickRate ctx = cond (ctx .«has_tick_rate») (rate (ctx .«tick_rate»)) no-rate
+tickRate ctx = given (ctx .«has_tick_rate») (ctx .«tick_rate»)
+
+-- so many microseconds each, the product rounded and then cut
+abbrev pub eachTime : Decimal → Float → Time
+eachTime (Decimal.Is d) u = Is (cut (mul binary64 (valueIn binary64 (d .negative) (d .digits) (d .scale)) u))
+eachTime Decimal.Nothing u = Nothing
+eachTime Decimal.Beyond u = Digits
 
 -- v / rate seconds, each operation rounded; no time without a rate, or with one at or below 0
 abbrev pub counted : Float → Rate → Time
 counted v (rate r) = cond (le r (float 0)) Nothing (Is (cut (mul binary64 (div binary64 v r) (float 1000000))))
 counted v no-rate = Nothing
 
-abbrev pub measured : Float → Metric → TimingCtx → Time
-measured v (each u) ctx = Is (cut (mul binary64 v (float u)))
-measured v by-frames ctx = counted v (frameRate ctx)
-measured v by-ticks ctx = counted v (tickRate ctx)
+abbrev pub rateTime : Decimal → Rate → Time
+rateTime (Decimal.Is d) r = counted (valueIn binary64 (d .negative) (d .digits) (d .scale)) r
+rateTime Decimal.Nothing r = Nothing
+rateTime Decimal.Beyond r = Digits
 
 abbrev pub offsetOf : Decimal → Metric → TimingCtx → Time
-offsetOf (Decimal.Is d) m ctx = measured (valueIn binary64 (d .negative) (d .digits) (d .scale)) m ctx
-offsetOf Decimal.Nothing m ctx = Nothing
-offsetOf Decimal.Beyond m ctx = Digits
+offsetOf d (each u) ctx = eachTime d (float u)
+offsetOf d by-frames ctx = rateTime d (frameRate ctx)
+offsetOf d by-ticks ctx = rateTime d (tickRate ctx)
 
 -- a time-count and its metric; white space may stand around the count
 unfoldable pub offsetTime : List ℕ → Metric → TimingCtx → Time
 offsetTime n m ctx = offsetOf (timeDecimal (trimmed n)) m ctx
 
 -- ---- clock times
-
--- the parts of s between the bytes b: one more than there are such bytes
-unfoldable pub splitAt : ℕ → List ℕ → List (List ℕ)
-splitAt b [] = [] ∷ []
-splitAt b (a ∷ s) = cond (eqb a b) ([] ∷ splitAt b s) (joined (splitAt b s))
-  where
-    joined : List (List ℕ) → List (List ℕ)
-    joined [] = (a ∷ []) ∷ []
-    joined (w ∷ ws) = (a ∷ w) ∷ ws
 
 -- hours, minutes, seconds: whole numbers of units, as Rust reads an i64
 abbrev pub integer : List ℕ → Numeral
@@ -108,25 +109,15 @@ charsLength (suc n) (b ∷ s) = cond (leb 0x80 b && leb b 0xBF) (suc (charsLengt
 
 -- The first six characters of a fraction, zeros added up to six bytes, as a number of microseconds; 0 where they are no number. A fraction
 -- whose first six characters have more than six bytes is where the Rust stops: number 15.
-unfoldable pub micros : List ℕ → ℤ
-micros f = microsOf (integer (take 6 (take (charsLength 6 f) f ++ replicate 6 48)))
-  where
-    microsOf : Numeral → ℤ
-    microsOf (Numeral.Is w) = signed (w .negative) (w .magnitude)
-    microsOf Numeral.Nothing = pos 0
+abbrev pub numberIn : Numeral → ℤ
+numberIn (Numeral.Is w) = signed (w .negative) (w .magnitude)
+numberIn Numeral.Nothing = pos 0
 
--- the part before the first b, and the part after it; or no such byte
-pub data Halves : Type 0 where
-  halves : (before after : List ℕ) → Halves
-  no-half : Halves
+unfoldable pub microsOf : List ℕ → ℤ
+microsOf w = numberIn (integer (take 6 (w ++ replicate 6 48)))
 
-abbrev pub onward : ℕ → Halves → Halves
-onward a (halves x y) = halves (a ∷ x) y
-onward a no-half = no-half
-
-unfoldable pub splitOnce : ℕ → List ℕ → Halves
-splitOnce b [] = no-half
-splitOnce b (a ∷ s) = cond (eqb a b) (halves [] s) (onward a (splitOnce b s))
+abbrev pub micros : List ℕ → ℤ
+micros f = microsOf (take (charsLength 6 f) f)
 
 abbrev pub timeOf : Sum → Time
 timeOf (Sum.Is z) = Is z
@@ -148,7 +139,7 @@ secondsIn s no-half = unfractioned (integer s)
 
 -- the seconds of a clock time, in microseconds: without a point, or with a fraction behind the first one
 unfoldable pub secondsOf : List ℕ → Time
-unfolding splitOnce micros
+unfolding splitOnce
 secondsOf s = secondsIn s (splitOnce 46 s)
 
 -- Hours, minutes and seconds summed from left to right, each product and each sum tested. Hours and minutes are numbers before the seconds are
@@ -176,13 +167,22 @@ framed (Is z) Decimal.Nothing ctx = Is z
 framed (Is z) Decimal.Beyond ctx = Digits
 framed t d ctx = t
 
--- parts between colons: hours and minutes; seconds behind them; frames behind those; further parts are not looked at
+-- Parts between colons: hours and minutes; seconds behind them; frames behind those; further parts are not looked at.
+abbrev pub afterSeconds : Time → List (List ℕ) → TimingCtx → Time
+afterSeconds t [] ctx = t
+afterSeconds t (f ∷ more) ctx = framed t (timeDecimal f) ctx
+
+abbrev pub afterMinutes : Numeral → Numeral → List (List ℕ) → TimingCtx → Time
+afterMinutes h m [] ctx = summed h m (Is (pos 0))
+afterMinutes h m (s ∷ more) ctx = afterSeconds (summed h m (secondsOf s)) more ctx
+
+abbrev pub afterHours : Numeral → List (List ℕ) → TimingCtx → Time
+afterHours h [] ctx = Nothing
+afterHours h (m ∷ more) ctx = afterMinutes h (integer m) more ctx
+
 abbrev pub clockOf : List (List ℕ) → TimingCtx → Time
 clockOf [] ctx = Nothing
-clockOf (h ∷ []) ctx = Nothing
-clockOf (h ∷ m ∷ []) ctx = summed (integer h) (integer m) (Is (pos 0))
-clockOf (h ∷ m ∷ s ∷ []) ctx = summed (integer h) (integer m) (secondsOf s)
-clockOf (h ∷ m ∷ s ∷ f ∷ more) ctx = framed (summed (integer h) (integer m) (secondsOf s)) (timeDecimal f) ctx
+clockOf (h ∷ more) ctx = afterHours (integer h) more ctx
 
 unfoldable pub clockTime : List ℕ → TimingCtx → Time
 unfolding splitAt secondsOf
