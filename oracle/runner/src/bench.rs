@@ -6,8 +6,8 @@ use std::process::ExitCode;
 use std::time::{Duration, Instant};
 
 /// A round of one side repeats its call for about this long; of so many rounds the best counts.
-const ROUND: Duration = Duration::from_millis(10);
-const ROUNDS: usize = 15;
+const ROUND: Duration = Duration::from_millis(2);
+const ROUNDS: usize = 60;
 
 /// The length of the inputs: the longest text that the port takes.
 pub const BYTES: usize = 65_536;

@@ -90,7 +90,7 @@ pub fn corners() -> Vec<Vec<u8>> {
 fn bench(bench: &mut Bench) {
     for (name, text) in [("ASCII", prose(0)), ("mixed", mixed()), ("CJK", cjk())] {
         let text = text.as_bytes();
-        assert_eq!(valid_end(text), port::probe_utf8_end(text));
+        assert_eq!(valid_end(text), port::probe_utf8_end(text), "utf8_end differs on {name}");
         bench.row(
             &format!("utf8_end, {name}"),
             text.len(),
