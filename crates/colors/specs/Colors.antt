@@ -1,8 +1,8 @@
 -- Colours, from TTML 2, 10.3.8 <color>:
 --     <color> : "#" rrggbb | "#" rrggbbaa | "rgb" "(" r-value "," g-value "," b-value ")" | "rgba" "(" .. ")" | <named-color>
 -- and the Rust's `parse_ttml_color_rgba`. docs/DIFFERENCES.md says where the two differ. Definitions alone.
-use Prim.Native.Nat.{ℕ, _+_, _-_}
-use mathlib.Core.Bool.{Bool, cond, not, _&&_, _||_}
+use Prim.Native.Nat.{ℕ, _+_, _-_, _*_, _≤_}
+use mathlib.Core.Bool.{Bool, true, false, cond, not, _&&_, _||_}
 use mathlib.Core.List.{List, [], _∷_, _++_}
 use lib.ListN.{length, getD, take, drop}
 use lib.Dec.{eqb, leb}
@@ -63,20 +63,22 @@ hexColor s =
     (after (hexChannel s 0 2 once) λ r. after (hexChannel s 2 4 once) λ g. after (hexChannel s 4 6 once) λ b. Color.Is (rgba r g b 255))
     (cond (eqb (length s) 8)
     (after (hexChannel s 0 2 once) λ r. after (hexChannel s 2 4 once) λ g. after (hexChannel s 4 6 once) λ b.
-        after (hexChannel s 6 8 once) λ a. Color.Is (rgba r g b a))
+    after (hexChannel s 6 8 once) λ a. Color.Is (rgba r g b a))
     Color.Nothing))
 
 -- a decimal channel; white space may stand around it
 abbrev pub decimalChannel : List ℕ → Channel
 decimalChannel s = channelOf (numeralOf (trimmed s) 10 255 false)
 
+abbrev pub rgbOf : List ℕ → List ℕ → List ℕ → Color
+rgbOf x y z = after (decimalChannel x) λ r. after (decimalChannel y) λ g. after (decimalChannel z) λ b. Color.Is (rgba r g b 255)
+
 -- what stands between `rgb(` and `)`: three channels; any other number of them is looked for among the names
 abbrev pub rgbParts : List ℕ → List (List ℕ) → Color
 rgbParts s [] = namedIn s colorTable
 rgbParts s (x ∷ []) = namedIn s colorTable
 rgbParts s (x ∷ y ∷ []) = namedIn s colorTable
-rgbParts s (x ∷ y ∷ z ∷ []) =
-    after (decimalChannel x) λ r. after (decimalChannel y) λ g. after (decimalChannel z) λ b. Color.Is (rgba r g b 255)
+rgbParts s (x ∷ y ∷ z ∷ []) = rgbOf x y z
 rgbParts s (x ∷ y ∷ z ∷ w ∷ more) = namedIn s colorTable
 
 -- `rgb(` and at the end `)`, which is another byte than the bracket that opens
@@ -95,3 +97,38 @@ color (b ∷ s) =
 unfoldable pub colorIn : List ℕ → Color
 unfolding color
 colorIn s = color (trimmed s)
+
+-- the same without its alpha (the Rust's `parse_ttml_color_rgb`)
+abbrev pub opaque : Color → Color
+opaque (Color.Is c) = Color.Is (rgba (c .r) (c .g) (c .b) 255)
+opaque Color.Nothing = Color.Nothing
+opaque Color.Cut = Color.Cut
+
+-- ---- what the program's steps ensure
+
+-- a number that is a channel
+abbrev pub Small : Numeral → Type 0
+Small (Numeral.Is w) = w .magnitude ≤ 255
+Small Numeral.Nothing = Unit {0}
+
+-- the text has three channels of the width, or four of two digits
+pub record Channels (s : List ℕ) (width : ℕ) : Type 0 where
+  pub some : 1 ≤ width
+  pub few : width ≤ 2
+  pub room : 3 * width ≤ length s
+
+abbrev pub copies : ℕ → List ℕ → List ℕ
+copies width w = cond (eqb width 1) (twice w) (once w)
+
+abbrev pub hexAlpha : List ℕ → ℕ → ℕ → ℕ → Color
+hexAlpha s r g b =
+    cond (eqb (length s) 8) (after (hexChannel s 6 8 (copies 2)) λ a. Color.Is (rgba r g b a)) (Color.Is (rgba r g b 255))
+
+abbrev pub hexBlue : List ℕ → ℕ → ℕ → ℕ → Color
+hexBlue s width r g = after (hexChannel s (2 * width) (2 * width + width) (copies width)) λ b. hexAlpha s r g b
+
+abbrev pub hexGreen : List ℕ → ℕ → ℕ → Color
+hexGreen s width r = after (hexChannel s width (width + width) (copies width)) λ g. hexBlue s width r g
+
+abbrev pub hexRed : List ℕ → ℕ → Color
+hexRed s width = after (hexChannel s 0 (0 + width) (copies width)) λ r. hexGreen s width r

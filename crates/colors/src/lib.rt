@@ -5,6 +5,7 @@ mod write;
 
 pub use read::Color;
 pub use read::Rgba;
+pub use read::parse_ttml_color_rgb;
 pub use read::parse_ttml_color_rgba;
 pub use write::append_rgb;
 pub use write::append_rgba;

@@ -1,15 +1,17 @@
 // A colour written in hexadecimal.
 ghost use mathlib.Core.Path.{_≡_};
-ghost use Prim.Native.Nat.{_≤_};
+ghost use Prim.Native.Nat.{_+_, _≤_};
 ghost use lib.ListN.{length};
-ghost use Rattle.scan.specs.Posts.{Wrote};
+ghost use Rattle.scan.specs.Posts.{Appended, Wrote};
 ghost use Rattle.colors.specs.Written.{rgbText, rgbaText};
-
 use crate::read::Rgba;
 use scan::Written;
 
 // Red, green and blue after a `#`, at a place with room for them.
-fn put_rgb(out: &mut [u8], at: usize, c: Rgba) -> usize {
+fn put_rgb(out: &mut [u8], at: usize, c: Rgba) -> usize
+    requires { ⌜ at + 7 ≤ length (now out) ⌝ }
+    ensures { λ r. ⌜ Appended (rgbText c) at (now (out .entry)) (now (out .exit)) r ⌝ }
+{
     out[at] = b'#';
     let green = numerals::put_digits(out, at + 1, c.r as u64, 16, 2);
     let blue = numerals::put_digits(out, green, c.g as u64, 16, 2);

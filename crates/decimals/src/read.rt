@@ -5,7 +5,6 @@ ghost use Prim.Native.Nat.{_-_, _≤_, _<_, _^_};
 ghost use lib.ListN.{length, take, drop};
 ghost use Rattle.decimals.specs.Decimal.{onlyDigits, isExponent, isWord, limited, unsignedDecimal, decimalOf};
 ghost use Rattle.decimals.specs.Counted.{OneMore, Room, Further, Digital, PointAt};
-
 use scan::Class;
 
 // digits / 10^scale, negative or not
@@ -40,7 +39,10 @@ fn count_digit(before: Count, b: u8) -> Count
     }
     let significant = before.significant + 1;
     if 18 < significant {
-        return Count { value: 0, significant };
+        return Count {
+            value: 0,
+            significant,
+        };
     }
     Count {
         value: before.value * 10 + d,
@@ -101,7 +103,14 @@ fn is_word(text: &[u8]) -> bool
 }
 
 // A decimal whose digits stand before `whole`, and behind its point from `from` to the text's end.
-fn limit(text: &[u8], negative: bool, whole: usize, from: usize, digits: usize, decimals: usize) -> Decimal
+fn limit(
+    text: &[u8],
+    negative: bool,
+    whole: usize,
+    from: usize,
+    digits: usize,
+    decimals: usize,
+) -> Decimal
     requires { ⌜ Digital (now text) whole from × (digits ≤ 18) × (decimals < 2 ^ 32) ⌝ }
     ensures { λ r. ⌜ r ≡ limited negative (take whole (now (text .entry)) ++ drop from (now (text .entry))) (length (now (text .entry)) - from) digits decimals ⌝ }
 {
@@ -109,7 +118,10 @@ fn limit(text: &[u8], negative: bool, whole: usize, from: usize, digits: usize, 
     if decimals < scale {
         return Decimal::Beyond;
     }
-    let none = Count { value: 0, significant: 0 };
+    let none = Count {
+        value: 0,
+        significant: 0,
+    };
     let count = count_digits(text, from, text.len(), count_digits(text, 0, whole, none));
     if digits < count.significant {
         return Decimal::Beyond;

@@ -7,7 +7,6 @@ ghost use lib.Ieee.{isNan};
 ghost use Rattle.scan.specs.Posts.{Appended, Wrote};
 ghost use Rattle.decimals.specs.Floats.{sameFloat};
 ghost use Rattle.decimals.specs.Size.{reduced, sizeOf, isSize, spelling};
-
 use crate::read::Digits;
 use scan::Written;
 

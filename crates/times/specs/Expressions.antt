@@ -155,17 +155,22 @@ summed (Numeral.Is h) (Numeral.Is m) Cut = Cut
 summed (Numeral.Is h) (Numeral.Is m) Overflow = Overflow
 
 -- Frames are added where there is a rate above 0; what is no decimal adds nothing. White space around them makes them none.
-abbrev pub framesAt : Time → Float → Rate → Time
-framesAt (Is z) v (rate r) =
+abbrev pub framesAt : ℤ → Float → Rate → Time
+framesAt z v (rate r) =
     cond (lt (float 0) r) (timeOf (checked (z +ℤ cut (mul binary64 (div binary64 v r) (float 1000000))))) (Is z)
-framesAt (Is z) v no-rate = Is z
-framesAt t v r = t
+framesAt z v no-rate = Is z
+
+abbrev pub framesIn : ℤ → Decimal → TimingCtx → Time
+framesIn z (Decimal.Is d) ctx = framesAt z (valueIn binary64 (d .negative) (d .digits) (d .scale)) (frameRate ctx)
+framesIn z Decimal.Nothing ctx = Is z
+framesIn z Decimal.Beyond ctx = Digits
 
 abbrev pub framed : Time → Decimal → TimingCtx → Time
-framed (Is z) (Decimal.Is d) ctx = framesAt (Is z) (valueIn binary64 (d .negative) (d .digits) (d .scale)) (frameRate ctx)
-framed (Is z) Decimal.Nothing ctx = Is z
-framed (Is z) Decimal.Beyond ctx = Digits
-framed t d ctx = t
+framed (Is z) d ctx = framesIn z d ctx
+framed Nothing d ctx = Nothing
+framed Digits d ctx = Digits
+framed Cut d ctx = Cut
+framed Overflow d ctx = Overflow
 
 -- Parts between colons: hours and minutes; seconds behind them; frames behind those; further parts are not looked at.
 abbrev pub afterSeconds : Time → List (List ℕ) → TimingCtx → Time

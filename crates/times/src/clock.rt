@@ -6,7 +6,6 @@ ghost use Rattle.scan.specs.Split.{splitAt};
 ghost use Rattle.times.specs.Sums as sums;
 ghost use Rattle.times.specs.Expressions as expressions;
 ghost use Rattle.times.specs.Expressions.{timeDecimal, timeOf, charsLength, microsOf, secondsOf, afterHours, afterMinutes, afterSeconds, clockTime, timeIn};
-
 use crate::offset::Time;
 use crate::offset::TimingCtx;
 use crate::sums::Sum;

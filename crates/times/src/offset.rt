@@ -2,7 +2,6 @@
 ghost use mathlib.Core.Path.{_≡_};
 ghost use Rattle.unicode.specs.White.{trimmed};
 ghost use Rattle.times.specs.Expressions.{timeDecimal, eachTime, rateTime, given};
-
 use decimals::Decimal;
 
 // The frame rate and the tick rate that a document gives, if it does.

@@ -3,7 +3,6 @@ ghost use mathlib.Core.Path.{_≡_};
 ghost use Prim.Native.Nat.{_<_};
 ghost use lib.IntN.{_+ℤ_, _*ℤ_, pos};
 ghost use Rattle.times.specs.Sums.{checked, signed};
-
 use numerals::Whole;
 
 pub enum Sum {

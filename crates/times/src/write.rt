@@ -4,7 +4,6 @@ ghost use Prim.Native.Nat.{_+_, _≤_};
 ghost use lib.ListN.{length};
 ghost use Rattle.scan.specs.Posts.{Wrote, Appended};
 ghost use Rattle.times.specs.Written.{millis, clockText, field, hoursWidth};
-
 use scan::Written;
 
 // Whole milliseconds of a time; one below zero counts as zero.
