@@ -96,12 +96,13 @@ module _ (c : Rgba) (w : Bytes c) where
 
   rgb-visible : Visible (rgbText c)
   unfolding rgbText padded
-  rgb-visible = (omega arith, omega arith, visible-hex (c .r) _ (visible-hex (c .g) _ (visible-hex (c .b) [] tt)))
+  rgb-visible =
+      (omega arith, omega arith, visible-hex (c .r) (hex (c .g) ++ hex (c .b)) (visible-hex (c .g) (hex (c .b)) (visible-hex (c .b) [] tt)))
 
   rgba-visible : Visible (rgbaText c)
   unfolding rgbaText padded
   rgba-visible =
-      (omega arith, omega arith, visible-hex (c .r) _ (visible-hex (c .g) _ (visible-hex (c .b) _ (visible-hex (c .a) [] tt))))
+      (omega arith, omega arith, visible-hex (c .r) (hex (c .g) ++ hex (c .b) ++ hex (c .a)) (visible-hex (c .g) (hex (c .b) ++ hex (c .a)) (visible-hex (c .b) (hex (c .a)) (visible-hex (c .a) [] tt))))
 
   pub rgb-back : colorIn (rgbText c) ≡ Color.Is (rgba (c .r) (c .g) (c .b) 255)
   unfolding colorIn rgbText padded

@@ -4,8 +4,9 @@ use mathlib.Core.Path.{_≡_, refl, sym, _∙_}
 use mathlib.Core.Bool.{true, false, and-false, or-true}
 use mathlib.Core.List.{List, [], _∷_, _++_}
 use native.Mathlib.Omega.{arith}
+use native.Mathlib.Nat.{sub-zero}
 use lib.Dec.{ltb}
-use lib.ListN.{length, getD, drop, length-drop}
+use lib.ListN.{length, getD, take, drop, length-drop}
 use lib.Seq.{take-all, drop-cons, drop-drop}
 use borrow.Author.Tests.{ltb-true, ltb-false, le-leb, lt-leb, eq-eqb, ne-eqb}
 use Rattle.scan.specs.Bytes.{other, runEnd}
@@ -142,8 +143,8 @@ module _ (s w : List ℕ) (one : ℕ) (x : Ends (other 44) w 0 one) where
     parts-two g = rw (split-part 44 w 0 one x h, split-rest 44 w (one + 1) two y g)
 
     module _ (g : two < length w) (three : ℕ) (z : Ends (other 44) w (two + 1) three) where
-      pub parts-three : length w ≤ three → rgbParts s (splitAt 44 w) ≡ rgbOf (part 0 one w) (part (one + 1) two w) (drop (two + 1) w)
-      parts-three k = rw (split-part 44 w 0 one x h, split-part 44 w (one + 1) two y g, split-rest 44 w (two + 1) three z k)
+      pub parts-three : length w ≤ three → rgbParts s (splitAt 44 w) ≡ rgbOf (take one w) (part (one + 1) two w) (part (two + 1) (length w) w)
+      parts-three k = rw (split-part 44 w 0 one x h, split-part 44 w (one + 1) two y g, split-rest 44 w (two + 1) three z k, to-end w (two + 1), sub-zero one)
 
       pub parts-many : three < length w → rgbParts s (splitAt 44 w) ≡ namedIn s colorTable
       parts-many k =

@@ -1,5 +1,6 @@
 -- `rgb_color` answers the colour of three channels between commas, and of any other number of them that of the name.
 use mathlib.Core.Path.{sym, _∙_}
+use lib.Seq.{length-take-le}
 use Rattle.colors.proofs.Reading.{parts-one, parts-two, parts-three, parts-many}
 use borrow.Author.Needs.{needs}
 use Rattle.colors.proofs.read.rgb_color.Statement.{statement}
@@ -42,7 +43,8 @@ returns-3 c =
     c .named3 .ensures ∙ sym (parts-many (c .before .before .before .before .before .before .before .before .before .args .text .now) (c .before .before .before .before .before .before .before .before .before .args .inside .now) _ (c .before .before .before .before .before .before .find-byte .ensures) (c .before .before .before .before .before .if1 .left) _ (c .before .before .before .before .find-byte2 .ensures) (c .before .before .before .if2 .left) _ (c .before .before .find-byte3 .ensures) (c .before .if3 .taken))
 
 slice-aggregate-rgb-red : tie.Need-slice-aggregate-rgb-red
-slice-aggregate-rgb-red c = search needs
+slice-aggregate-rgb-red c =
+    sym (length-take-le (c .before .before .before .before .before .before .find-byte .result) (c .before .before .before .before .before .before .before .before .before .args .inside .now) (c .before .before .before .before .before .before .find-byte .ensures .within))
 
 add-rgb-red : tie.Need-add-rgb-red
 add-rgb-red c = search needs
