@@ -20,7 +20,7 @@ use Rattle.numerals.proofs.Writing.{char-low, char-high, padded-length, padded-
 use Rattle.colors.specs.declared.read.Rgba.{Rgba}
 use Rattle.colors.specs.declared.read.Color.{Color}
 use Rattle.colors.specs.Named.{rgba}
-use Rattle.colors.specs.Colors.{boundary, hexChannel, hexColor, color, colorIn}
+use Rattle.colors.specs.Colors.{boundary, hexChannel, hexColor, colorIn}
 use Rattle.colors.specs.Written.{hex, rgbText, rgbaText}
 use Rattle.colors.proofs.Reading.{color-hash}
 
@@ -77,6 +77,11 @@ hex-back n h =
 starts : (n : ℕ) → leb 0x80 (digitChar (n / 16 % 16)) ≡ false
 starts n = lt-leb 0x80 (digitChar (n / 16 % 16)) (digit-visible (n / 16) .1)
 
+hash-back : (w : List ℕ) {x : Color} → Visible w → hexColor w ≡ x → colorIn (35 ∷ w) ≡ x
+unfolding colorIn
+hash-back w v e =
+    rw (trimmed-visible (35 ∷ w) (omega arith, omega arith, v)) (color-hash (35 ∷ w) (omega arith) refl ∙ e)
+
 -- ---- the channels of a colour are bytes
 pub record Bytes (c : Rgba) : Type 0 where
   pub red : c .r < 256
@@ -94,20 +99,16 @@ module _ (c : Rgba) (w : Bytes c) where
   eight =
       rw (starts (c .g), starts (c .b), starts (c .a), hex-back (c .r) (w .red), hex-back (c .g) (w .green), hex-back (c .b) (w .blue), hex-back (c .a) (w .alpha))
 
-  rgb-visible : Visible (rgbText c)
-  unfolding rgbText padded
-  rgb-visible =
-      (omega arith, omega arith, visible-hex (c .r) (hex (c .g) ++ hex (c .b)) (visible-hex (c .g) (hex (c .b)) (visible-hex (c .b) [] tt)))
-
-  rgba-visible : Visible (rgbaText c)
-  unfolding rgbaText padded
-  rgba-visible =
-      (omega arith, omega arith, visible-hex (c .r) (hex (c .g) ++ hex (c .b) ++ hex (c .a)) (visible-hex (c .g) (hex (c .b) ++ hex (c .a)) (visible-hex (c .b) (hex (c .a)) (visible-hex (c .a) [] tt))))
-
   pub rgb-back : colorIn (rgbText c) ≡ Color.Is (rgba (c .r) (c .g) (c .b) 255)
-  unfolding colorIn rgbText padded
-  rgb-back = rw (trimmed-visible (rgbText c) rgb-visible) (color-hash (rgbText c) (omega arith) refl ∙ six)
+  unfolding rgbText padded
+  rgb-back =
+      hash-back (hex (c .r) ++ hex (c .g) ++ hex (c .b))
+      (visible-hex (c .r) (hex (c .g) ++ hex (c .b)) (visible-hex (c .g) (hex (c .b)) (visible-hex (c .b) [] tt)))
+      six
 
   pub rgba-back : colorIn (rgbaText c) ≡ Color.Is c
-  unfolding colorIn rgbaText padded
-  rgba-back = rw (trimmed-visible (rgbaText c) rgba-visible) (color-hash (rgbaText c) (omega arith) refl ∙ eight)
+  unfolding rgbaText padded
+  rgba-back =
+      hash-back (hex (c .r) ++ hex (c .g) ++ hex (c .b) ++ hex (c .a))
+      (visible-hex (c .r) (hex (c .g) ++ hex (c .b) ++ hex (c .a)) (visible-hex (c .g) (hex (c .b) ++ hex (c .a)) (visible-hex (c .b) (hex (c .a)) (visible-hex (c .a) [] tt))))
+      eight

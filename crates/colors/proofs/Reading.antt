@@ -2,7 +2,8 @@
 use Prim.Native.Nat.{ℕ, _+_, _-_, _≤_, _<_}
 use mathlib.Core.Path.{_≡_, refl, sym, _∙_}
 use mathlib.Core.Bool.{true, false, and-false, or-true}
-use mathlib.Core.List.{List, [], _∷_, _++_}
+use mathlib.Core.List.{List, [], _∷_}
+use mathlib.Core.Logic.{_⊎_, inl, inr}
 use native.Mathlib.Omega.{arith}
 use native.Mathlib.Nat.{sub-zero}
 use lib.Dec.{ltb}
@@ -23,7 +24,7 @@ use Rattle.numerals.proofs.Numerals.{numeral-inv}
 use Rattle.colors.specs.declared.read.Color.{Color}
 use Rattle.colors.specs.declared.read.Channel.{Channel}
 use Rattle.colors.specs.Named.{colorTable, namedIn}
-use Rattle.colors.specs.Colors.{boundary, channelOf, hexChannel, copies, hexColor, hexRed, rgbOf, rgbParts, isRgb, color, Small}
+use Rattle.colors.specs.Colors.{boundary, channelOf, hexChannel, copies, hexColor, hexRed, rgbOf, rgbParts, isRgb, color, Small, Channels}
 
 -- ---- where a character starts
 module _ (s : List ℕ) (i : ℕ) where
@@ -88,13 +89,14 @@ module _ (s : List ℕ) where
   unfolding hexColor
   hex-three e = rw e
 
-  pub hex-six : length s ≡ 6 → hexColor s ≡ hexRed s 2
+  pub hex-wide : (length s ≡ 6) ⊎ (length s ≡ 8) → hexColor s ≡ hexRed s 2
   unfolding hexColor
-  hex-six e = rw e
+  hex-wide (inl e) = rw e
+  hex-wide (inr e) = rw e
 
-  pub hex-eight : length s ≡ 8 → hexColor s ≡ hexRed s 2
-  unfolding hexColor
-  hex-eight e = rw e
+  pub wide-room : (length s ≡ 6) ⊎ (length s ≡ 8) → Channels s 2
+  wide-room (inl e) = record { some = omega arith; few = omega arith; room = omega arith }
+  wide-room (inr e) = record { some = omega arith; few = omega arith; room = omega arith }
 
   pub hex-none : (length s ≡ 3 → ⊥) → (length s ≡ 6 → ⊥) → (length s ≡ 8 → ⊥) → hexColor s ≡ Color.Nothing
   unfolding hexColor

@@ -1,8 +1,7 @@
 -- `hex_channel` answers the channel between the two places, its one digit taken twice, or that one of them is inside a character.
 use mathlib.Core.Path.{sym, ap, _∙_}
-use native.Mathlib.Omega.{arith}
 use borrow.Author.Tests.{not-true, not-false}
-use Rattle.colors.specs.Colors.{channelOf, copies}
+use Rattle.colors.specs.Colors.{channelOf}
 use Rattle.colors.proofs.Reading.{small, channel-cut-start, channel-cut-end, channel-is, narrow, wide}
 use borrow.Author.Needs.{needs}
 use Rattle.colors.proofs.read.hex_channel.Statement.{statement}

@@ -1,8 +1,7 @@
 -- `hex_color` answers the colour of three, six or eight digits.
-use mathlib.Core.Path.{sym, _∙_, _≡_}
+use mathlib.Core.Path.{sym, _∙_}
 use mathlib.Core.Logic.{inl, inr}
-use native.Mathlib.Omega.{arith}
-use Rattle.colors.proofs.Reading.{hex-three, hex-six, hex-eight, hex-none}
+use Rattle.colors.proofs.Reading.{hex-three, hex-wide, wide-room, hex-none}
 use borrow.Author.Needs.{needs}
 use Rattle.colors.proofs.read.hex_color.Statement.{statement}
 use Rattle.colors.proofs.read.hex_color.Tie as tie
@@ -11,15 +10,13 @@ hex-red-requires : tie.Need-hex-red-requires
 hex-red-requires c κs = search needs
 
 hex-red-requires-2 : tie.Need-hex-red-requires-2
-hex-red-requires-2 c κs =
-    elim (c .match .keys2) [ inl e ↦ record { some = omega arith; few = omega arith; room = omega arith } | inr e ↦ record { some = omega arith; few = omega arith; room = omega arith } ]
+hex-red-requires-2 c κs = wide-room (c .before .before .args .text .now) (c .match .keys2)
 
 returns : tie.Need-returns
 returns c = c .hex-red .ensures ∙ sym (hex-three (c .before .before .before .args .text .now) (c .before .match .keys1))
 
 returns-2 : tie.Need-returns-2
-returns-2 c =
-    elim (c .before .match .keys2) [ inl e ↦ c .hex-red2 .ensures ∙ sym (hex-six (c .before .before .before .args .text .now) e) | inr e ↦ c .hex-red2 .ensures ∙ sym (hex-eight (c .before .before .before .args .text .now) e) ]
+returns-2 c = c .hex-red2 .ensures ∙ sym (hex-wide (c .before .before .before .args .text .now) (c .before .match .keys2))
 
 returns-3 : tie.Need-returns-3
 returns-3 c =
