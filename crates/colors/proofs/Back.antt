@@ -25,7 +25,7 @@ use Rattle.colors.specs.Written.{hex, rgbText, rgbaText}
 use Rattle.colors.proofs.Reading.{color-hash}
 
 -- ---- visible ASCII characters are not trimmed
-abbrev Visible : List ℕ → Type 0
+abbrev pub Visible : List ℕ → Type 0
 Visible [] = Unit {0}
 Visible (b ∷ s) = (0x20 < b) × (b < 0x80) × Visible s
 

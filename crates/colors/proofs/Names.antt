@@ -39,12 +39,12 @@ module _ (names starts values : List ℕ) where
       rgba (getD values (k * 4) 0) (getD values (k * 4 + 1) 0) (getD values (k * 4 + 2) 0) (getD values (k * 4 + 3) 0)
 
   -- the test: the row's name lies within the names, and it and its colour are those of an entry
-  abbrev pub right : ℕ → NamedColor → Bool
+  abbrev right : ℕ → NamedColor → Bool
   right k (n means c) =
       (leb (getD starts k 0) (getD starts (k + 1) 0) && leb (getD starts (k + 1) 0) (length names))
       && (sameBytes (nameAt k) n && sameBytes (channels (valueAt k)) (channels c))
 
-  abbrev pub rightFrom : ℕ → List NamedColor → Bool
+  abbrev rightFrom : ℕ → List NamedColor → Bool
   rightFrom k [] = true
   rightFrom k (x ∷ xs) = right k x && rightFrom (suc k) xs
 
