@@ -1,6 +1,10 @@
 // Whole numbers as Rust's `parse` and `from_str_radix` read them: an optional `+`, a `-` where the
 // type has one, at least one digit, nothing else; a number past the largest is no number. One reader
 // serves every type, by the radix, the largest value and whether a minus is taken.
+mod write;
+
+pub use write::decimal_width;
+pub use write::put_digits;
 ghost use mathlib.Core.Path.{_≡_};
 ghost use Prim.Native.Nat.{_≤_, _<_, _^_};
 ghost use lib.ListN.{length};

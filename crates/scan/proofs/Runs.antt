@@ -1,20 +1,23 @@
 -- Laws of classes of bytes and of runs of them. Assumes nothing.
---     blank-not, name-yes, attr-name-yes, either   what the tests of a byte show of its class
+--     blank-not, name-yes, attr-name-yes, digit-yes, digit-below, digit-above, either   what the tests of a byte show of its class
 --     run-here, run-on, run-out      where a run ends, by the byte at its place
 --     run-ind                        what each byte that passes keeps holds where the run ends
 --     run-low, run-high, run-stops, run-all   what follows for every run
+--     run-length                     a run as the length of a beginning
 --     ends-here, ends-out            what a loop over bytes ensures where it ends
-use Prim.Native.Nat.{ℕ, _+_, _≤_, _<_}
+use Prim.Native.Nat.{ℕ, suc, _+_, _≤_, _<_}
 use mathlib.Core.Path.{_≡_, refl, sym, subst, _∙_}
 use mathlib.Core.Bool.{Bool, true, false}
 use mathlib.Core.List.{List}
 use mathlib.Core.Logic.{_⊎_, inl, inr}
 use native.Mathlib.Omega.{arith}
-use lib.ListN.{length, getD}
+use native.Mathlib.Numerals.{add-one}
+use lib.ListN.{length, getD, drop, drop-of-length-le}
+use lib.Seq.{drop-cons}
 use lib.Dec.{eqb}
-use borrow.Author.Tests.{eqb-true, eqb-false, ne-eqb}
+use borrow.Author.Tests.{eqb-true, eqb-false, ne-eqb, le-leb, lt-leb}
 use Rattle.scan.specs.Loop.{halt, more}
-use Rattle.scan.specs.Bytes.{blank, nameByte, attrNameByte, runTurn, runEnd}
+use Rattle.scan.specs.Bytes.{blank, nameByte, attrNameByte, digitByte, runTurn, runEnd, runLength}
 use Rattle.scan.specs.Posts.{Ends}
 use Rattle.scan.proofs.Loop.{loop-out, loop-halt, loop-more, loop-ind, halt-inj, more-inj, halt≢more, more≢halt}
 
@@ -30,6 +33,18 @@ name-yes b n e f = rw (n, ne-eqb b 47 e, ne-eqb b 62 f)
 pub attr-name-yes : (b : ℕ) → blank b ≡ false → (b ≡ 47 → ⊥) → (b ≡ 61 → ⊥) → (b ≡ 62 → ⊥) → attrNameByte b ≡ true
 unfolding attrNameByte
 attr-name-yes b n e f g = rw (n, ne-eqb b 47 e, ne-eqb b 61 f, ne-eqb b 62 g)
+
+pub digit-yes : (b : ℕ) → 48 ≤ b → b ≤ 57 → digitByte b ≡ true
+unfolding digitByte
+digit-yes b l h = rw (le-leb 48 b l, le-leb b 57 h)
+
+pub digit-below : (b : ℕ) → b < 48 → digitByte b ≡ false
+unfolding digitByte
+digit-below b l = rw (lt-leb 48 b l)
+
+pub digit-above : (b : ℕ) → 57 < b → digitByte b ≡ false
+unfolding digitByte
+digit-above b l = let h : 48 ≤ b = omega arith in rw (le-leb 48 b h, lt-leb b 57 l)
 
 -- a range of two
 pub either : (b k : ℕ) → k ≤ b → b < k + 2 → (b ≡ k) ⊎ (b ≡ k + 1)
@@ -100,6 +115,26 @@ module _ (t : ℕ → Bool) (s : List ℕ) (p : ℕ) where
           by : (b : Bool) → eqb k i ≡ b → t (getD s k 0) ≡ true
           by true w = rw (eqb-true k i w) e
           by false w = let n : k ≡ i → ⊥ = eqb-false k i w in j k l (omega arith)
+
+-- a run from p on is the run that the text after p begins with
+pub run-length : (t : ℕ → Bool) (s : List ℕ) (p : ℕ) → p ≤ length s → runEnd t s p ≡ p + runLength t (drop p s)
+unfolding runLength
+run-length t s p l = sym (run-ind t s (λ i. (i ≤ length s) × (p + runLength t (drop p s) ≡ i + runLength t (drop i s))) (λ r. p + runLength t (drop p s) ≡ r) goes stops ends p (l, refl))
+  where
+    goes : (i : ℕ) → i < length s → t (getD s i 0) ≡ true → (i ≤ length s) × (p + runLength t (drop p s) ≡ i + runLength t (drop i s)) → (i + 1 ≤ length s) × (p + runLength t (drop p s) ≡ i + 1 + runLength t (drop (i + 1) s))
+    goes i h e j =
+        let d : runLength t (drop i s) ≡ suc (runLength t (drop (i + 1) s)) = rw (drop-cons s i 0 h, add-one i, e) in
+        (omega arith, omega (arith, d, j .1))
+
+    stops : (i : ℕ) → i < length s → t (getD s i 0) ≡ false → (i ≤ length s) × (p + runLength t (drop p s) ≡ i + runLength t (drop i s)) → p + runLength t (drop p s) ≡ i
+    stops i h e j =
+        let d : runLength t (drop i s) ≡ 0 = rw (drop-cons s i 0 h, e) in
+        omega (arith, d, j .1)
+
+    ends : (i : ℕ) → length s ≤ i → (i ≤ length s) × (p + runLength t (drop p s) ≡ i + runLength t (drop i s)) → p + runLength t (drop p s) ≡ i
+    ends i h j =
+        let d : runLength t (drop i s) ≡ 0 = rw (drop-of-length-le s h) in
+        omega (arith, d, j .1)
 
 -- ---- what the loops over bytes ensure where they end
 module _ (t : ℕ → Bool) (s : List ℕ) (p i : ℕ) (l : p ≤ i) (w : runEnd t s p ≡ runEnd t s i) where

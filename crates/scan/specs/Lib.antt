@@ -4,4 +4,5 @@ pub mod Marks
 pub mod Names
 pub mod Part
 pub mod Rows
+pub mod Split
 pub mod Posts

@@ -3,7 +3,7 @@
 ghost use mathlib.Core.Path.{_≡_};
 ghost use Prim.Native.Nat.{_≤_};
 ghost use lib.ListN.{length};
-ghost use Rattle.scan.specs.Bytes.{blank, nameByte, attrNameByte, member, isOut, other};
+ghost use Rattle.scan.specs.Bytes.{blank, nameByte, attrNameByte, digitByte, member, isOut, other};
 ghost use Rattle.scan.specs.Posts.{Ends};
 
 // The classes that the grammar names.
@@ -16,6 +16,8 @@ pub enum Class {
     Name,
     // any of those but `=`: of an attribute's name
     AttrName,
+    // 0 to 9
+    Digit,
 }
 
 fn is_blank(b: u8) -> bool
@@ -45,6 +47,15 @@ fn is_attr_name(b: u8) -> bool
     }
 }
 
+fn is_digit(b: u8) -> bool
+    ensures { λ r. ⌜ r ≡ digitByte b ⌝ }
+{
+    match b {
+        b'0'..=b'9' => true,
+        _ => false,
+    }
+}
+
 // Is the byte of the class?
 pub fn is_of(class: Class, b: u8) -> bool
     ensures { λ r. ⌜ r ≡ member class b ⌝ }
@@ -54,6 +65,7 @@ pub fn is_of(class: Class, b: u8) -> bool
         Class::Text => b != b'<',
         Class::Name => is_name(b),
         Class::AttrName => is_attr_name(b),
+        Class::Digit => is_digit(b),
     }
 }
 

@@ -25,6 +25,12 @@ enum-told-4 c = search needs
 is-attr-name-requires : tie.Need-is-attr-name-requires
 is-attr-name-requires c κs = search needs
 
+enum-told-5 : tie.Need-enum-told-5
+enum-told-5 c = search needs
+
+is-digit-requires : tie.Need-is-digit-requires
+is-digit-requires c κs = search needs
+
 returns : tie.Need-returns
 returns c = rw (c .before .enum-told .given .1) (c .is-blank .ensures)
 
@@ -38,6 +44,9 @@ returns-3 c = rw (c .before .enum-told3 .given .1) (c .is-name .ensures)
 returns-4 : tie.Need-returns-4
 returns-4 c = rw (c .before .enum-told4 .given .1) (c .is-attr-name .ensures)
 
+returns-5 : tie.Need-returns-5
+returns-5 c = rw (c .before .enum-told5 .given .1) (c .is-digit .ensures)
+
 pub is-of-spec : {M : Type 1} → statement M
 is-of-spec =
     tie.close
@@ -49,7 +58,10 @@ is-of-spec =
     is-name-requires
     enum-told-4
     is-attr-name-requires
+    enum-told-5
+    is-digit-requires
     returns
     returns-2
     returns-3
-    returns-4)
+    returns-4
+    returns-5)

@@ -1,0 +1,245 @@
+// A colour read from its text.
+ghost use mathlib.Core.Path.{_≡_};
+ghost use Prim.Native.Nat.{_+_, _≤_};
+ghost use lib.ListN.{length};
+ghost use Rattle.scan.specs.Split.{splitAt};
+ghost use Rattle.colors.specs.Named.{rgba};
+ghost use Rattle.colors.specs.Colors as colors;
+ghost use Rattle.colors.specs.Colors.{boundary, channelOf, hexChannel, hexColor, decimalChannel, rgbOf, rgbParts, colorIn, opaque, Small, Channels, copies, hexAlpha, hexBlue, hexGreen, hexRed};
+use numerals::Numeral;
+
+pub struct Rgba {
+    pub r: u8,
+    pub g: u8,
+    pub b: u8,
+    pub a: u8,
+}
+
+// What a text is as a colour. `numberOf` gives document 01's number for each answer.
+pub enum Color {
+    Is(Rgba),
+    // no colour
+    Nothing,
+    // 15: cut inside a character
+    Cut,
+}
+
+// What a part of a text is as a channel.
+pub enum Channel {
+    Is(u8),
+    Nothing,
+    Cut,
+}
+
+// Does a character start, or the text end, at the place?
+fn is_boundary(text: &[u8], at: usize) -> bool
+    requires { ⌜ at ≤ length (now text) ⌝ }
+    ensures { λ r. ⌜ r ≡ boundary (now (text .entry)) at ⌝ }
+{
+    if at == 0 {
+        return true;
+    }
+    if text.len() <= at {
+        return at == text.len();
+    }
+    match text[at] {
+        0x80..=0xBF => false,
+        _ => true,
+    }
+}
+
+fn small_channel(n: Numeral) -> Channel
+    requires { ⌜ Small n ⌝ }
+    ensures { λ r. ⌜ r ≡ channelOf n ⌝ }
+{
+    match n {
+        Numeral::Is(w) => Channel::Is(w.magnitude as u8),
+        Numeral::Nothing => Channel::Nothing,
+    }
+}
+
+// The channel from the place, of one hexadecimal digit that counts twice, or of two.
+fn hex_channel(text: &[u8], at: usize, width: usize) -> Channel
+    requires { ⌜ (1 ≤ width) × (width ≤ 2) × (at + width ≤ length (now text)) ⌝ }
+    ensures { λ r. ⌜ r ≡ hexChannel (now (text .entry)) at (at + width) (copies width) ⌝ }
+{
+    if !is_boundary(text, at) {
+        return Channel::Cut;
+    }
+    if !is_boundary(text, at + width) {
+        return Channel::Cut;
+    }
+    if width == 1 {
+        let twice = [text[at], text[at]];
+        return small_channel(numerals::read_numeral(&twice, 16, 255, false));
+    }
+    small_channel(numerals::read_numeral(&text[at..at + width], 16, 255, false))
+}
+
+fn with_alpha(r: u8, g: u8, b: u8, alpha: Channel) -> Color
+    ensures { λ s. ⌜ s ≡ colors.after alpha (λ x. Color.Is (rgba r g b x)) ⌝ }
+{
+    match alpha {
+        Channel::Is(a) => Color::Is(Rgba { r, g, b, a }),
+        Channel::Nothing => Color::Nothing,
+        Channel::Cut => Color::Cut,
+    }
+}
+
+fn hex_alpha(text: &[u8], r: u8, g: u8, b: u8) -> Color
+    ensures { λ s. ⌜ s ≡ hexAlpha (now (text .entry)) r g b ⌝ }
+{
+    if text.len() == 8 {
+        return with_alpha(r, g, b, hex_channel(text, 6, 2));
+    }
+    Color::Is(Rgba { r, g, b, a: 255 })
+}
+
+fn hex_blue(text: &[u8], width: usize, r: u8, g: u8) -> Color
+    requires { ⌜ Channels (now text) width ⌝ }
+    ensures { λ s. ⌜ s ≡ hexBlue (now (text .entry)) width r g ⌝ }
+{
+    match hex_channel(text, 2 * width, width) {
+        Channel::Is(b) => hex_alpha(text, r, g, b),
+        Channel::Nothing => Color::Nothing,
+        Channel::Cut => Color::Cut,
+    }
+}
+
+fn hex_green(text: &[u8], width: usize, r: u8) -> Color
+    requires { ⌜ Channels (now text) width ⌝ }
+    ensures { λ s. ⌜ s ≡ hexGreen (now (text .entry)) width r ⌝ }
+{
+    match hex_channel(text, width, width) {
+        Channel::Is(g) => hex_blue(text, width, r, g),
+        Channel::Nothing => Color::Nothing,
+        Channel::Cut => Color::Cut,
+    }
+}
+
+fn hex_red(text: &[u8], width: usize) -> Color
+    requires { ⌜ Channels (now text) width ⌝ }
+    ensures { λ s. ⌜ s ≡ hexRed (now (text .entry)) width ⌝ }
+{
+    match hex_channel(text, 0, width) {
+        Channel::Is(r) => hex_green(text, width, r),
+        Channel::Nothing => Color::Nothing,
+        Channel::Cut => Color::Cut,
+    }
+}
+
+// What follows a `#`: three digits, or two for each of three or four channels.
+fn hex_color(text: &[u8]) -> Color
+    ensures { λ r. ⌜ r ≡ hexColor (now (text .entry)) ⌝ }
+{
+    match text.len() {
+        3 => hex_red(text, 1),
+        6 | 8 => hex_red(text, 2),
+        _ => Color::Nothing,
+    }
+}
+
+// A decimal channel, white space around it passed over.
+fn decimal_channel(text: &[u8]) -> Channel
+    ensures { λ r. ⌜ r ≡ decimalChannel (now (text .entry)) ⌝ }
+{
+    let span = unicode::trim(text);
+    let start = span.start;
+    let end = span.end;
+    small_channel(numerals::read_numeral(&text[start..end], 10, 255, false))
+}
+
+fn rgb_blue(r: u8, g: u8, text: &[u8]) -> Color
+    ensures { λ s. ⌜ s ≡ colors.after (decimalChannel (now (text .entry))) (λ b. Color.Is (rgba r g b 255)) ⌝ }
+{
+    match decimal_channel(text) {
+        Channel::Is(b) => Color::Is(Rgba { r, g, b, a: 255 }),
+        Channel::Nothing => Color::Nothing,
+        Channel::Cut => Color::Cut,
+    }
+}
+
+fn rgb_green(r: u8, green: &[u8], blue: &[u8]) -> Color
+    ensures { λ s. ⌜ s ≡ colors.after (decimalChannel (now (green .entry))) (λ g. colors.after (decimalChannel (now (blue .entry))) (λ b. Color.Is (rgba r g b 255))) ⌝ }
+{
+    match decimal_channel(green) {
+        Channel::Is(g) => rgb_blue(r, g, blue),
+        Channel::Nothing => Color::Nothing,
+        Channel::Cut => Color::Cut,
+    }
+}
+
+fn rgb_red(red: &[u8], green: &[u8], blue: &[u8]) -> Color
+    ensures { λ s. ⌜ s ≡ rgbOf (now (red .entry)) (now (green .entry)) (now (blue .entry)) ⌝ }
+{
+    match decimal_channel(red) {
+        Channel::Is(r) => rgb_green(r, green, blue),
+        Channel::Nothing => Color::Nothing,
+        Channel::Cut => Color::Cut,
+    }
+}
+
+// Three channels between commas; any other number of them is left to the names.
+fn rgb_color(text: &[u8], inside: &[u8]) -> Color
+    ensures { λ r. ⌜ r ≡ rgbParts (now (text .entry)) (splitAt 44 (now (inside .entry))) ⌝ }
+{
+    let one = scan::find_byte(inside, 0, b',');
+    if inside.len() <= one {
+        return crate::named::named(text);
+    }
+    let two = scan::find_byte(inside, one + 1, b',');
+    if inside.len() <= two {
+        return crate::named::named(text);
+    }
+    if scan::find_byte(inside, two + 1, b',') < inside.len() {
+        return crate::named::named(text);
+    }
+    rgb_red(&inside[..one], &inside[one + 1..two], &inside[two + 1..])
+}
+
+// A colour without white space around it.
+fn trimmed_color(text: &[u8]) -> Color
+    ensures { λ r. ⌜ r ≡ colors.color (now (text .entry)) ⌝ }
+{
+    if text.len() == 0 {
+        return crate::named::named(text);
+    }
+    if text[0] == b'#' {
+        return hex_color(&text[1..]);
+    }
+    let end = text.len() - 1;
+    if 4 <= end {
+        if scan::starts_with(text, 0, b"rgb(") {
+            if text[end] == b')' {
+                return rgb_color(text, &text[4..end]);
+            }
+        }
+    }
+    crate::named::named(text)
+}
+
+// The colour that a text is.
+pub fn parse_ttml_color_rgba(text: &[u8]) -> Color
+    ensures { λ r. ⌜ r ≡ colorIn (now (text .entry)) ⌝ }
+{
+    let span = unicode::trim(text);
+    let start = span.start;
+    let end = span.end;
+    trimmed_color(&text[start..end])
+}
+
+// The same without its alpha, which is given as 255.
+pub fn parse_ttml_color_rgb(text: &[u8]) -> Color
+    ensures { λ r. ⌜ r ≡ opaque (colorIn (now (text .entry))) ⌝ }
+{
+    match parse_ttml_color_rgba(text) {
+        Color::Is(c) => Color::Is(Rgba {
+            r: c.r,
+            g: c.g,
+            b: c.b,
+            a: 255,
+        }),
+        Color::Nothing => Color::Nothing,
+        Color::Cut => Color::Cut,
+    }
+}

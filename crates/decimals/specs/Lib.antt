@@ -1,0 +1,4 @@
+pub mod Decimal
+pub mod Counted
+pub mod Floats
+pub mod Size

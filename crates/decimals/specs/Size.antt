@@ -1,0 +1,44 @@
+-- A size: an f32 beside the spelling that Rust's `{}` prints for it (document 01, "What must change shape"). Definitions alone.
+use Prim.Native.Nat.{ℕ, zero, suc, _/_, _%_, _^_}
+use mathlib.Core.Bool.{Bool, true, false, cond, not, _&&_, _||_}
+use mathlib.Core.List.{List, [], _∷_, _++_}
+use lib.Dec.{eqb, leb, ltb}
+use lib.Ieee.{Float, binary32}
+use Rattle.numerals.specs.Written.{padded, decimalWidth}
+use Rattle.decimals.specs.declared.read.Digits.{Digits}
+use Rattle.decimals.specs.declared.size.Size.{Size}
+use Rattle.decimals.specs.Floats.{valueIn, sameFloat}
+
+-- digits / 10 ^ scale without zeros at the end behind the point: the digits, and how many of them stand behind the point
+abbrev pub spelled : Bool → ℕ → ℕ → Digits
+spelled negative digits scale = record { negative = negative; digits = digits; scale = scale }
+
+unfoldable pub reducedFrom : Bool → ℕ → ℕ → Digits
+reducedFrom negative digits zero = spelled negative digits zero
+reducedFrom negative digits (suc k) = cond (eqb (digits % 10) 0) (reducedFrom negative (digits / 10) k) (spelled negative digits (suc k))
+
+unfoldable pub reduced : Digits → Digits
+unfolding reducedFrom
+reduced d = reducedFrom (d .negative) (d .digits) (d .scale)
+
+-- the size of a decimal: the f32 nearest to it, and its spelling without needless zeros
+abbrev pub sized : Digits → Size
+sized d = record { value = valueIn binary32 (d .negative) (d .digits) (d .scale); negative = d .negative; digits = d .digits; scale = d .scale }
+
+unfoldable pub sizeOf : Digits → Size
+unfolding reduced
+sizeOf d = sized (reduced d)
+
+-- Cells that mean a size (document 01, number 17): a spelling of at most 6 digits, at most 10 of them behind the point, with no zero at the
+-- end there, and the f32 that it spells. Within these limits that spelling is the shortest that reads back as the f32, which `{}` prints.
+unfoldable pub isSize : Size → Bool
+isSize s =
+    leb (s .digits) 999999 && leb (s .scale) 10 && (eqb (s .scale) 0 || not (eqb (s .digits % 10) 0))
+    && sameFloat (s .value) (valueIn binary32 (s .negative) (s .digits) (s .scale))
+
+-- The bytes that `{}` prints: a minus, the digits before the point, and, where some stand behind it, a point and those.
+unfoldable pub spelling : Bool → ℕ → ℕ → List ℕ
+spelling negative digits scale =
+    cond negative (45 ∷ []) []
+    ++ padded 10 (decimalWidth (digits / 10 ^ scale)) (digits / 10 ^ scale)
+    ++ cond (eqb scale 0) [] ((46 ∷ []) ++ padded 10 scale (digits % 10 ^ scale))

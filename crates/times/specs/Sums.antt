@@ -1,0 +1,26 @@
+-- Sums and products of times, tested for overflow (document 01, number 16: "An i64 product or sum of times overflows"). Definitions alone.
+use Prim.Native.Nat.{ℕ, _^_}
+use mathlib.Core.Bool.{Bool, cond}
+use lib.IntN.{ℤ, pos, negsuc, negℤ, _+ℤ_}
+use lib.Dec.{ltb}
+use Rattle.times.specs.declared.sums.Sum.{Sum}
+use Rattle.times.specs.declared.sums.Sum.the-variants.{Is, Overflow}
+
+-- an i64: from -2 ^ 63 to 2 ^ 63 - 1
+unfoldable pub isI64 : ℤ → Bool
+isI64 (pos n) = ltb n (2 ^ 63)
+isI64 (negsuc n) = ltb n (2 ^ 63)
+
+unfoldable pub checked : ℤ → Sum
+unfolding isI64
+checked z = cond (isI64 z) (Is z) Overflow
+
+-- the number of a sign and a magnitude
+abbrev pub signed : Bool → ℕ → ℤ
+signed negative n = cond negative (negℤ (pos n)) (pos n)
+
+-- a sum of sums, each tested
+abbrev pub plus : Sum → Sum → Sum
+plus (Is a) (Is b) = checked (a +ℤ b)
+plus (Is a) Overflow = Overflow
+plus Overflow b = Overflow
