@@ -3,3 +3,4 @@ pub mod Values
 pub mod Truncated
 pub mod Counting
 pub mod Reading
+pub mod Sizes
