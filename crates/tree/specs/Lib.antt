@@ -1,0 +1,3 @@
+pub mod Trees
+pub mod Read
+pub mod Posts
