@@ -3,6 +3,7 @@ use Prim.Native.Nat.{ℕ, _+_, _-_, _≤_, _<_}
 use mathlib.Core.Path.{_≡_, refl, sym, _∙_}
 use mathlib.Core.Bool.{Bool, true, false, _||_, true≢false}
 use mathlib.Core.List.{List}
+use mathlib.Core.Logic.{_⊎_, inl, inr}
 use native.Mathlib.Omega.{arith}
 use lib.ListN.{length, getD}
 use lib.Dec.{eqb, ltb}
@@ -13,6 +14,11 @@ use Rattle.scan.specs.Posts.{Ends}
 use Rattle.tree.specs.Trees.{Attr}
 use Rattle.tree.specs.Read.{equals, quoteByte, AttrOut, attr, flaw, quoted, bare, valueAt, attrAt}
 use Rattle.scan.proofs.Runs.{run-here}
+
+pub quote-yes : (b : ℕ) → (b ≡ 34) ⊎ (b ≡ 39) → quoteByte b ≡ true
+unfolding quoteByte
+quote-yes b (inl e) = rw e
+quote-yes b (inr e) = rw e
 
 pub quote-not : (b : ℕ) → (b ≡ 34 → ⊥) → (b ≡ 39 → ⊥) → quoteByte b ≡ false
 unfolding quoteByte

@@ -165,5 +165,5 @@ unfolding closedAt
 closed {s} el {t} {u} {from} {k₀} {a₀} {t′} {u′} {pos} {k} {a} g h e = go (ltb (runEnd (other 62) s pos) (length s)) refl
   where
     go : (b : Bool) → ltb (runEnd (other 62) s pos) (length s) ≡ b → ContentPost (rowOf s (innerTurn s el) from (fresh k₀ a₀)) s t t′ u u′ from k₀ a₀ (closedAt s pos k a)
-    go true w = rw w (done g (runEnd (other 62) s pos + 1) h (inner-close s el pos _ e w) (omega (arith, run-low (other 62) s pos)) (omega (arith, ltb-true _ _ w)))
+    go true w = rw w (done g (runEnd (other 62) s pos + 1) h (inner-close s el pos _ e w) (omega (arith, run-low (other 62) s pos)) (omega (arith, ltb-true (runEnd (other 62) s pos) (length s) w)))
     go false w = rw w (fail g 11 pos h (inner-torn s el pos _ e w))

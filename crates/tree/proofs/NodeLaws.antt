@@ -157,12 +157,12 @@ unfolding enclose
 enclose-bad p n l m q o e = rw e
 
 -- an element without content, and one with content
-pub built-shut : (o : Out) (inner : Reader) (s t t′ u u′ : List ℕ) (p n k a q : ℕ) (l : List Attr) (c : Spot)
+pub built-shut : (o : Out) (inner : Reader) (s t t′ u u′ : List ℕ) (p n k a : ℕ) (l : List Attr) (c : Spot)
     → o ≡ tagged inner p n k (shut l (c .pos) (c .attrs)) → p + 1 ≤ c .pos → c .pos ≤ length s → c .attrs ≡ a + length l → c .attrs ≤ 8192 → k < 8192
     → t′ ≡ sets t (k * 6) (row 2 (k + 1) p n a (c .attrs - a)) → u′ ≡ sets u (a * 4) (attrRows l)
     → Laid o s t t′ u u′ (p + 1) k a (record { pos = c .pos; nodes = k + 1; attrs = c .attrs })
 unfolding tagged size rows row attrsOf
-built-shut o inner s t t′ u u′ p n k a q l c e f g h i j x y =
+built-shut o inner s t t′ u u′ p n k a l c e f g h i j x y =
     let z : c .attrs - a ≡ length l = omega arith in
     record {
       forest = elem p n l nil nil;

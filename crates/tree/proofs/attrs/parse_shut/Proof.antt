@@ -1,38 +1,30 @@
+-- `parse_shut` meets its contract: a `>` follows, or none. Assumes nothing.
+use mathlib.Core.Path.{sym, _∙_}
+use Rattle.tree.proofs.Tags.{shut-yes, shut-no}
 use borrow.Author.Needs.{needs}
 use Rattle.tree.proofs.attrs.parse_shut.Statement.{statement}
 use Rattle.tree.proofs.attrs.parse_shut.Tie as tie
-use Rattle.tree.proofs.attrs.parse_shut.Reads as reads
-use Rattle.tree.proofs.attrs.parse_shut.Lts as lts
-use Rattle.scan.proofs.over.Reads as over-reads
-use Rattle.scan.proofs.starts_with.Reads as starts-with-reads
 
--- src/attrs.rt:72:29
 add-over : tie.Need-add-over
 add-over c = search needs
 
--- src/attrs.rt:72:9
 over-requires : tie.Need-over-requires
 over-requires c κs = search needs
 
--- src/attrs.rt:73:34
 slice-aggregate-starts-with : tie.Need-slice-aggregate-starts-with
 slice-aggregate-starts-with c = search needs
 
--- src/attrs.rt:73:8
 starts-with-requires : tie.Need-starts-with-requires
 starts-with-requires c κs = search needs
 
--- src/attrs.rt:75:18
 add-t11 : tie.Need-add-t11
 add-t11 c = search needs
 
--- src/attrs.rt:74:9
 returns : tie.Need-returns
-returns c = ?
+returns c = sym (shut-yes (c .before .before .before .before .before .args .src .now) (c .before .before .before .before .before .args .at) (c .before .before .before .before .before .args .n) _ (c .before .before .before .over .ensures) (sym (c .before .starts-with .ensures .is) ∙ c .if1 .taken))
 
--- src/attrs.rt:68:1
 returns-2 : tie.Need-returns-2
-returns-2 c = ?
+returns-2 c = sym (shut-no (c .before .before .before .before .before .args .src .now) (c .before .before .before .before .before .args .at) (c .before .before .before .before .before .args .n) _ (c .before .before .before .over .ensures) (sym (c .before .starts-with .ensures .is) ∙ c .if1 .left))
 
 pub parse-shut-spec : {M : Type 1} → statement M
 parse-shut-spec =

@@ -1,95 +1,81 @@
+-- `parse_tag` meets its contract. The loop's invariant is `TagGoing`: the attributes so far are laid, and the rest of the tag decides the outcome. The measure is what is left of the text. Assumes nothing.
+use Prim.Native.Nat.{_+_, _-_}
+use mathlib.Core.Path.{_∙_}
+use native.Mathlib.Omega.{arith}
+use lib.ListN.{length}
+use borrow.Author.Needs.{needs}
+use Rattle.scan.proofs.Runs.{name-yes}
+use Rattle.tree.proofs.Tags.{tag-out, tag-open, tag-full, tag-flaw, TagGoing, tag-start, tag-step, tag-done, tag-slashed}
 use Rattle.tree.proofs.attrs.parse_tag.Statement.{statement}
 use Rattle.tree.proofs.attrs.parse_tag.Tie as tie
-use Rattle.tree.proofs.attrs.parse_tag.Reads as reads
-use Rattle.tree.proofs.attrs.parse_tag.Lts as lts
-use Rattle.tree.proofs.attrs.parse_attr.Reads as parse-attr-reads
-use Rattle.tree.proofs.attrs.parse_shut.Reads as parse-shut-reads
 
 abbrev Inv-loop : tie.InvT-loop
-Inv-loop src attrs₀ pos count at₀ n₀ attrs at n = ?
+Inv-loop src attrs₀ pos count at₀ n₀ attrs at n = TagGoing src attrs₀ pos count attrs at n
 
 abbrev μ-loop : tie.MeasureT-loop
-μ-loop src attrs₀ pos count at₀ n₀ attrs at n = ?
+μ-loop src attrs₀ pos count at₀ n₀ attrs at n = length src - at
 
--- src/attrs.rt:92:5
 loop-holds : tie.Need-loop-holds Inv-loop μ-loop
-loop-holds c = ?
+loop-holds c = tag-start _ _ _ _ (c .before .before .pre .2) (c .before .before .pre .3) (c .before .before .pre .4)
 
--- src/attrs.rt:93:17
 shared-slice-read-b : tie.Need-shared-slice-read-b Inv-loop μ-loop
-shared-slice-read-b c = ?
+shared-slice-read-b c = search needs
 
--- src/attrs.rt:96:22
 add-t14 : tie.Need-add-t14 Inv-loop μ-loop
-add-t14 c = ?
+add-t14 c = search needs
 
--- src/attrs.rt:95:13
 same-length : tie.Need-same-length Inv-loop μ-loop
-same-length c = ?
+same-length c = search needs
 
--- src/attrs.rt:95:13
 returns : tie.Need-returns Inv-loop μ-loop
-returns c = ?
+returns c = tag-done (c .before .before .before .loop .inv) (c .before .before .before .loop .at + 1) (tag-open (c .before .before .before .before .before .before .args .src .now) (c .before .before .before .loop .at) _ (c .before .before .loop-test .taken) (c .if1 .taken)) (omega arith) (omega arith)
 
--- src/attrs.rt:101:13
 parse-shut-requires : tie.Need-parse-shut-requires Inv-loop μ-loop
-parse-shut-requires c κs = ?
+parse-shut-requires c κs = search needs
 
--- src/attrs.rt:101:13
 same-length-2 : tie.Need-same-length-2 Inv-loop μ-loop
-same-length-2 c = ?
+same-length-2 c = search needs
 
--- src/attrs.rt:101:13
 returns-2 : tie.Need-returns-2 Inv-loop μ-loop
-returns-2 c = ?
+returns-2 c = rw (c .parse-shut .ensures) (tag-slashed (c .before .before .before .before .before .loop .inv) (c .before .before .before .before .loop-test .taken) (c .before .if2 .taken))
 
--- src/attrs.rt:104:13
 same-length-3 : tie.Need-same-length-3 Inv-loop μ-loop
-same-length-3 c = ?
+same-length-3 c = search needs
 
--- src/attrs.rt:104:13
 returns-3 : tie.Need-returns-3 Inv-loop μ-loop
-returns-3 c = ?
+returns-3 c = c .before .before .before .before .before .loop .inv .is ∙ tag-full (c .before .before .before .before .before .before .before .before .args .src .now) (c .before .before .before .before .before .loop .at) _ (c .before .before .before .before .loop-test .taken) (c .before .before .if1 .left) (c .before .if2 .left) (c .if3 .taken)
 
--- src/attrs.rt:109:15
 parse-attr-requires : tie.Need-parse-attr-requires Inv-loop μ-loop
-parse-attr-requires c κs = ?
+parse-attr-requires c κs = (c .before .before .before .before .before .before .before .before .before .pre .0, omega arith, c .before .before .before .before .before .loop-test .taken, name-yes _ (c .before .before .before .before .before .before .loop .inv .solid (c .before .before .before .before .before .loop-test .taken)) (c .before .before .if2 .left) (c .before .before .before .if1 .left), c .before .if3 .left)
 
--- src/attrs.rt:110:24
 enum-known-q : tie.Need-enum-known-q Inv-loop μ-loop
-enum-known-q c = ?
+enum-known-q c = search needs
 
--- src/attrs.rt:112:17
 add-n : tie.Need-add-n Inv-loop μ-loop
-add-n c = ?
+add-n c = search needs
 
--- src/attrs.rt:92:5
 loop-less : tie.Need-loop-less Inv-loop μ-loop
-loop-less c = ?
+loop-less c =
+    let l = rw (c .before .q .given .1) at (c .before .before .before .before .before .parse-attr .ensures) in
+    omega (arith, l .after, c .before .before .before .before .before .before .before .before .before .before .before .loop-test .taken)
 
--- src/attrs.rt:92:5
 loop-again : tie.Need-loop-again Inv-loop μ-loop
-loop-again c = ?
+loop-again c = tag-step (c .before .before .before .before .before .before .before .before .before .before .before .before .loop .inv) (c .before .before .before .before .before .before .before .before .before .before .before .loop-test .taken) (c .before .before .before .before .before .before .before .before .before .if1 .left) (c .before .before .before .before .before .before .before .before .if2 .left) (c .before .before .before .before .before .before .before .if3 .left) (rw (c .before .q .given .1) at (c .before .before .before .before .before .parse-attr .ensures))
 
--- src/attrs.rt:114:27
 enum-known-r : tie.Need-enum-known-r Inv-loop μ-loop
-enum-known-r c = ?
+enum-known-r c = search needs
 
--- src/attrs.rt:115:17
 same-length-4 : tie.Need-same-length-4 Inv-loop μ-loop
-same-length-4 c = ?
+same-length-4 c = search needs
 
--- src/attrs.rt:115:17
 returns-4 : tie.Need-returns-4 Inv-loop μ-loop
-returns-4 c = ?
+returns-4 c = c .before .before .before .before .before .before .before .before .before .before .before .before .loop .inv .is ∙ tag-flaw (c .before .before .before .before .before .before .before .before .before .before .before .before .before .before .before .args .src .now) (c .before .before .before .before .before .before .before .before .before .before .before .before .loop .at) _ (c .before .before .before .before .before .before .before .before .before .before .before .loop-test .taken) (c .before .before .before .before .before .before .before .before .before .if1 .left) (c .before .before .before .before .before .before .before .before .if2 .left) _ _ (c .before .before .before .before .before .before .before .if3 .left) (rw (c .before .r .given .1) at (c .before .before .before .before .before .parse-attr .ensures))
 
--- src/attrs.rt:86:1
 same-length-5 : tie.Need-same-length-5 Inv-loop μ-loop
-same-length-5 c = ?
+same-length-5 c = search needs
 
--- src/attrs.rt:86:1
 returns-5 : tie.Need-returns-5 Inv-loop μ-loop
-returns-5 c = ?
+returns-5 c = c .before .loop .inv .is ∙ tag-out (c .before .before .before .before .args .src .now) (c .before .loop .at) _ (c .loop-test .left)
 
 pub parse-tag-spec : {M : Type 1} → statement M
 parse-tag-spec =

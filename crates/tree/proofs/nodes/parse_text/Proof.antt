@@ -1,42 +1,35 @@
+-- `parse_text` meets its contract: no room for a node, or its row is laid. Assumes nothing.
+use Rattle.tree.proofs.NodeLaws.{text-full, built-text, text-beyond}
 use borrow.Author.Needs.{needs}
 use Rattle.tree.proofs.nodes.parse_text.Statement.{statement}
 use Rattle.tree.proofs.nodes.parse_text.Tie as tie
-use Rattle.tree.proofs.nodes.parse_text.Reads as reads
-use Rattle.tree.proofs.nodes.parse_text.Lts as lts
-use Rattle.scan.proofs.over.Reads as over-reads
-use Rattle.tree.proofs.rows.put_node.Reads as put-node-reads
 
--- src/nodes.rt:38:9
 returns : tie.Need-returns
-returns c = ?
+returns c = λ u. text-full _ _ _ _ (c .if1 .taken)
 
--- src/nodes.rt:43:9
 over-requires : tie.Need-over-requires
 over-requires c κs = search needs
 
--- src/nodes.rt:44:40
 add-put-node : tie.Need-add-put-node
 add-put-node c = search needs
 
--- src/nodes.rt:44:52
 sub-put-node : tie.Need-sub-put-node
 sub-put-node c = search needs
 
--- src/nodes.rt:44:5
 put-node-requires : tie.Need-put-node-requires
 put-node-requires c κs = search needs
 
--- src/nodes.rt:47:16
 add-t13 : tie.Need-add-t13
 add-t13 c = search needs
 
--- src/nodes.rt:33:1
 same-length : tie.Need-same-length
 same-length c = search needs
 
--- src/nodes.rt:33:1
 returns-2 : tie.Need-returns-2
-returns-2 c = ?
+returns-2 c =
+    let a = c .before .before .before .before .before .before .before .before .args in
+    λ u. built-text (a .src .now) (a .nodes .now) _ u (a .pos) (a .k) (a .a) (c .before .before .before .before .over .result) (c .before .before .before .before .before .if1 .left) (c .before .before .before .before .before .before .before .before .pre .4) (c .before .before .before .before .over .ensures)
+    (text-beyond (a .src .now) (a .pos) _ (c .before .before .before .before .before .before .before .before .pre .2) (c .before .before .before .before .before .before .before .before .pre .3) (c .before .before .before .before .over .ensures)) (c .before .before .put-node .ensures)
 
 pub parse-text-spec : {M : Type 1} → statement M
 parse-text-spec =

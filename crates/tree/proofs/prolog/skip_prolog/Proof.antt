@@ -1,116 +1,94 @@
+-- `skip_prolog` meets its contract. The loop's invariant: the prolog from the start ends where the pieces from `i` on end. The measure is what is left of the text. Assumes nothing.
+use Prim.Native.Nat.{_-_, _≤_}
+use mathlib.Core.Path.{_≡_, sym, _∙_}
+use native.Mathlib.Omega.{arith}
+use lib.ListN.{length}
+use borrow.Author.Needs.{needs}
+use Rattle.tree.specs.Read.{prologEnd}
+use Rattle.tree.proofs.PrologLaws.{from, begin, pi, comment, decl, stop, out}
 use Rattle.tree.proofs.prolog.skip_prolog.Statement.{statement}
 use Rattle.tree.proofs.prolog.skip_prolog.Tie as tie
-use Rattle.tree.proofs.prolog.skip_prolog.Reads as reads
-use Rattle.tree.proofs.prolog.skip_prolog.Lts as lts
-use Rattle.scan.proofs.over.Reads as over-reads
-use Rattle.scan.proofs.find_past.Reads as find-past-reads
-use Rattle.scan.proofs.starts_with.Reads as starts-with-reads
 
 abbrev Inv-loop : tie.InvT-loop
-Inv-loop src i₀ t6 t7 t8 t9 t10 t11 i = ?
+Inv-loop src i₀ t6 t7 t8 t9 t10 t11 i = (i ≤ length src) × (prologEnd src ≡ from src i)
 
 abbrev μ-loop : tie.MeasureT-loop
-μ-loop src i₀ t6 t7 t8 t9 t10 t11 i = ?
+μ-loop src i₀ t6 t7 t8 t9 t10 t11 i = length src - i
 
--- src/prolog.rt:12:9
 over-requires : tie.Need-over-requires Inv-loop μ-loop
-over-requires c κs = ?
+over-requires c κs = search needs
 
--- src/prolog.rt:13:5
 loop-holds : tie.Need-loop-holds Inv-loop μ-loop
-loop-holds c = ?
+loop-holds c = (c .over .ensures .within, begin (c .before .before .args .src .now) _ (c .over .ensures))
 
--- src/prolog.rt:14:38
 slice-aggregate-starts-with : tie.Need-slice-aggregate-starts-with Inv-loop μ-loop
-slice-aggregate-starts-with c = ?
+slice-aggregate-starts-with c = search needs
 
--- src/prolog.rt:14:12
 starts-with-requires : tie.Need-starts-with-requires Inv-loop μ-loop
-starts-with-requires c κs = ?
+starts-with-requires c κs = search needs
 
--- src/prolog.rt:15:45
 slice-aggregate-find-past : tie.Need-slice-aggregate-find-past Inv-loop μ-loop
-slice-aggregate-find-past c = ?
+slice-aggregate-find-past c = search needs
 
--- src/prolog.rt:15:17
 find-past-requires : tie.Need-find-past-requires Inv-loop μ-loop
-find-past-requires c κs = ?
+find-past-requires c κs = search needs
 
--- src/prolog.rt:16:13
 over-requires-2 : tie.Need-over-requires-2 Inv-loop μ-loop
-over-requires-2 c κs = ?
+over-requires-2 c κs = search needs
 
--- src/prolog.rt:13:5
 loop-less : tie.Need-loop-less Inv-loop μ-loop
-loop-less c = ?
+loop-less c = omega (arith, c .over2 .ensures, c .before .find-past .ensures .beyond (c .before .before .before .before .before .before .loop-test .taken) (omega arith), c .before .before .before .before .before .before .loop-test .taken)
 
--- src/prolog.rt:13:5
 loop-again : tie.Need-loop-again Inv-loop μ-loop
-loop-again c = ?
+loop-again c = (c .over2 .ensures .within, c .before .before .before .before .before .before .before .loop .inv .1 ∙ pi (c .before .before .before .before .before .before .before .before .before .before .args .src .now) (c .before .before .before .before .before .before .before .loop .i) (c .before .before .before .before .before .before .loop-test .taken) (c .before .find-past .result) _ (sym (c .before .before .before .before .starts-with .ensures .is) ∙ c .before .before .before .if1 .taken) (c .before .find-past .ensures) (c .over2 .ensures))
 
--- src/prolog.rt:17:45
 slice-aggregate-starts-with-2 : tie.Need-slice-aggregate-starts-with-2 Inv-loop μ-loop
-slice-aggregate-starts-with-2 c = ?
+slice-aggregate-starts-with-2 c = search needs
 
--- src/prolog.rt:17:19
 starts-with-requires-2 : tie.Need-starts-with-requires-2 Inv-loop μ-loop
-starts-with-requires-2 c κs = ?
+starts-with-requires-2 c κs = search needs
 
--- src/prolog.rt:18:45
 slice-aggregate-find-past-2 : tie.Need-slice-aggregate-find-past-2 Inv-loop μ-loop
-slice-aggregate-find-past-2 c = ?
+slice-aggregate-find-past-2 c = search needs
 
--- src/prolog.rt:18:17
 find-past-requires-2 : tie.Need-find-past-requires-2 Inv-loop μ-loop
-find-past-requires-2 c κs = ?
+find-past-requires-2 c κs = search needs
 
--- src/prolog.rt:19:13
 over-requires-3 : tie.Need-over-requires-3 Inv-loop μ-loop
-over-requires-3 c κs = ?
+over-requires-3 c κs = search needs
 
--- src/prolog.rt:13:5
 loop-less-2 : tie.Need-loop-less-2 Inv-loop μ-loop
-loop-less-2 c = ?
+loop-less-2 c = omega (arith, c .over3 .ensures, c .before .find-past2 .ensures .beyond (c .before .before .before .before .before .before .before .before .before .loop-test .taken) (omega arith), c .before .before .before .before .before .before .before .before .before .loop-test .taken)
 
--- src/prolog.rt:13:5
 loop-again-2 : tie.Need-loop-again-2 Inv-loop μ-loop
-loop-again-2 c = ?
+loop-again-2 c = (c .over3 .ensures .within, c .before .before .before .before .before .before .before .before .before .before .loop .inv .1 ∙ comment (c .before .before .before .before .before .before .before .before .before .before .before .before .before .args .src .now) (c .before .before .before .before .before .before .before .before .before .before .loop .i) (c .before .before .before .before .before .before .before .before .before .loop-test .taken) (c .before .find-past2 .result) _ (sym (c .before .before .before .before .before .before .before .starts-with .ensures .is) ∙ c .before .before .before .before .before .before .if1 .left) (sym (c .before .before .before .before .starts-with2 .ensures .is) ∙ c .before .before .before .if2 .taken) (c .before .find-past2 .ensures) (c .over3 .ensures))
 
--- src/prolog.rt:20:45
 slice-aggregate-starts-with-3 : tie.Need-slice-aggregate-starts-with-3 Inv-loop μ-loop
-slice-aggregate-starts-with-3 c = ?
+slice-aggregate-starts-with-3 c = search needs
 
--- src/prolog.rt:20:19
 starts-with-requires-3 : tie.Need-starts-with-requires-3 Inv-loop μ-loop
-starts-with-requires-3 c κs = ?
+starts-with-requires-3 c κs = search needs
 
--- src/prolog.rt:21:45
 slice-aggregate-find-past-3 : tie.Need-slice-aggregate-find-past-3 Inv-loop μ-loop
-slice-aggregate-find-past-3 c = ?
+slice-aggregate-find-past-3 c = search needs
 
--- src/prolog.rt:21:17
 find-past-requires-3 : tie.Need-find-past-requires-3 Inv-loop μ-loop
-find-past-requires-3 c κs = ?
+find-past-requires-3 c κs = search needs
 
--- src/prolog.rt:22:13
 over-requires-4 : tie.Need-over-requires-4 Inv-loop μ-loop
-over-requires-4 c κs = ?
+over-requires-4 c κs = search needs
 
--- src/prolog.rt:13:5
 loop-less-3 : tie.Need-loop-less-3 Inv-loop μ-loop
-loop-less-3 c = ?
+loop-less-3 c = omega (arith, c .over4 .ensures, c .before .find-past3 .ensures .beyond (c .before .before .before .before .before .before .before .before .before .before .before .before .loop-test .taken) (omega arith), c .before .before .before .before .before .before .before .before .before .before .before .before .loop-test .taken)
 
--- src/prolog.rt:13:5
 loop-again-3 : tie.Need-loop-again-3 Inv-loop μ-loop
-loop-again-3 c = ?
+loop-again-3 c = (c .over4 .ensures .within, c .before .before .before .before .before .before .before .before .before .before .before .before .before .loop .inv .1 ∙ decl (c .before .before .before .before .before .before .before .before .before .before .before .before .before .before .before .before .args .src .now) (c .before .before .before .before .before .before .before .before .before .before .before .before .before .loop .i) (c .before .before .before .before .before .before .before .before .before .before .before .before .loop-test .taken) (c .before .find-past3 .result) _ (sym (c .before .before .before .before .before .before .before .before .before .before .starts-with .ensures .is) ∙ c .before .before .before .before .before .before .before .before .before .if1 .left) (sym (c .before .before .before .before .before .before .before .starts-with2 .ensures .is) ∙ c .before .before .before .before .before .before .if2 .left) (sym (c .before .before .before .before .starts-with3 .ensures .is) ∙ c .before .before .before .if3 .taken) (c .before .find-past3 .ensures) (c .over4 .ensures))
 
--- src/prolog.rt:24:13
 returns : tie.Need-returns Inv-loop μ-loop
-returns c = ?
+returns c = (sym (c .before .before .before .before .before .before .before .before .before .before .loop .inv .1 ∙ stop (c .before .before .before .before .before .before .before .before .before .before .before .before .before .args .src .now) (c .before .before .before .before .before .before .before .before .before .before .loop .i) (c .before .before .before .before .before .before .before .before .before .loop-test .taken) (sym (c .before .before .before .before .before .before .before .starts-with .ensures .is) ∙ c .before .before .before .before .before .before .if1 .left) (sym (c .before .before .before .before .starts-with2 .ensures .is) ∙ c .before .before .before .if2 .left) (sym (c .before .starts-with3 .ensures .is) ∙ c .if3 .left)), omega arith)
 
--- src/prolog.rt:9:1
 returns-2 : tie.Need-returns-2 Inv-loop μ-loop
-returns-2 c = ?
+returns-2 c = (sym (c .before .loop .inv .1 ∙ out (c .before .before .before .before .args .src .now) (c .before .loop .i) (c .loop-test .left)), omega arith)
 
 pub skip-prolog-spec : {M : Type 1} → statement M
 skip-prolog-spec =

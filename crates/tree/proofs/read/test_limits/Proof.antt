@@ -1,33 +1,27 @@
+-- `test_limits` meets its contract: a law for each number. Assumes nothing.
+use native.Mathlib.Omega.{arith}
+use Rattle.tree.proofs.Whole.{no-nodes, no-attrs, too-long, not-utf8}
 use borrow.Author.Needs.{needs}
 use Rattle.tree.proofs.read.test_limits.Statement.{statement}
 use Rattle.tree.proofs.read.test_limits.Tie as tie
-use Rattle.tree.proofs.read.test_limits.Reads as reads
-use Rattle.tree.proofs.read.test_limits.Lts as lts
-use Rattle.unicode.proofs.utf8_end.Reads as utf8-end-reads
 
--- src/read.rt:26:9
 returns : tie.Need-returns
-returns c = ?
+returns c = no-nodes (c .before .before .args .src .now) (c .before .before .args .nodes) (c .before .before .args .attrs) (c .if1 .taken)
 
--- src/read.rt:32:9
 returns-2 : tie.Need-returns-2
-returns-2 c = ?
+returns-2 c = no-attrs (c .before .before .before .args .src .now) (c .before .before .before .args .nodes) (c .before .before .before .args .attrs) (c .before .if1 .left) (c .if2 .taken)
 
--- src/read.rt:38:9
 returns-3 : tie.Need-returns-3
-returns-3 c = ?
+returns-3 c = too-long (c .before .before .before .before .args .src .now) (c .before .before .before .before .args .nodes) (c .before .before .before .before .args .attrs) (c .before .before .if1 .left) (c .before .if2 .left) (c .if3 .taken)
 
--- src/read.rt:43:9
 utf8-end-requires : tie.Need-utf8-end-requires
 utf8-end-requires c κs = search needs
 
--- src/read.rt:45:9
 returns-4 : tie.Need-returns-4
-returns-4 c = ?
+returns-4 c = not-utf8 (c .before .before .before .before .before .before .args .src .now) (c .before .before .before .before .before .before .args .nodes) (c .before .before .before .before .before .before .args .attrs) _ (c .before .before .before .before .if1 .left) (c .before .before .before .if2 .left) (c .before .before .if3 .left) (c .before .utf8-end .ensures .is) (c .if4 .taken)
 
--- src/read.rt:22:1
 returns-5 : tie.Need-returns-5
-returns-5 c = search needs
+returns-5 c = record { long = c .before .before .before .before .if1 .left; wide = c .before .before .before .if2 .left; short = c .before .before .if3 .left; valid = omega (arith, c .before .utf8-end .ensures .is, c .if4 .left) }
 
 pub test-limits-spec : {M : Type 1} → statement M
 test-limits-spec =
