@@ -6,3 +6,4 @@ pub mod Forests
 pub mod NodeLaws
 pub mod Going
 pub mod Whole
+pub mod Places

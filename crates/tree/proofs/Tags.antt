@@ -48,7 +48,7 @@ module _ (s : List ℕ) (p n q : ℕ) (w : Ends blank s (p + 1) q) where
   shut-no e = rw (← (w .is), e)
 
 -- a mark that has a byte stands before the text's end
-starts-some : (s : List ℕ) (q b : ℕ) (m : List ℕ) → startsAt s q (b ∷ m) ≡ true → q < length s
+pub starts-some : (s : List ℕ) (q b : ℕ) (m : List ℕ) → startsAt s q (b ∷ m) ≡ true → q < length s
 unfolding startsAt
 starts-some s q b m e = go (ltb q (length s)) refl
   where

@@ -1,5 +1,5 @@
 -- Placed trees: what is read, by places in the text, and how it is laid out in the two tables. Definitions alone.
-use Prim.Native.Nat.{ℕ, zero, suc, _+_}
+use Prim.Native.Nat.{ℕ, _+_, _≤_}
 use mathlib.Core.List.{List, [], _∷_, _++_}
 use lib.ListN.{length}
 
@@ -54,3 +54,25 @@ attrRow x = x .name ∷ x .nameLen ∷ x .value ∷ x .valueLen ∷ []
 unfoldable pub attrRows : List Attr → List ℕ
 attrRows [] = []
 attrRows (x ∷ xs) = attrRow x ++ attrRows xs
+
+-- ---- strings
+-- a string of the text: its place and length
+pub record Span : Type 0 where
+  pub place : ℕ
+  pub len : ℕ
+
+-- the strings of a forest in document order: an element's name and its attributes' names and values, texts and sections
+unfoldable pub attrSpans : List Attr → List Span
+attrSpans [] = []
+attrSpans (x ∷ xs) = record { place = x .name; len = x .nameLen } ∷ record { place = x .value; len = x .valueLen } ∷ attrSpans xs
+
+unfoldable pub spans : Forest → List Span
+spans nil = []
+spans (text p n f) = record { place = p; len = n } ∷ spans f
+spans (section p n f) = record { place = p; len = n } ∷ spans f
+spans (elem p n l c f) = record { place = p + 1; len = n } ∷ (attrSpans l ++ (spans c ++ spans f))
+
+-- strings that stand one after the other, from a place on and up to a place
+abbrev pub InOrder : ℕ → List Span → ℕ → Type 0
+InOrder lo [] hi = lo ≤ hi
+InOrder lo (x ∷ xs) hi = (lo ≤ x .place) × InOrder (x .place + x .len) xs hi
