@@ -7,3 +7,4 @@ pub mod NodeLaws
 pub mod Going
 pub mod Whole
 pub mod Places
+pub mod Walks

@@ -1,3 +1,4 @@
 pub mod Trees
 pub mod Read
+pub mod Walks
 pub mod Posts
