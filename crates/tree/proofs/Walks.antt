@@ -1,0 +1,232 @@
+-- Reading the two tables back. Assumes nothing.
+--     rows-cells, rows-wide, rows-many, row-fits      row by row
+--     cell-at, root-fits                              the same of the table that the reader leaves
+--     root, on-text, on-section, on-elem, room        node by node, in the table of nodes
+--     root-attrs, on-attr, on-attrs                   attribute by attribute
+--     placed-text, placed-section, placed-elem        the order of strings, node by node
+use Prim.Native.Nat.{ℕ, zero, suc, _+_, _-_, _*_, _≤_, _<_}
+use mathlib.Core.Path.{_≡_, refl, sym, ap, _∙_}
+use mathlib.Core.List.{List, [], _∷_, _++_, append-assoc, append-nil}
+use native.Mathlib.Omega.{arith}
+use native.Mathlib.Nat.{sub-zero}
+use lib.ListN.{length, getD, drop, replicate, length-append, length-drop, List·getD-append}
+use lib.Seq.{getD-drop, drop-drop, drop-at}
+use Rattle.scan.specs.Rows.{cells, Wide}
+use Rattle.scan.proofs.Rows.{cells-append, wide-append, cells-length, cells-at}
+use Rattle.tree.specs.Trees.{Attr, Forest, nil, text, section, elem, size, attrsOf, row, rows, attrRow, attrRows, Span, attrSpans, spans, InOrder}
+use Rattle.tree.specs.Read.{Out, got, nothing, bad, meaning, nodesOf, attrCells}
+use Rattle.tree.specs.Walks.{treeOf, rowList, RowFits, Stands, RowIs, Listed, AttrIs}
+use Rattle.tree.proofs.Tags.{length-attrRows, attrRows-append}
+use Rattle.tree.proofs.Forests.{length-rows}
+use Rattle.tree.proofs.Places.{in-whole, in-first, in-rest, meaning-placed}
+
+-- ---- row by row
+pub rows-cells : (f : Forest) (k a : ℕ) → rows k a f ≡ cells (rowList k a f)
+unfolding rows rowList cells
+rows-cells nil k a = refl
+rows-cells (text p n f) k a = rw (rows-cells f (k + 1) a)
+rows-cells (section p n f) k a = rw (rows-cells f (k + 1) a)
+rows-cells (elem p n l c f) k a =
+    let b : ℕ = a + length l in
+    let d : ℕ = a + length l + length (attrsOf c) in
+    rw (cells-append (rowList (k + 1) b c) (rowList (k + 1 + size c) d f), rows-cells c (k + 1) b, rows-cells f (k + 1 + size c) d)
+
+pub rows-wide : (f : Forest) (k a : ℕ) → Wide 6 (rowList k a f)
+unfolding rowList row
+rows-wide nil k a = tt
+rows-wide (text p n f) k a = (refl, rows-wide f (k + 1) a)
+rows-wide (section p n f) k a = (refl, rows-wide f (k + 1) a)
+rows-wide (elem p n l c f) k a =
+    let b : ℕ = a + length l in
+    let d : ℕ = a + length l + length (attrsOf c) in
+    (refl, wide-append 6 (rowList (k + 1) b c) (rowList (k + 1 + size c) d f) (rows-wide c (k + 1) b) (rows-wide f (k + 1 + size c) d))
+
+pub rows-many : (f : Forest) (k a : ℕ) → length (rowList k a f) ≡ size f
+unfolding rowList size
+rows-many nil k a = refl
+rows-many (text p n f) k a = omega (arith, rows-many f (k + 1) a)
+rows-many (section p n f) k a = omega (arith, rows-many f (k + 1) a)
+rows-many (elem p n l c f) k a =
+    let b : ℕ = a + length l in
+    let d : ℕ = a + length l + length (attrsOf c) in
+    omega (arith, length-append (rowList (k + 1) b c) (rowList (k + 1 + size c) d f), rows-many c (k + 1) b, rows-many f (k + 1 + size c) d)
+
+-- every row of a list fits, the first being number j
+abbrev Fitting : ℕ → ℕ → ℕ → ℕ → List (List ℕ) → Type 0
+Fitting hi n m j [] = Unit {0}
+Fitting hi n m j (r ∷ rs) = RowFits hi n m j r × Fitting hi n m (j + 1) rs
+
+module _ (hi n m : ℕ) where
+  fitting-append : (a b : List (List ℕ)) (j k : ℕ) → k ≡ j + length a → Fitting hi n m j a → Fitting hi n m k b → Fitting hi n m j (a ++ b)
+  fitting-append [] b j k e f g = let z : j ≡ k = omega arith in rw z g
+  fitting-append (r ∷ a) b j k e f g = (f .0, fitting-append a b (j + 1) k (omega arith) (f .1) g)
+
+  fitting-at : (rs : List (List ℕ)) (j i : ℕ) → Fitting hi n m j rs → i < length rs → RowFits hi n m (j + i) (getD rs i [])
+  fitting-at [] j i f h = absurd (omega arith)
+  fitting-at (r ∷ rs) j zero f h = let z : j + 0 ≡ j = omega arith in rw z (f .0)
+  fitting-at (r ∷ rs) j (suc i) f h = let z : j + suc i ≡ j + 1 + i = omega arith in rw z (fitting-at rs (j + 1) i (f .1) (omega arith))
+
+  fitting : (f : Forest) (k a lo : ℕ) → InOrder lo (spans f) hi → k + size f ≤ n → a + length (attrsOf f) ≤ m → Fitting hi n m k (rowList k a f)
+  unfolding rowList row size attrsOf spans
+  fitting nil k a lo i h g = tt
+  fitting (text p x f) k a lo i h g =
+      (record { within = in-whole (spans f) (p + x) hi (i .1); later = omega arith; last = omega arith; own = omega arith }, fitting f (k + 1) a (p + x) (i .1) (omega arith) g)
+  fitting (section p x f) k a lo i h g =
+      (record { within = in-whole (spans f) (p + x) hi (i .1); later = omega arith; last = omega arith; own = omega arith }, fitting f (k + 1) a (p + x) (i .1) (omega arith) g)
+  fitting (elem p x l c f) k a lo i h g =
+      let b : ℕ = a + length l in
+      let d : ℕ = a + length l + length (attrsOf c) in
+      let e : length (l ++ (attrsOf c ++ attrsOf f)) ≡ length l + (length (attrsOf c) + length (attrsOf f)) = simp length-append in
+      let w : p + 1 + x ≤ hi = in-whole (attrSpans l ++ (spans c ++ spans f)) (p + 1 + x) hi (i .1) in
+      let r : InOrder (p + 1 + x) (spans c ++ spans f) hi = in-rest (attrSpans l) (spans c ++ spans f) (p + 1 + x) hi (i .1) in
+      (
+        record { within = omega arith; later = omega arith; last = omega arith; own = omega arith },
+        fitting-append (rowList (k + 1) b c) (rowList (k + 1 + size c) d f) (k + 1) (k + 1 + size c) (omega (arith, rows-many c (k + 1) b))
+        (fitting c (k + 1) b (p + 1 + x) (in-first (spans c) (spans f) (p + 1 + x) hi r) (omega arith) (omega arith))
+        (fitting f (k + 1 + size c) d (p + 1 + x) (in-rest (spans c) (spans f) (p + 1 + x) hi r) (omega arith) (omega arith)),
+      )
+
+  pub row-fits : (f : Forest) (lo i : ℕ) → InOrder lo (spans f) hi → size f ≤ n → length (attrsOf f) ≤ m → i < size f → RowFits hi n m i (getD (rowList 0 0 f) i [])
+  row-fits f lo i o h g l =
+      let z : 0 + i ≡ i = omega arith in
+      rw z at (fitting-at (rowList 0 0 f) 0 i (fitting f 0 0 lo o (omega arith) (omega arith)) (omega (arith, rows-many f 0 0)))
+
+-- ---- the table of nodes that the reader leaves
+nodes-of : (n : ℕ) (o : Out) → nodesOf n o ≡ rows 0 0 (treeOf o) ++ replicate (n - size (treeOf o) * 6) 0
+unfolding nodesOf treeOf size rows
+nodes-of n (got f q k a) = refl
+nodes-of n (nothing q) = rw (sub-zero n)
+nodes-of n (bad m q) = rw (sub-zero n)
+
+attrs-of : (n : ℕ) (o : Out) → attrCells n o ≡ attrRows (attrsOf (treeOf o)) ++ replicate (n - length (attrsOf (treeOf o)) * 4) 0
+unfolding attrCells treeOf attrsOf attrRows
+attrs-of n (got f q k a) = refl
+attrs-of n (nothing q) = rw (sub-zero n)
+attrs-of n (bad m q) = rw (sub-zero n)
+
+tree-placed : (s : List ℕ) (o : Out) → ((f : Forest) (q k a : ℕ) → o ≡ got f q k a → InOrder 0 (spans f) (length s)) → InOrder 0 (spans (treeOf o)) (length s)
+unfolding treeOf spans
+tree-placed s (got f q k a) h = h f q k a refl
+tree-placed s (nothing q) h = omega arith
+tree-placed s (bad n q) h = omega arith
+
+-- the strings of the tree that a text means, whatever the tables
+pub root-placed : (s : List ℕ) (n m : ℕ) → InOrder 0 (spans (treeOf (meaning s n m))) (length s)
+root-placed s n m = tree-placed s (meaning s n m) (λ f q k a e. meaning-placed s n m f q k a e)
+
+module _ (s t : List ℕ) (n m : ℕ) (left : t ≡ nodesOf n (meaning s n m)) where
+  abbrev pub forest : Forest
+  forest = treeOf (meaning s n m)
+
+  -- cell j of row i
+  pub cell-at : (i j : ℕ) → i < size forest → j < 6 → getD t (i * 6 + j) 0 ≡ getD (getD (rowList 0 0 forest) i []) j 0
+  cell-at i j h g =
+      let l : length (rows 0 0 forest) ≡ size forest * 6 = length-rows forest 0 0 in
+      let d : getD t (i * 6 + j) 0 ≡ getD (rows 0 0 forest) (i * 6 + j) 0
+            = rw (left, nodes-of n (meaning s n m)) (List·getD-append (rows 0 0 forest) (replicate (n - size forest * 6) 0) 0 (i * 6 + j) (omega arith)) in
+      d ∙ rw (rows-cells forest 0 0) (cells-at 6 (rowList 0 0 forest) i j (rows-wide forest 0 0) (omega (arith, rows-many forest 0 0)) g)
+
+  pub root-fits : (i : ℕ) → i < size forest → RowFits (length s) (size forest) (length (attrsOf forest)) i (getD (rowList 0 0 forest) i [])
+  root-fits i h = row-fits (length s) (size forest) (length (attrsOf forest)) forest 0 i (root-placed s n m) (omega arith) (omega arith) h
+
+  pub root : Stands t 0 0 forest
+  root = record { tail = _; is = left ∙ nodes-of n (meaning s n m) }
+
+pub root-attrs : (s u : List ℕ) (n m : ℕ) → u ≡ attrCells m (meaning s n m) → Listed u 0 (attrsOf (treeOf (meaning s n m)))
+root-attrs s u n m left = record { tail = _; is = left ∙ attrs-of m (meaning s n m) }
+
+-- ---- node by node
+-- what stands m cells after row i
+past-cells : (t l : List ℕ) (i e m : ℕ) → drop (i * 6) t ≡ l → e * 6 ≡ i * 6 + m → drop (e * 6) t ≡ drop m l
+past-cells t l i e m w z = rw (z, ← (drop-drop m (i * 6) t), w)
+
+row-is : (t : List ℕ) (i kind end place len first many : ℕ) (l : List ℕ) → drop (i * 6) t ≡ row kind end place len first many ++ l → RowIs t i kind end place len first many
+unfolding row
+row-is t i kind end place len first many l e = record {
+  kind-is = cell-0 ;
+  end-is = cell 1 end refl;
+  place-is = cell 2 place refl;
+  len-is = cell 3 len refl;
+  first-is = cell 4 first refl;
+  many-is = cell 5 many refl;
+}
+  where
+    r : List ℕ
+    r = kind ∷ end ∷ place ∷ len ∷ first ∷ many ∷ l
+
+    cell : (j v : ℕ) → getD r j 0 ≡ v → getD t (i * 6 + j) 0 ≡ v
+    cell j v w = sym (getD-drop (i * 6) t j 0) ∙ (ap (λ (x : List ℕ). getD x j 0) e ∙ w)
+
+    cell-0 : getD t (i * 6) 0 ≡ kind
+    cell-0 = let z : i * 6 + 0 ≡ i * 6 = omega arith in rw z at (cell 0 kind refl)
+
+module _ (t : List ℕ) (i a p n : ℕ) where
+  pub on-text : (f : Forest) → Stands t i a (text p n f) → RowIs t i 1 (i + 1) p n 0 0 × Stands t (i + 1) a f
+  unfolding rows row
+  on-text f x = (row-is t i 1 (i + 1) p n 0 0 (rows (i + 1) a f ++ x .tail) (x .is), record { tail = x .tail; is = past-cells t _ i (i + 1) 6 (x .is) (omega arith) })
+
+  pub on-section : (f : Forest) → Stands t i a (section p n f) → RowIs t i 3 (i + 1) p n 0 0 × Stands t (i + 1) a f
+  unfolding rows row
+  on-section f x = (row-is t i 3 (i + 1) p n 0 0 (rows (i + 1) a f ++ x .tail) (x .is), record { tail = x .tail; is = past-cells t _ i (i + 1) 6 (x .is) (omega arith) })
+
+  pub on-elem : (l : List Attr) (c f : Forest) → Stands t i a (elem p n l c f)
+      → RowIs t i 2 (i + 1 + size c) p n a (length l) × Stands t (i + 1) (a + length l) c × Stands t (i + 1 + size c) (a + length l + length (attrsOf c)) f
+  unfolding rows row
+  on-elem l c f x =
+      let b : ℕ = a + length l in
+      let d : ℕ = a + length l + length (attrsOf c) in
+      let q : List ℕ = rows (i + 1) b c in
+      let r : List ℕ = rows (i + 1 + size c) d f in
+      let j : length q ≡ size c * 6 = length-rows c (i + 1) b in
+      (
+        row-is t i 2 (i + 1 + size c) p n a (length l) ((q ++ r) ++ x .tail) (x .is),
+        record { tail = r ++ x .tail; is = past-cells t _ i (i + 1) 6 (x .is) (omega arith) ∙ append-assoc q r (x .tail) },
+        record { tail = x .tail; is = past-cells t _ i (i + 1 + size c) (6 + size c * 6) (x .is) (omega arith) ∙ (sym (drop-drop (size c * 6) 6 _) ∙ rw (append-assoc q r (x .tail)) (drop-at q (r ++ x .tail) (size c * 6) j)) },
+      )
+
+-- the rows of a forest that has some are within the table
+pub room : (t : List ℕ) (i a : ℕ) (f : Forest) → Stands t i a f → 0 < size f → (i + size f) * 6 ≤ length t
+room t i a f x h =
+    let e : length (drop (i * 6) t) ≡ length (rows i a f ++ x .tail) = ap length (x .is) in
+    omega (arith, e, length-drop (i * 6) t, length-append (rows i a f) (x .tail), length-rows f i a)
+
+-- ---- attribute by attribute
+pub on-attr : (u : List ℕ) (j : ℕ) (x : Attr) (l : List Attr) → Listed u j (x ∷ l) → AttrIs u j x × Listed u (j + 1) l
+unfolding attrRows attrRow
+on-attr u j x l y = (
+  record { name-is = cell-0; name-len-is = cell 1 (x .nameLen) refl; value-is = cell 2 (x .value) refl; value-len-is = cell 3 (x .valueLen) refl },
+  record { tail = y .tail; is = let z : (j + 1) * 4 ≡ j * 4 + 4 = omega arith in rw (z, ← (drop-drop 4 (j * 4) u), y .is) },
+)
+  where
+    r : List ℕ
+    r = x .name ∷ x .nameLen ∷ x .value ∷ x .valueLen ∷ (attrRows l ++ y .tail)
+
+    cell : (k v : ℕ) → getD r k 0 ≡ v → getD u (j * 4 + k) 0 ≡ v
+    cell k v w = sym (getD-drop (j * 4) u k 0) ∙ (ap (λ (z : List ℕ). getD z k 0) (y .is) ∙ w)
+
+    cell-0 : getD u (j * 4) 0 ≡ x .name
+    cell-0 = let z : j * 4 + 0 ≡ j * 4 = omega arith in rw z at (cell 0 (x .name) refl)
+
+-- two lists of attributes, one after the other
+pub on-attrs : (u : List ℕ) (j : ℕ) (a b : List Attr) → Listed u j (a ++ b) → Listed u j a × Listed u (j + length a) b
+on-attrs u j a b y =
+    let e : drop (j * 4) u ≡ attrRows a ++ (attrRows b ++ y .tail) = y .is ∙ rw (attrRows-append a b) (append-assoc (attrRows a) (attrRows b) (y .tail)) in
+    let z : (j + length a) * 4 ≡ j * 4 + length a * 4 = omega arith in
+    (
+      record { tail = attrRows b ++ y .tail; is = e },
+      record { tail = y .tail; is = rw (z, ← (drop-drop (length a * 4) (j * 4) u), e) (drop-at (attrRows a) (attrRows b ++ y .tail) (length a * 4) (length-attrRows a)) },
+    )
+
+-- ---- the order of strings, node by node
+module _ (lo hi p n : ℕ) where
+  pub placed-text : (f : Forest) → InOrder lo (spans (text p n f)) hi → (lo ≤ p) × InOrder (p + n) (spans f) hi
+  unfolding spans
+  placed-text f i = i
+
+  pub placed-section : (f : Forest) → InOrder lo (spans (section p n f)) hi → (lo ≤ p) × InOrder (p + n) (spans f) hi
+  unfolding spans
+  placed-section f i = i
+
+  pub placed-elem : (l : List Attr) (c f : Forest) → InOrder lo (spans (elem p n l c f)) hi → (lo ≤ p + 1) × InOrder (p + 1 + n) (attrSpans l ++ (spans c ++ spans f)) hi
+  unfolding spans
+  placed-elem l c f i = i

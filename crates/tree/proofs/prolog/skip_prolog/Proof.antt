@@ -1,0 +1,123 @@
+-- `skip_prolog` meets its contract. The loop's invariant: the prolog from the start ends where the pieces from `i` on end. The measure is what is left of the text. Assumes nothing.
+use Prim.Native.Nat.{_-_, _≤_}
+use mathlib.Core.Path.{_≡_, sym, _∙_}
+use native.Mathlib.Omega.{arith}
+use lib.ListN.{length}
+use borrow.Author.Needs.{needs}
+use Rattle.tree.specs.Read.{prologEnd}
+use Rattle.tree.proofs.PrologLaws.{from, begin, pi, comment, decl, stop, out}
+use Rattle.tree.proofs.prolog.skip_prolog.Statement.{statement}
+use Rattle.tree.proofs.prolog.skip_prolog.Tie as tie
+
+abbrev Inv-loop : tie.InvT-loop
+Inv-loop src i₀ t6 t7 t8 t9 t10 t11 i = (i ≤ length src) × (prologEnd src ≡ from src i)
+
+abbrev μ-loop : tie.MeasureT-loop
+μ-loop src i₀ t6 t7 t8 t9 t10 t11 i = length src - i
+
+over-requires : tie.Need-over-requires Inv-loop μ-loop
+over-requires c κs = search needs
+
+loop-holds : tie.Need-loop-holds Inv-loop μ-loop
+loop-holds c = (c .over .ensures .within, begin (c .before .before .args .src .now) _ (c .over .ensures))
+
+slice-aggregate-starts-with : tie.Need-slice-aggregate-starts-with Inv-loop μ-loop
+slice-aggregate-starts-with c = search needs
+
+starts-with-requires : tie.Need-starts-with-requires Inv-loop μ-loop
+starts-with-requires c κs = search needs
+
+slice-aggregate-find-past : tie.Need-slice-aggregate-find-past Inv-loop μ-loop
+slice-aggregate-find-past c = search needs
+
+find-past-requires : tie.Need-find-past-requires Inv-loop μ-loop
+find-past-requires c κs = search needs
+
+over-requires-2 : tie.Need-over-requires-2 Inv-loop μ-loop
+over-requires-2 c κs = search needs
+
+loop-less : tie.Need-loop-less Inv-loop μ-loop
+loop-less c = omega (arith, c .over2 .ensures, c .before .find-past .ensures .beyond (c .before .before .before .before .before .before .loop-test .taken) (omega arith), c .before .before .before .before .before .before .loop-test .taken)
+
+loop-again : tie.Need-loop-again Inv-loop μ-loop
+loop-again c = (c .over2 .ensures .within, c .before .before .before .before .before .before .before .loop .inv .1 ∙ pi (c .before .before .before .before .before .before .before .before .before .before .args .src .now) (c .before .before .before .before .before .before .before .loop .i) (c .before .before .before .before .before .before .loop-test .taken) (c .before .find-past .result) _ (sym (c .before .before .before .before .starts-with .ensures .is) ∙ c .before .before .before .if1 .taken) (c .before .find-past .ensures) (c .over2 .ensures))
+
+slice-aggregate-starts-with-2 : tie.Need-slice-aggregate-starts-with-2 Inv-loop μ-loop
+slice-aggregate-starts-with-2 c = search needs
+
+starts-with-requires-2 : tie.Need-starts-with-requires-2 Inv-loop μ-loop
+starts-with-requires-2 c κs = search needs
+
+slice-aggregate-find-past-2 : tie.Need-slice-aggregate-find-past-2 Inv-loop μ-loop
+slice-aggregate-find-past-2 c = search needs
+
+find-past-requires-2 : tie.Need-find-past-requires-2 Inv-loop μ-loop
+find-past-requires-2 c κs = search needs
+
+over-requires-3 : tie.Need-over-requires-3 Inv-loop μ-loop
+over-requires-3 c κs = search needs
+
+loop-less-2 : tie.Need-loop-less-2 Inv-loop μ-loop
+loop-less-2 c = omega (arith, c .over3 .ensures, c .before .find-past2 .ensures .beyond (c .before .before .before .before .before .before .before .before .before .loop-test .taken) (omega arith), c .before .before .before .before .before .before .before .before .before .loop-test .taken)
+
+loop-again-2 : tie.Need-loop-again-2 Inv-loop μ-loop
+loop-again-2 c = (c .over3 .ensures .within, c .before .before .before .before .before .before .before .before .before .before .loop .inv .1 ∙ comment (c .before .before .before .before .before .before .before .before .before .before .before .before .before .args .src .now) (c .before .before .before .before .before .before .before .before .before .before .loop .i) (c .before .before .before .before .before .before .before .before .before .loop-test .taken) (c .before .find-past2 .result) _ (sym (c .before .before .before .before .before .before .before .starts-with .ensures .is) ∙ c .before .before .before .before .before .before .if1 .left) (sym (c .before .before .before .before .starts-with2 .ensures .is) ∙ c .before .before .before .if2 .taken) (c .before .find-past2 .ensures) (c .over3 .ensures))
+
+slice-aggregate-starts-with-3 : tie.Need-slice-aggregate-starts-with-3 Inv-loop μ-loop
+slice-aggregate-starts-with-3 c = search needs
+
+starts-with-requires-3 : tie.Need-starts-with-requires-3 Inv-loop μ-loop
+starts-with-requires-3 c κs = search needs
+
+slice-aggregate-find-past-3 : tie.Need-slice-aggregate-find-past-3 Inv-loop μ-loop
+slice-aggregate-find-past-3 c = search needs
+
+find-past-requires-3 : tie.Need-find-past-requires-3 Inv-loop μ-loop
+find-past-requires-3 c κs = search needs
+
+over-requires-4 : tie.Need-over-requires-4 Inv-loop μ-loop
+over-requires-4 c κs = search needs
+
+loop-less-3 : tie.Need-loop-less-3 Inv-loop μ-loop
+loop-less-3 c = omega (arith, c .over4 .ensures, c .before .find-past3 .ensures .beyond (c .before .before .before .before .before .before .before .before .before .before .before .before .loop-test .taken) (omega arith), c .before .before .before .before .before .before .before .before .before .before .before .before .loop-test .taken)
+
+loop-again-3 : tie.Need-loop-again-3 Inv-loop μ-loop
+loop-again-3 c = (c .over4 .ensures .within, c .before .before .before .before .before .before .before .before .before .before .before .before .before .loop .inv .1 ∙ decl (c .before .before .before .before .before .before .before .before .before .before .before .before .before .before .before .before .args .src .now) (c .before .before .before .before .before .before .before .before .before .before .before .before .before .loop .i) (c .before .before .before .before .before .before .before .before .before .before .before .before .loop-test .taken) (c .before .find-past3 .result) _ (sym (c .before .before .before .before .before .before .before .before .before .before .starts-with .ensures .is) ∙ c .before .before .before .before .before .before .before .before .before .if1 .left) (sym (c .before .before .before .before .before .before .before .starts-with2 .ensures .is) ∙ c .before .before .before .before .before .before .if2 .left) (sym (c .before .before .before .before .starts-with3 .ensures .is) ∙ c .before .before .before .if3 .taken) (c .before .find-past3 .ensures) (c .over4 .ensures))
+
+returns : tie.Need-returns Inv-loop μ-loop
+returns c = (sym (c .before .before .before .before .before .before .before .before .before .before .loop .inv .1 ∙ stop (c .before .before .before .before .before .before .before .before .before .before .before .before .before .args .src .now) (c .before .before .before .before .before .before .before .before .before .before .loop .i) (c .before .before .before .before .before .before .before .before .before .loop-test .taken) (sym (c .before .before .before .before .before .before .before .starts-with .ensures .is) ∙ c .before .before .before .before .before .before .if1 .left) (sym (c .before .before .before .before .starts-with2 .ensures .is) ∙ c .before .before .before .if2 .left) (sym (c .before .starts-with3 .ensures .is) ∙ c .if3 .left)), omega arith)
+
+returns-2 : tie.Need-returns-2 Inv-loop μ-loop
+returns-2 c = (sym (c .before .loop .inv .1 ∙ out (c .before .before .before .before .args .src .now) (c .before .loop .i) (c .loop-test .left)), omega arith)
+
+pub skip-prolog-spec : {M : Type 1} → statement M
+skip-prolog-spec =
+    tie.close
+    (tie.spec
+    Inv-loop
+    μ-loop
+    over-requires
+    loop-holds
+    slice-aggregate-starts-with
+    starts-with-requires
+    slice-aggregate-find-past
+    find-past-requires
+    over-requires-2
+    loop-less
+    loop-again
+    slice-aggregate-starts-with-2
+    starts-with-requires-2
+    slice-aggregate-find-past-2
+    find-past-requires-2
+    over-requires-3
+    loop-less-2
+    loop-again-2
+    slice-aggregate-starts-with-3
+    starts-with-requires-3
+    slice-aggregate-find-past-3
+    find-past-requires-3
+    over-requires-4
+    loop-less-3
+    loop-again-3
+    returns
+    returns-2)

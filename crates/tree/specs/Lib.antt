@@ -1,0 +1,4 @@
+pub mod Trees
+pub mod Read
+pub mod Walks
+pub mod Posts

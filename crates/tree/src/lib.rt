@@ -1,0 +1,11 @@
+// The tree reader: a text read into two lent tables of numbers, rows in document order.
+mod answers;
+mod attrs;
+mod nodes;
+mod prolog;
+mod read;
+mod rows;
+
+pub use answers::Answer;
+pub use answers::Refusal;
+pub use read::read_tree;

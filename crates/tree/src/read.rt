@@ -1,0 +1,112 @@
+// The whole text: its limits, its top-level nodes, and the public call.
+ghost use mathlib.Core.Path.{_≡_};
+ghost use lib.ListN.{length};
+ghost use Rattle.tree.specs.Read.{outerTurn, elementOf, rowOf, fresh, meaning, answerOf, nodesOf, attrCells};
+ghost use Rattle.tree.specs.Posts.{Ready, ContentPost, LimitsPost};
+use crate::answers::Answer;
+use crate::answers::Content;
+use crate::answers::Cursor;
+use crate::answers::Limits;
+use crate::answers::Refusal;
+use crate::answers::Step;
+
+const NODE_CELLS: usize = 49152;
+
+const ATTR_CELLS: usize = 32768;
+
+const BYTES: usize = 65536;
+
+const DEPTH: usize = 64;
+
+// The numbers 1 to 3: the lengths of the tables, the text's length, UTF-8.
+fn test_limits(src: &[u8], nodes: usize, attrs: usize) -> Limits
+    ensures { λ r. ⌜ LimitsPost (now (src .entry)) nodes attrs r ⌝ }
+{
+    if nodes < NODE_CELLS {
+        return Limits::Refused(Refusal {
+            number: 1,
+            place: 0,
+        });
+    }
+    if attrs < ATTR_CELLS {
+        return Limits::Refused(Refusal {
+            number: 1,
+            place: 0,
+        });
+    }
+    if BYTES < src.len() {
+        return Limits::Refused(Refusal {
+            number: 2,
+            place: 0,
+        });
+    }
+    let valid = unicode::utf8_end(src);
+    if valid < src.len() {
+        return Limits::Refused(Refusal {
+            number: 3,
+            place: valid,
+        });
+    }
+    Limits::Within
+}
+
+// The nodes at top level, from the prolog's end on.
+fn parse_top(src: &[u8], nodes: &mut [u32], attrs: &mut [u32], from: usize) -> Content
+    requires { ⌜ Ready (now src) (now nodes) (now attrs) from 0 0 ⌝ }
+    ensures { λ r. ⌜ ContentPost (rowOf (now (src .entry)) (outerTurn (now (src .entry)) (elementOf 64 (now (src .entry)))) from (fresh 0 0)) (now (src .entry)) (now (nodes .entry)) (now (nodes .exit)) (now (attrs .entry)) (now (attrs .exit)) from 0 0 r ⌝ }
+{
+    let mut pos = from;
+    let mut k = 0;
+    let mut a = 0;
+    while pos < src.len() {
+        match crate::nodes::parse_node(src, nodes, attrs, pos, k, a, DEPTH) {
+            Step::Node(c) => {
+                pos = c.pos;
+                k = c.nodes;
+                a = c.attrs;
+            }
+            Step::Nothing(q) => {
+                return Content::Done(Cursor {
+                    pos: q,
+                    nodes: k,
+                    attrs: a,
+                });
+            }
+            Step::Refused(r) => {
+                return Content::Refused(r);
+            }
+        }
+    }
+    Content::Done(Cursor {
+        pos,
+        nodes: k,
+        attrs: a,
+    })
+}
+
+// The text read into the tables of nodes and attributes; after a refusal every cell is 0.
+pub fn read_tree(src: &[u8], nodes: &mut [u32], attrs: &mut [u32]) -> Answer
+    ensures { λ r. ⌜ r ≡ answerOf (meaning (now (src .entry)) (length (now (nodes .entry))) (length (now (attrs .entry)))) ⌝ }
+    ensures { λ _. ⌜ now (nodes .exit) ≡ nodesOf (length (now (nodes .entry))) (meaning (now (src .entry)) (length (now (nodes .entry))) (length (now (attrs .entry)))) ⌝ }
+    ensures { λ _. ⌜ now (attrs .exit) ≡ attrCells (length (now (attrs .entry))) (meaning (now (src .entry)) (length (now (nodes .entry))) (length (now (attrs .entry)))) ⌝ }
+{
+    scan::clear(nodes);
+    scan::clear(attrs);
+    match test_limits(src, nodes.len(), attrs.len()) {
+        Limits::Refused(r) => Answer::Refused(r),
+        Limits::Within => {
+            let from = crate::prolog::skip_prolog(src);
+            match parse_top(src, nodes, attrs, from) {
+                Content::Done(c) => Answer::Tree {
+                    nodes: c.nodes,
+                    attrs: c.attrs,
+                },
+                Content::Refused(r) => {
+                    scan::clear(nodes);
+                    scan::clear(attrs);
+                    Answer::Refused(r)
+                }
+            }
+        }
+    }
+}
