@@ -12,7 +12,7 @@ use reference::ttml::access;
 pub const LAYER: Layer = Layer {
     name: "entities",
     compare,
-    record: Some(Recording { file: "crates/replay_entities/stdin", lines }),
+    record: Some(Recording { file: "crates/replay_entities/stdin", count: 1_500, lines }),
     bench: Some(bench),
 };
 
