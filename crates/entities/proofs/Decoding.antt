@@ -1,7 +1,7 @@
 -- Laws of texts with references. Assumes nothing.
 --     decodedFrom-skip, decoded-nil, decoded-byte, decoded-to, decoded-literal   one step of the definition
 --     decoded-append, decoded-plain              what has no `&`
---     decoded-run                                such a run within a text
+--     decoded-run, run-mark                      such a run within a text, and the `&` after it
 --     decoded-short                              what is read is never longer than the text
 --     stepped-to, stepped-literal                one `&` passed
 --     Decoding                                   what the program has written so far

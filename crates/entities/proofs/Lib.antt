@@ -1,4 +1,7 @@
--- What the proofs of several functions use, and what the crates above cite.
+-- What the proofs of several functions use.
 pub mod References
 pub mod Decoding
 pub mod Examples
+pub mod Valid
+pub mod Escapes
+pub mod Back

@@ -1,12 +1,13 @@
 -- Laws of references. Assumes nothing.
---     scalar-low, scalar-between, scalar-high    which numbers are characters
+--     scalar-low, scalar-between, scalar-high, character-is, character-none   which numbers are characters
 --     number-none, number-hex, number-decimal    a character's number, by its first byte
 --     named-hit, named-miss, named-each          a table of named entities, entry by entry
 --     lookup-none, lookup-number, lookup-name    a name, by its first byte
---     lookup-long, lookup-char                   a known name has two bytes or more, and names a character
+--     lookup-known                               a known name has two bytes or more, and names a character
 --     name-yes, name-white, name-out, name-stop, name-on, name-within   the bytes of a name
 --     reference-is, reference-open, reference-long   what follows an `&`
 --     reference-inv                              what is known of a reference
+--     refers-out, refers-long, refers-open, refers-none, refers-to   the same at a place of a text, as the program asks
 use Prim.Native.Nat.{ℕ, suc, _+_, _-_, _≤_, _<_}
 use mathlib.Core.Path.{_≡_, refl, sym, ap, _∙_}
 use mathlib.Core.Bool.{Bool, true, false, cond, not, _&&_, _||_, and-false}
