@@ -31,6 +31,25 @@ impl<A> Answer<A> {
     }
 }
 
+/// An answer as a function of the port gives it: a code, and a value where the code is 1.
+pub type Coded<A> = (u32, Option<A>);
+
+/// What the port answered, with what it wrote if the code says that it is a value.
+pub fn coded<A>((code, value): (u32, A)) -> Coded<A> {
+    (code, (code == 1).then_some(value))
+}
+
+impl<A> Answer<A> {
+    /// As the port would answer; `number` is its code for a number of document 01.
+    pub fn coded(self, number: impl FnOnce(u32) -> u32) -> Coded<A> {
+        match self {
+            Answer::Is(value) => (1, Some(value)),
+            Answer::Nothing => (0, None),
+            Answer::Number(n) => (number(n), None),
+        }
+    }
+}
+
 impl Answer<Vec<u8>> {
     /// As a recording has it: a number is one byte, nothing is none.
     pub fn bytes(self) -> Vec<u8> {

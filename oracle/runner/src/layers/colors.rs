@@ -1,15 +1,95 @@
 //! Colours read and written.
 
 use super::Layer;
-use crate::answer::Answer;
-use crate::cases::{Rng, SPACES, any_char, damage};
-use crate::compare::Run;
+use crate::answer::{Answer, coded};
+use crate::bench::{Bench, pieces};
+use crate::cases::{Rng, SPACES, any_char, damage, every_text, every_word};
+use crate::compare::{Esc, Run};
+use crate::lend::{Lent, cells};
 use crate::record::Lines;
 use reference::ttml::access;
 
-pub const LAYER: Layer = Layer { name: "colors", compare, record: None, bench: None };
+pub const LAYER: Layer = Layer { name: "colors", compare, record: None, bench: Some(bench) };
 
 type Rgba = (u8, u8, u8, u8);
+
+/// Channels between commas: every one of up to 4 of these is asked.
+const CHANNELS: &[&str] = &[
+    "", " ", "0", "1", "255", "256", " 7 ", "\u{A0}8", "+9", "-0", "-1", "0010", "00000000255", "1.5", "x", "é", "1 2",
+    "99999999999999999999", "0x1", "\u{3000}12\n",
+];
+
+fn compare(run: &mut Run) {
+    let lent = &mut Lent::default();
+    // After `#`: few characters for the long forms, more for the short one.
+    every_text(&['1', 'f', 'g', '+', 'é'], 8, |text| check(run, &format!("#{text}")));
+    every_text(&['0', '9', 'a', 'A', 'F', 'G', '-', '+', ' ', 'é', '日', '\u{1F680}'], 5, |text| {
+        check(run, &format!("#{text}"));
+    });
+    every_word(CHANNELS, 4, |parts| check(run, &format!("rgb({})", parts.join(","))));
+    every_text(&['r', 'g', 'b', '(', ')', '1', ',', ' '], 6, |text| check(run, text));
+    every_text(&['(', ')', '1', ',', ' ', 'é'], 6, |text| check(run, &format!("rgb{text}")));
+    for byte in 0..=255_u8 {
+        for text in [
+            format!("{byte:02x}0000"),
+            format!("00{byte:02X}00"),
+            format!("0000{byte:02x}"),
+            format!("000000{byte:02X}"),
+        ] {
+            check(run, &format!("#{text}"));
+        }
+        check(run, &format!("rgb({byte},{},{})", byte ^ 0x55, byte ^ 0xAA));
+    }
+    for name in NAMES {
+        spellings(run, name);
+    }
+    for corner in corners() {
+        check(run, &corner);
+        for space in SPACES {
+            check(run, &format!("{space}{corner}{space}"));
+        }
+    }
+    for _ in 0..run.count {
+        let text = any_color(&mut run.rng);
+        check(run, &text);
+        let [r, g, b, a, ..] = run.rng.next().to_le_bytes();
+        write(run, lent, (r, g, b, a));
+    }
+    for byte in 0..=255 {
+        write(run, lent, (byte, byte.wrapping_add(1), byte ^ 0xFF, byte.wrapping_mul(3)));
+    }
+    for length in 0..4 {
+        let port = cells::<4, _, _>(length, |out| port::probe_color(b"red", out));
+        run.same("color", format_args!("lent {length} bytes"), Ok(2), port.map(|(code, _)| code));
+    }
+}
+
+fn check(run: &mut Run, text: &str) {
+    let rust = rust(text).map(|(r, g, b, a)| [r, g, b, a]);
+    let port = cells(4, |out| port::probe_color(text.as_bytes(), out)).map(coded);
+    run.same("color", format_args!("{:?}", Esc(text.as_bytes())), Ok(rust.coded(|number| number)), port);
+}
+
+/// A name with each of its letters small or capital, and with each byte of it changed to any other of ASCII.
+fn spellings(run: &mut Run, name: &str) {
+    for capitals in 0..1 << name.len() {
+        let letter = |(at, c): (usize, char)| if capitals >> at & 1 == 1 { c.to_ascii_uppercase() } else { c };
+        check(run, &name.chars().enumerate().map(letter).collect::<String>());
+    }
+    for at in 0..name.len() {
+        for byte in '\0'..='\x7F' {
+            check(run, &format!("{}{byte}{}", &name[..at], &name[at + 1..]));
+        }
+    }
+}
+
+fn write(run: &mut Run, lent: &mut Lent, (r, g, b, a): Rgba) {
+    for alpha in [false, true] {
+        let rust = written((r, g, b, a), alpha);
+        let input = format_args!("{r} {g} {b} {a} alpha {alpha}");
+        lent.same(run, "color_text", input, rust.as_bytes(), |out| port::probe_color_text(r, g, b, a, alpha, out));
+    }
+}
 
 /// The Rust stops where it would cut a text inside a character, and nowhere else.
 fn rust(text: &str) -> Answer<Rgba> {
@@ -135,4 +215,16 @@ pub fn lines(rng: &mut Rng, lines: &mut Lines) {
     lines.add('h', 5, corners, &mut any, answer);
 }
 
-fn compare(_: &mut Run) {}
+fn bench(bench: &mut Bench) {
+    let name = |n: usize| NAMES[n % NAMES.len()].to_string();
+    let byte = |n: usize| (n * 2_654_435_761 >> 8) as u8;
+    let hex = |n: usize| written((byte(n), byte(n + 1), byte(n + 2), byte(n + 3)), n % 2 == 0);
+    let rgb = |n: usize| format!("rgb({}, {}, {})", byte(n), byte(n + 1), byte(n + 2));
+    let port = |text: &str| {
+        let mut out = [0; 4];
+        (port::probe_color(text.as_bytes(), &mut out) == 1).then_some(out.into())
+    };
+    bench.texts("parse_ttml_color_rgba, names", &pieces(name), access::parse_ttml_color_rgba, port);
+    bench.texts("parse_ttml_color_rgba, hexadecimal", &pieces(hex), access::parse_ttml_color_rgba, port);
+    bench.texts("parse_ttml_color_rgba, rgb()", &pieces(rgb), access::parse_ttml_color_rgba, port);
+}

@@ -3,21 +3,100 @@
 
 use super::decimals::{TIMES, any_decimal, decimal};
 use super::{Layer, colors, decimals};
-use crate::answer::Answer;
-use crate::cases::{Rng, damage};
-use crate::compare::Run;
+use crate::answer::{Answer, coded};
+use crate::bench::{Bench, pieces};
+use crate::cases::{Rng, damage, every_text, every_word};
+use crate::compare::{Esc, Run};
+use crate::lend::{Lent, cells};
 use crate::record::{Lines, Recording};
 use reference::ttml::access;
+use std::hint::black_box;
 
 pub const LAYER: Layer = Layer {
     name: "times",
     compare,
     record: Some(Recording { file: "crates/replay_values/stdin", count: 1_900, lines }),
-    bench: None,
+    bench: Some(bench),
 };
 
 /// A frame rate and a tick rate.
 type Rates = (Option<f64>, Option<f64>);
+
+/// What decides how a time reads: every text of up to 6 of these is asked, 12,204,241 in all.
+const SYMBOLS: &[char] = &['0', '1', '9', ':', '.', '+', '-', 's', 'm', 'h', 'f', 't', 'e', 'é', ' '];
+
+/// Parts of clock times: every one of up to 4 of these is asked, at each of 3 rates.
+const PARTS: &[&str] = &[
+    "", "0", "1", "59", "+1", "-1", "-60", " 1", "x", "é", "0.5", "1.+5", "-1.-5", "1.éééé", "54.775807", "2562047788",
+    "-2562047789", "153722867280", "9223372036854", "9223372036854775807", "-9223372036854775808", "1e3", "nan",
+    "1000000000000000",
+];
+
+fn compare(run: &mut Run) {
+    let lent = &mut Lent::default();
+    let mut turn = 0;
+    every_text(SYMBOLS, 6, |text| {
+        // The rates take turns: 14 frame rates, and as many ticks in another order.
+        turn += 1;
+        check(run, text, (RATES[turn % RATES.len()], RATES[turn / 3 % RATES.len()]));
+    });
+    every_word(PARTS, 4, |parts| {
+        let text = parts.join(":");
+        for &rate in &RATES[..3] {
+            check(run, &text, (rate, None));
+        }
+    });
+    for (text, rates) in corners() {
+        check(run, &text, rates);
+    }
+    for count in decimals::corners() {
+        for metric in METRICS {
+            for &rate in RATES {
+                let text = format!("{count}{metric}");
+                check(run, &text, rates(&text, rate));
+            }
+        }
+        for &rate in RATES {
+            check(run, &format!("0:0:0:{count}"), (rate, None));
+        }
+    }
+    for _ in 0..run.count {
+        let (text, rates) = any_time(&mut run.rng);
+        check(run, &text, rates);
+        // Rates that no document gives.
+        let odd = |rng: &mut Rng| Some(f64::from_bits(rng.next()));
+        let rates = (odd(&mut run.rng), odd(&mut run.rng));
+        check(run, &text, rates);
+        let us = any_us(&mut run.rng);
+        write(run, lent, us);
+    }
+    let port = cells::<1, _, _>(0, |out| port::probe_time(b"1s", 0.0, false, 0.0, false, out));
+    run.same("time", format_args!("lent no cell"), Ok(2), port.map(|(code, _)| code));
+    for us in written_corners() {
+        write(run, lent, us);
+    }
+    for ms in 0..200_000 {
+        write(run, lent, ms * 999);
+        write(run, lent, i64::MAX - ms * 7_777_777);
+    }
+}
+
+fn check(run: &mut Run, text: &str, rates: Rates) {
+    let port = cells(1, |out| ask_port(text, rates, out)).map(|(code, [us])| coded((code, us)));
+    let input = format_args!("{:?} frame rate {:?} tick rate {:?}", Esc(text.as_bytes()), rates.0, rates.1);
+    run.same("time", input, Ok(rust(text, rates).coded(|number| number)), port);
+}
+
+fn ask_port(text: &str, (frames, ticks): Rates, out: &mut [i64]) -> u32 {
+    // What stands for a rate that there is none of must not count.
+    let (frame_rate, tick_rate) = (frames.unwrap_or(7.0), ticks.unwrap_or(9.0));
+    port::probe_time(text.as_bytes(), frame_rate, frames.is_some(), tick_rate, ticks.is_some(), out)
+}
+
+fn write(run: &mut Run, lent: &mut Lent, us: i64) {
+    let rust = access::format_ts(us);
+    lent.same(run, "format_ts", format_args!("{us}"), rust.as_bytes(), |out| port::probe_format_ts(us, out));
+}
 
 const METRICS: &[&str] = &["ms", "s", "m", "h", "f", "t"];
 
@@ -266,4 +345,39 @@ fn given(text: &str, (frames, ticks): Rates) -> Vec<u8> {
     given
 }
 
-fn compare(_: &mut Run) {}
+fn bench(bench: &mut Bench) {
+    let clock = |n: usize| format!("{:02}:{:02}:{:02}.{:03}", n % 24, n * 7 % 60, n * 13 % 60, n * 37 % 1000);
+    let framed = |n: usize| format!("{:02}:{:02}:{:02}:{:02}", n % 24, n * 7 % 60, n * 13 % 60, n % 25);
+    let offset = |n: usize| format!("{}.{:03}{}", n * 17 % 4000, n * 37 % 1000, METRICS[n % METRICS.len()]);
+    let mixed = |n: usize| [clock(n), offset(n), framed(n)][n % 3].clone();
+    let rates = (Some(25.0), Some(10_000_000.0));
+    let rust = |text: &str| access::parse_ttml_time(text, rates.0, rates.1);
+    let port = |text: &str| {
+        let mut out = [0];
+        (ask_port(text, rates, &mut out) == 1).then_some(out[0])
+    };
+    bench.texts("parse_ttml_time, clock times", &pieces(clock), rust, port);
+    bench.texts("parse_ttml_time, clock times with frames", &pieces(framed), rust, port);
+    bench.texts("parse_ttml_time, offset times", &pieces(offset), rust, port);
+    bench.texts("parse_ttml_time, all three", &pieces(mixed), rust, port);
+
+    let times: Vec<i64> = (0..5_000).map(|n| n * 17_654_321).collect();
+    let mut out = [0; 32];
+    let mut bytes = 0;
+    for &us in &times {
+        let length = port::probe_format_ts(us, &mut out);
+        assert!(out.get(..length) == Some(access::format_ts(us).as_bytes()), "format_ts differs on {us}");
+        bytes += length;
+    }
+    let rust = || {
+        for &us in &times {
+            black_box(access::format_ts(black_box(us)));
+        }
+    };
+    let port = || {
+        for &us in &times {
+            black_box(port::probe_format_ts(black_box(us), &mut out));
+        }
+    };
+    bench.row("format_ts", bytes, rust, port);
+}
