@@ -1,1 +1,6 @@
--- What the proofs of several functions use.
+-- What the proofs of several functions use, and what the crates above cite.
+pub mod Values
+pub mod Truncated
+pub mod Counting
+pub mod Reading
+pub mod Sizes
