@@ -1,1 +1,6 @@
 -- What the proofs of several functions use.
+pub mod Names
+pub mod Reading
+pub mod Writing
+pub mod Back
+pub mod Examples

@@ -153,7 +153,7 @@ const VALUES: [u8; 80] = [
     0,
     255,
     0,
-    128,
+    128, // not 255, which is lime
     0,
     255,
     0,

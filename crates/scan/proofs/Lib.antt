@@ -5,3 +5,4 @@ pub mod Searches
 pub mod Naming
 pub mod Stores
 pub mod Rows
+pub mod Splits

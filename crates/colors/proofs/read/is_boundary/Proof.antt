@@ -1,0 +1,36 @@
+-- `is_boundary` answers whether a character starts at the place, or the text ends there.
+use mathlib.Core.Path.{sym, _∙_, _≡_}
+use native.Mathlib.Omega.{arith}
+use lib.ListN.{length}
+use borrow.Author.Tests.{eq-eqb}
+use Rattle.colors.proofs.Reading.{boundary-start, boundary-end, boundary-inside, boundary-below, boundary-above}
+use borrow.Author.Needs.{needs}
+use Rattle.colors.proofs.read.is_boundary.Statement.{statement}
+use Rattle.colors.proofs.read.is_boundary.Tie as tie
+
+returns : tie.Need-returns
+returns c = sym (boundary-start (c .before .args .text .now) (c .before .args .at) (c .if1 .taken))
+
+returns-2 : tie.Need-returns-2
+returns-2 c =
+    let e : c .before .before .args .at ≡ length (c .before .before .args .text .now) = omega arith in
+    eq-eqb _ _ e ∙ sym (boundary-end (c .before .before .args .text .now) (c .before .before .args .at) e)
+
+shared-slice-read-if3 : tie.Need-shared-slice-read-if3
+shared-slice-read-if3 c = search needs
+
+returns-3 : tie.Need-returns-3
+returns-3 c =
+    sym (boundary-inside (c .before .before .before .before .before .args .text .now) (c .before .before .before .before .before .args .at) (c .before .before .before .before .if1 .left) (omega arith) (omega arith) (omega arith))
+
+returns-4 : tie.Need-returns-4
+returns-4 c =
+    sym (boundary-below (c .before .before .before .before .args .text .now) (c .before .before .before .before .args .at) (c .before .before .before .if1 .left) (omega arith) (omega arith))
+
+returns-5 : tie.Need-returns-5
+returns-5 c =
+    sym (boundary-above (c .before .before .before .before .before .args .text .now) (c .before .before .before .before .before .args .at) (c .before .before .before .before .if1 .left) (omega arith) (omega arith))
+
+pub is-boundary-spec : {M : Type 1} → statement M
+is-boundary-spec =
+    tie.close (tie.spec returns returns-2 shared-slice-read-if3 returns-3 returns-4 returns-5)

@@ -1,0 +1,41 @@
+-- `append_rgba` writes the colour where nine bytes are left.
+use native.Mathlib.Omega.{arith}
+use Rattle.colors.proofs.Writing.{rgb-length, rgba-length, appended-kept, rgba-put}
+use borrow.Author.Needs.{needs}
+use Rattle.colors.proofs.write.append_rgba.Statement.{statement}
+use Rattle.colors.proofs.write.append_rgba.Tie as tie
+
+sub-if1 : tie.Need-sub-if1
+sub-if1 c = search needs
+
+returns : tie.Need-returns
+returns c = (omega (arith, rgba-length (c .before .before .args .c)), search needs)
+
+put-rgb-requires : tie.Need-put-rgb-requires
+put-rgb-requires c κs = search needs
+
+cast-put-digits : tie.Need-cast-put-digits
+cast-put-digits c = search needs
+
+put-digits-requires : tie.Need-put-digits-requires
+put-digits-requires c κs =
+    (omega (arith, c .before .before .before .before .before .before .before .before .pre, c .before .before .before .before .before .before .if1 .left, c .before .before .before .before .put-rgb .ensures .next, appended-kept (c .before .before .before .before .put-rgb .ensures), rgb-length (c .before .before .before .before .before .before .before .before .args .c)), omega arith, omega arith)
+
+same-length : tie.Need-same-length
+same-length c = search needs
+
+returns-2 : tie.Need-returns-2
+returns-2 c =
+    rgba-put (c .before .before .before .before .before .before .before .before .before .before .before .args .c) (c .before .before .before .before .before .before .before .put-rgb .ensures) (c .before .before .put-digits .ensures)
+
+pub append-rgba-spec : {M : Type 1} → statement M
+append-rgba-spec =
+    tie.close
+    (tie.spec
+    sub-if1
+    returns
+    put-rgb-requires
+    cast-put-digits
+    put-digits-requires
+    same-length
+    returns-2)
