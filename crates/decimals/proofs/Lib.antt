@@ -1,1 +1,3 @@
--- What the proofs of several functions use.
+-- What the proofs of several functions use, and what the crates above cite.
+pub mod Values
+pub mod Truncated
