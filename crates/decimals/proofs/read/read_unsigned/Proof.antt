@@ -1,0 +1,70 @@
+-- `read_unsigned` meets its contract: the places that it finds give the text's shape, and a law says what each shape spells.
+use mathlib.Core.Path.{_≡_, sym, _∙_}
+use mathlib.Core.Logic.{⊎-elim}
+use borrow.Author.Tests.{eqb-true, eqb-false}
+use Rattle.decimals.proofs.Reading.{Shape, shape-bare, shape-point, shape-empty, shape-rest, shape-whole, shape-digital}
+use borrow.Author.Needs.{needs}
+use Rattle.decimals.proofs.read.read_unsigned.Statement.{statement}
+use Rattle.decimals.proofs.read.read_unsigned.Tie as tie
+
+over-requires : tie.Need-over-requires
+over-requires c κs = search needs
+
+fraction-start-requires : tie.Need-fraction-start-requires
+fraction-start-requires c κs = search needs
+
+over-requires-2 : tie.Need-over-requires-2
+over-requires-2 c κs = search needs
+
+is-word-requires : tie.Need-is-word-requires
+is-word-requires c κs = search needs
+
+shape : (c : tie.Joined1) → Shape (c .before .before .before .before .args .text .now) (c .before .before .over .result) (c .before .fraction-start .result) (c .if1 .end)
+shape c =
+    let s = c .before .before .before .before .args .text .now in
+    let w = c .before .before .over in
+    let f = c .before .fraction-start in
+    ⊎-elim (λ v. shape-point s (w .result) (f .result) (w .ensures .is) (f .ensures) (c .if1 .end) (v .0 .taken) (v .2 ∙ v .1 .ensures .is))
+    (λ v. rw (v .1) (shape-bare s (w .result) (f .result) (w .ensures .is) (f .ensures) (v .0 .left)))
+    (c .if1 .came)
+
+-- there is a digit
+some : (c : tie.Joined2) → c .before .before .before .over .result ≡ 0 → c .before .if1 .end ≡ c .before .before .fraction-start .result → ⊥
+some c z e = ⊎-elim (λ w. eqb-false (c .before .if1 .end) (c .before .before .fraction-start .result) (w .1 .left) e) (λ w. w .left z) (c .if2 .came)
+
+returns : tie.Need-returns
+returns c = sym (shape-empty (c .before .before .before .before .before .before .before .before .args .negative) (c .before .before .before .before .before .before .before .before .args .text .now) (c .before .before .before .before .before .before .before .before .args .digits) (c .before .before .before .before .before .before .before .before .args .decimals) (c .before .before .before .before .before .before .over .result) (c .before .before .before .before .before .fraction-start .result) (c .before .before .before .before .if1 .end) (shape (c .before .before .before .before)) (c .before .before .before .if2 .taken) (eqb-true (c .before .before .before .before .if1 .end) (c .before .before .before .before .before .fraction-start .result) (c .before .before .if3 .taken)) ∙ rw (sym (c .before .is-word .ensures) ∙ c .if4 .taken))
+
+returns-2 : tie.Need-returns-2
+returns-2 c = sym (shape-empty (c .before .before .before .before .before .before .before .before .args .negative) (c .before .before .before .before .before .before .before .before .args .text .now) (c .before .before .before .before .before .before .before .before .args .digits) (c .before .before .before .before .before .before .before .before .args .decimals) (c .before .before .before .before .before .before .over .result) (c .before .before .before .before .before .fraction-start .result) (c .before .before .before .before .if1 .end) (shape (c .before .before .before .before)) (c .before .before .before .if2 .taken) (eqb-true (c .before .before .before .before .if1 .end) (c .before .before .before .before .before .fraction-start .result) (c .before .before .if3 .taken)) ∙ rw (sym (c .before .is-word .ensures) ∙ c .if4 .left))
+
+is-exponent-requires : tie.Need-is-exponent-requires
+is-exponent-requires c κs = search needs
+
+returns-3 : tie.Need-returns-3
+returns-3 c = sym (shape-rest (c .before .before .before .before .before .before .before .before .args .negative) (c .before .before .before .before .before .before .before .before .args .text .now) (c .before .before .before .before .before .before .before .before .args .digits) (c .before .before .before .before .before .before .before .before .args .decimals) (c .before .before .before .before .before .before .over .result) (c .before .before .before .before .before .fraction-start .result) (c .before .before .before .before .if1 .end) (shape (c .before .before .before .before)) (some (c .before .before .before)) (c .before .before .if5 .taken) ∙ rw (sym (c .before .is-exponent .ensures) ∙ c .if6 .taken))
+
+returns-4 : tie.Need-returns-4
+returns-4 c = sym (shape-rest (c .before .before .before .before .before .before .before .before .args .negative) (c .before .before .before .before .before .before .before .before .args .text .now) (c .before .before .before .before .before .before .before .before .args .digits) (c .before .before .before .before .before .before .before .before .args .decimals) (c .before .before .before .before .before .before .over .result) (c .before .before .before .before .before .fraction-start .result) (c .before .before .before .before .if1 .end) (shape (c .before .before .before .before)) (some (c .before .before .before)) (c .before .before .if5 .taken) ∙ rw (sym (c .before .is-exponent .ensures) ∙ c .if6 .left))
+
+limit-requires : tie.Need-limit-requires
+limit-requires c κs = (shape-digital (c .before .before .before .before .before .before .args .negative) (c .before .before .before .before .before .before .args .text .now) (c .before .before .before .before .before .before .args .digits) (c .before .before .before .before .before .before .args .decimals) (c .before .before .before .before .over .result) (c .before .before .before .fraction-start .result) (c .before .before .if1 .end) (shape (c .before .before)) (c .if5 .left), c .before .before .before .before .before .before .pre .0, c .before .before .before .before .before .before .pre .1)
+
+returns-5 : tie.Need-returns-5
+returns-5 c = c .limit .ensures ∙ sym (shape-whole (c .before .before .before .before .before .before .before .args .negative) (c .before .before .before .before .before .before .before .args .text .now) (c .before .before .before .before .before .before .before .args .digits) (c .before .before .before .before .before .before .before .args .decimals) (c .before .before .before .before .before .over .result) (c .before .before .before .before .fraction-start .result) (c .before .before .before .if1 .end) (shape (c .before .before .before)) (some (c .before .before)) (c .before .if5 .left))
+
+pub read-unsigned-spec : {M : Type 1} → statement M
+read-unsigned-spec =
+    tie.close
+    (tie.spec
+    over-requires
+    fraction-start-requires
+    over-requires-2
+    is-word-requires
+    returns
+    returns-2
+    is-exponent-requires
+    returns-3
+    returns-4
+    limit-requires
+    returns-5)
