@@ -8,10 +8,10 @@ use native.Mathlib.Nat.{add-zero, zero-add}
 use lib.ListN.{length, getD, take, drop, length-append, length-drop, take-append-drop, List·getD-append}
 use lib.Seq.{length-take-le, take-length, drop-at, take-add, getD-take, getD-drop, getD-append-add}
 use lib.Dec.{eqb, leb, ltb}
-use borrow.Author.Tests.{ltb-true, ltb-false, leb-true, lt-ltb, le-ltb, le-leb, lt-leb, ne-eqb, eqb-false}
+use borrow.Author.Tests.{ltb-true, ltb-false, leb-true, lt-ltb, le-ltb, le-leb, lt-leb, ne-eqb, eqb-true, eqb-false}
 use Rattle.scan.specs.Loop.{halt, more, loop}
 use Rattle.scan.proofs.Loop.{loop-out, loop-halt, loop-more, loop-ind, halt-inj, more-inj, halt≢more, more≢halt}
-use Rattle.unicode.specs.Utf8.{Range, _to_, within, table, fitsAt, firstFit, sequenceAt, WellFormed, Utf8, empty, sequence, utf8Turn, utf8End, LongestValid, Sequence, tails, followed, scalar, encode, charAt}
+use Rattle.unicode.specs.Utf8.{Range, _to_, within, table, fitsAt, firstFit, sequenceAt, WellFormed, Utf8, empty, sequence, utf8Turn, utf8End, Bounded, AsciiTo, LongestValid, Sequence, tails, followed, scalar, encode, charAt}
 
 -- ---- tests
 pub by-test : {A : Type 0} (t : Bool) → (t ≡ true → A) → (t ≡ false → A) → A
@@ -585,3 +585,28 @@ module _ (c : ℕ) (k : scalar c ≡ true) where
 
   pub encode-utf8 : Utf8 (encode c)
   encode-utf8 = utf8-one encode-formed
+
+-- ---- ASCII bytes, which are passed in blocks
+
+module _ (s : List ℕ) (p : ℕ) where
+  pub bounded-up : (e r t : ℕ) → r ≤ t → Bounded s p e r → Bounded s p e t
+  bounded-up e r t u b k l h = let g : getD s k 0 ≤ r = b k l h in omega arith
+
+  pub bounded-more : (e e′ r : ℕ) → e′ ≡ e + 1 → Bounded s p e r → getD s e 0 ≤ r → Bounded s p e′ r
+  bounded-more e e′ r w b g k l h =
+      by-test (eqb k e) (λ q. rw (eqb-true k e q) g) (λ q. let n : k ≡ e → ⊥ = eqb-false k e q in b k l (omega arith))
+
+  pub bounded-join : (e q r : ℕ) → Bounded s p q r → Bounded s q e r → Bounded s p e r
+  bounded-join e q r a b k l h = by-test (ltb k q) (λ w. a k l (ltb-true k q w)) (λ w. b k (ltb-false k q w) h)
+
+-- ASCII bytes are sequences of one byte each
+pub end-ascii : (s : List ℕ) (n p r : ℕ) → r ≡ p + n → r ≤ length s → Bounded s p r 0x7F → endFrom s p ≡ endFrom s r
+end-ascii s zero p r e h b = let w : r ≡ p = omega arith in rw w
+end-ascii s (suc n) p r e h b =
+    let g : getD s p 0 ≤ 0x7F = b p (omega arith) (omega arith) in
+    let one : Sequence s p 1 = sequence-ascii s p (omega arith) g in
+    end-on s p 1 (omega arith) (sym (one .is)) (omega arith)
+    ∙ end-ascii s n (p + 1) r (omega arith) h (λ k l q. b k (omega arith) q)
+
+pub end-run : (s : List ℕ) (p r : ℕ) → AsciiTo s p r → endFrom s p ≡ endFrom s r
+end-run s p r a = end-ascii s (r - p) p r (omega (arith, a .after)) (a .within-text) (a .ascii)

@@ -69,6 +69,16 @@ pub record LongestValid (s : List ℕ) (r : ℕ) : Type 0 where
   pub valid : Utf8 (take r s)
   pub longest : (n : ℕ) → n ≤ length s → Utf8 (take n s) → n ≤ r
 
+-- no byte from p up to e is larger than r
+abbrev pub Bounded : List ℕ → ℕ → ℕ → ℕ → Type 0
+Bounded s p e r = (k : ℕ) → p ≤ k → k < e → getD s k 0 ≤ r
+
+-- the bytes from p up to r are ASCII
+pub record AsciiTo (s : List ℕ) (p r : ℕ) : Type 0 where
+  pub after : p ≤ r
+  pub within-text : r ≤ length s
+  pub ascii : Bounded s p r 0x7F
+
 -- the sequence at p has r bytes, or none stands there and r is 0
 pub record Sequence (s : List ℕ) (p r : ℕ) : Type 0 where
   pub is : r ≡ sequenceAt s p

@@ -4,7 +4,7 @@ ghost use mathlib.Core.Path.{_≡_};
 ghost use Prim.Native.Nat.{_+_, _≤_, _<_};
 ghost use lib.ListN.{length};
 ghost use Rattle.scan.specs.Posts.{Appended};
-ghost use Rattle.unicode.specs.Utf8.{followed, Sequence, charAt, encode, LongestValid};
+ghost use Rattle.unicode.specs.Utf8.{followed, Sequence, charAt, encode, Bounded, AsciiTo, LongestValid};
 
 // The width, where the second byte lies from low to high and those after it from 0x80 to 0xBF; or 0.
 fn follow(src: &[u8], pos: usize, width: usize, low: u8, high: u8) -> usize
@@ -53,17 +53,71 @@ pub fn sequence_at(src: &[u8], pos: usize) -> usize
     }
 }
 
+// A bound of the 16 bytes from the place on: the largest of them. Its loop has no early way out, so
+// the compiler takes the 16 at once.
+fn largest(src: &[u8], pos: usize) -> u8
+    requires { ⌜ pos + 16 ≤ length (now src) ⌝ }
+    ensures { λ r. ⌜ Bounded (now (src .entry)) pos (pos + 16) r ⌝ }
+{
+    let mut most = 0;
+    let mut i = 0;
+    while i < 16 {
+        let b = src[pos + i];
+        if most < b {
+            most = b;
+        }
+        i += 1;
+    }
+    most
+}
+
+// Where the blocks of 16 ASCII bytes from the place on end.
+fn ascii_blocks(src: &[u8], pos: usize) -> usize
+    requires { ⌜ pos ≤ length (now src) ⌝ }
+    ensures { λ r. ⌜ AsciiTo (now (src .entry)) pos r ⌝ }
+{
+    let mut i = pos;
+    while 16 <= src.len() - i {
+        if 0x7F < largest(src, i) {
+            return i;
+        }
+        i += 16;
+    }
+    i
+}
+
+// Where the ASCII bytes from the place on end.
+fn ascii_end(src: &[u8], pos: usize) -> usize
+    requires { ⌜ pos ≤ length (now src) ⌝ }
+    ensures { λ r. ⌜ AsciiTo (now (src .entry)) pos r ⌝ }
+{
+    // a text in another script than Latin has few: look at one byte before a block
+    if pos < src.len() {
+        if 0x7F < src[pos] {
+            return pos;
+        }
+    }
+    let mut i = ascii_blocks(src, pos);
+    while i < src.len() {
+        if 0x7F < src[i] {
+            return i;
+        }
+        i += 1;
+    }
+    i
+}
+
 // Where the longest valid beginning of the text ends.
 pub fn utf8_end(src: &[u8]) -> usize
     ensures { λ r. ⌜ LongestValid (now (src .entry)) r ⌝ }
 {
-    let mut i = 0;
+    let mut i = ascii_end(src, 0);
     while i < src.len() {
         let width = sequence_at(src, i);
         if width == 0 {
             return i;
         }
-        i += width;
+        i = ascii_end(src, i + width);
     }
     i
 }
