@@ -1,5 +1,17 @@
 // C names for the functions that the comparison with the Rust calls. None asks anything of its
 // caller: each tests what the function below it asks.
+mod values;
+
+pub use values::probe_color;
+pub use values::probe_color_text;
+pub use values::probe_decimal;
+pub use values::probe_decimal_f64;
+pub use values::probe_format_ts;
+pub use values::probe_is_size;
+pub use values::probe_size;
+pub use values::probe_size_width;
+pub use values::probe_time;
+pub use values::probe_truncate;
 ghost use mathlib.Core.Path.{_≡_};
 ghost use mathlib.Core.Bool.{true, false};
 ghost use mathlib.Core.List.{[], _∷_};

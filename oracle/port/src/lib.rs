@@ -72,4 +72,34 @@ exports! {
     fn probe_escape_text(text: &[u8], out: &mut [u8]) -> usize;
     /// As `probe_escape_text`.
     fn probe_escape_attr(text: &[u8], out: &mut [u8]) -> usize;
+
+    /// 0: no decimal; 1: one, and `out` is its digits, how many of them stand behind the point, and 1 for a minus;
+    /// 2: one past the limits. 3 if `out` has fewer than 3 cells, or the limits are above 18 or 2^32 - 1.
+    fn probe_decimal(text: &[u8], digits: u64, decimals: u64, out: &mut [u64]) -> u32;
+    /// The same with the limits of times, and `out[0]` is the f64.
+    fn probe_decimal_f64(text: &[u8], out: &mut [f64]) -> u32;
+    fn probe_truncate(x: f64) -> i64;
+    /// The same with the limits of sizes: `out[0]` is the f32, and its spelling stands at the start of `spelling`.
+    /// 3 if one of them has no room for it.
+    fn probe_size(text: &[u8], spelling: &mut [u8], out: &mut [f32]) -> u32;
+    /// How many bytes the spelling has; 0 if there is no size.
+    fn probe_size_width(text: &[u8]) -> usize;
+    fn probe_is_size(value: f32, negative: bool, digits: u32, scale: u32) -> bool;
+
+    /// 0: no time; 1: one, in `out[0]`; 14, 15, 16: document 01's number. 2 if `out` is empty.
+    fn probe_time(
+        text: &[u8],
+        frame_rate: f64,
+        has_frame_rate: bool,
+        tick_rate: f64,
+        has_tick_rate: bool,
+        out: &mut [i64]
+    ) -> u32;
+    /// As `probe_escape_text`.
+    fn probe_format_ts(us: i64, out: &mut [u8]) -> usize;
+
+    /// 0: no colour; 1: one, in `out`; 15: document 01's number. 2 if `out` has fewer than 4 cells.
+    fn probe_color(text: &[u8], out: &mut [u8]) -> u32;
+    /// As `probe_escape_text`.
+    fn probe_color_text(r: u8, g: u8, b: u8, a: u8, alpha: bool, out: &mut [u8]) -> usize;
 }

@@ -1,6 +1,7 @@
 //! `bench`: the time that both sides take on the same inputs.
 
 use crate::Options;
+use std::fmt::Debug;
 use std::hint::black_box;
 use std::process::ExitCode;
 use std::time::{Duration, Instant};
@@ -31,12 +32,27 @@ impl Bench {
             rust_best / port_best
         );
     }
+
+    /// The same on short texts, of which each is asked once. Both answers are compared before.
+    pub fn texts<A: PartialEq + Debug>(
+        &mut self,
+        input: &str,
+        texts: &[String],
+        rust: impl Fn(&str) -> A,
+        port: impl Fn(&str) -> A,
+    ) {
+        for text in texts {
+            assert_eq!(rust(text), port(text), "{input} differs on {text:?}");
+        }
+        let bytes = texts.iter().map(String::len).sum();
+        self.row(input, bytes, || each(texts, &rust), || each(texts, &port));
+    }
 }
 
 pub fn run(options: &Options) -> ExitCode {
     println!("Best of {ROUNDS} rounds. Ratio: Rust time / port time; above 1 the port is faster.");
-    println!("The Rust's decode_entities, escape_text and escape_attr allocate their result in each call, and");
-    println!("that is timed. The port writes into a buffer that was made before and is not cleared in between.");
+    println!("Where the Rust makes a text it allocates it in each call, and that is timed. The port writes into a");
+    println!("buffer that was made before and is not cleared in between.");
     println!("{:42} {:>8} {:>13} {:>13} {:>8}", "input", "bytes", "Rust ns/byte", "port ns/byte", "ratio");
     for layer in &options.layers {
         if let Some(bench) = layer.bench {
@@ -44,6 +60,12 @@ pub fn run(options: &Options) -> ExitCode {
         }
     }
     ExitCode::SUCCESS
+}
+
+fn each<A>(texts: &[String], side: impl Fn(&str) -> A) {
+    for text in texts {
+        black_box(side(black_box(text)));
+    }
 }
 
 /// How many calls make a round.
@@ -95,13 +117,18 @@ pub fn cjk() -> String {
 
 /// The pieces for 0, 1, 2 .. up to the last that fits, then blanks.
 pub fn filled(piece: impl Fn(usize) -> String) -> String {
-    let mut text = String::new();
-    for piece in (0..).map(piece) {
-        if text.len() + piece.len() > BYTES {
-            break;
-        }
-        text += &piece;
-    }
+    let mut text = pieces(piece).concat();
     text.extend(std::iter::repeat_n(' ', BYTES - text.len()));
     text
+}
+
+/// The pieces for 0, 1, 2 .. up to the last that fits.
+pub fn pieces(piece: impl Fn(usize) -> String) -> Vec<String> {
+    let mut left = BYTES;
+    let fits = |piece: &String| {
+        let rest = left.checked_sub(piece.len());
+        left = rest.unwrap_or(0);
+        rest.is_some()
+    };
+    (0..).map(piece).take_while(fits).collect()
 }

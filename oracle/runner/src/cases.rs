@@ -105,3 +105,19 @@ pub fn any_char(rng: &mut Rng) -> char {
 pub fn any_text(rng: &mut Rng, most: usize) -> String {
     (0..rng.below(most + 1)).map(|_| any_char(rng)).collect()
 }
+
+/// A text in which a character is put in, left out, changed or doubled, or that is cut.
+pub fn damage(rng: &mut Rng, text: &str, foreign: &[char]) -> String {
+    let mut text: Vec<char> = text.chars().collect();
+    let at = rng.below(text.len() + 1);
+    let foreign = rng.pick(foreign);
+    match rng.below(5) {
+        0 => text.insert(at, foreign),
+        _ if at == text.len() => text.push(foreign),
+        1 => drop(text.remove(at)),
+        2 => text[at] = foreign,
+        3 => text.insert(at, text[at]),
+        _ => text.truncate(at),
+    }
+    text.into_iter().collect()
+}

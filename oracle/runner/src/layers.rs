@@ -1,15 +1,19 @@
 //! The layers of the port. Each is a file, with one `LAYER`, and has a line in each of the two lists here.
 
+pub mod colors;
+pub mod decimals;
 pub mod entities;
 pub mod numerals;
 pub mod scan;
+pub mod times;
 pub mod utf8;
 
 use crate::bench::Bench;
 use crate::compare::Run;
 use crate::record::Recording;
 
-pub static LAYERS: &[Layer] = &[utf8::LAYER, scan::LAYER, numerals::LAYER, entities::LAYER];
+pub static LAYERS: &[Layer] =
+    &[utf8::LAYER, scan::LAYER, numerals::LAYER, entities::LAYER, decimals::LAYER, times::LAYER, colors::LAYER];
 
 pub struct Layer {
     pub name: &'static str,

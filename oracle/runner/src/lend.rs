@@ -1,6 +1,7 @@
 //! Buffers lent to the port, with an area around them that it must leave alone.
 
-use crate::compare::Esc;
+use crate::compare::{Esc, Run};
+use std::fmt::Arguments;
 
 /// What the port may not do with what it is lent.
 #[derive(Debug, PartialEq)]
@@ -47,21 +48,63 @@ impl Lent {
         }
         Ok(Some(Esc(text)))
     }
+
+    /// Compares what the port writes into buffers of several lengths, around the one that just fits.
+    pub fn same(
+        &mut self,
+        run: &mut Run,
+        function: &'static str,
+        input: Arguments,
+        rust: &[u8],
+        port: impl Fn(&mut [u8]) -> usize,
+    ) {
+        let fits = rust.len();
+        for length in [0, fits.saturating_sub(6), fits.saturating_sub(1), fits, fits + 1, fits + 9] {
+            let rust = (length >= fits).then_some(Esc(rust));
+            run.same(function, format_args!("{input} into {length} bytes"), Ok(rust), self.ask(length, &port));
+        }
+    }
+}
+
+/// What a cell of a table holds before it is lent.
+pub trait Cell: Copy + PartialEq {
+    const FILL: Self;
+}
+
+impl Cell for u64 {
+    const FILL: u64 = 0xFFFF_0BAD_0BAD_FFFF;
+}
+
+impl Cell for i64 {
+    const FILL: i64 = -0x0BAD_0BAD_0BAD_0BAD;
+}
+
+impl Cell for f64 {
+    const FILL: f64 = -0.0123456789e-200;
+}
+
+impl Cell for f32 {
+    const FILL: f32 = -0.0123456789e-20;
+}
+
+impl Cell for u8 {
+    const FILL: u8 = 0xA5;
 }
 
 /// Lends `lent` cells, at most 4, to a question that may write the first `USED`. Gives its answer and those.
-pub fn cells<const USED: usize, A>(
+pub fn cells<const USED: usize, C: Cell, A>(
     lent: usize,
-    question: impl FnOnce(&mut [u64]) -> A,
-) -> Result<(A, [u64; USED]), Fault> {
-    const CELL: u64 = 0xFFFF_0BAD_0BAD_FFFF;
-    let mut cells = [CELL; 8];
+    question: impl FnOnce(&mut [C]) -> A,
+) -> Result<(A, [C; USED]), Fault> {
+    let mut cells = [C::FILL; 8];
     let answer = question(&mut cells[..lent]);
-    if cells[lent..].iter().any(|&cell| cell != CELL) {
+    if cells[lent..].iter().any(|&cell| cell != C::FILL) {
         return Err(Fault::WroteOutside);
     }
-    if cells[USED..].iter().any(|&cell| cell != CELL) {
+    if cells[USED..].iter().any(|&cell| cell != C::FILL) {
         return Err(Fault::WroteAfter);
     }
-    Ok((answer, cells[..USED].try_into().unwrap()))
+    let mut used = [C::FILL; USED];
+    used.copy_from_slice(&cells[..USED]);
+    Ok((answer, used))
 }

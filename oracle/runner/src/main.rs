@@ -1,5 +1,6 @@
 //! Asks the Rust and the port the same questions: `compare`, `record` and `bench`.
 
+mod answer;
 mod bench;
 mod cases;
 mod compare;

@@ -8,14 +8,15 @@ use std::fmt::Write;
 use std::path::Path;
 use std::process::ExitCode;
 
-/// How many lines a recording has if `--count` does not say, and how long it may become.
-const COUNT: usize = 1_500;
-const MOST_BYTES: usize = 120_000;
+/// How long a recording may become.
+const MOST_BYTES: usize = 150_000;
 
 /// How a layer is recorded.
 pub struct Recording {
     /// Where it is written, from the project's root.
     pub file: &'static str,
+    /// How many lines it has if `--count` does not say.
+    pub count: usize,
     pub lines: fn(&mut Rng, &mut Lines),
 }
 
@@ -32,13 +33,22 @@ impl Lines {
         kind: char,
         percent: usize,
         corners: Vec<Vec<u8>>,
-        mut random: impl FnMut() -> Vec<u8>,
+        random: impl FnMut() -> Vec<u8>,
         answer: impl Fn(&[u8]) -> Vec<u8>,
     ) {
+        let questions = corners.into_iter().chain(std::iter::repeat_with(random));
+        let pair = |question: Vec<u8>| {
+            let answer = answer(&question);
+            (question, answer)
+        };
+        self.pairs(kind, percent, questions.map(pair));
+    }
+
+    /// Adds so many percent of all lines: the first of these questions with their answers; none twice.
+    pub fn pairs(&mut self, kind: char, percent: usize, pairs: impl Iterator<Item = (Vec<u8>, Vec<u8>)>) {
         let mut seen = HashSet::new();
-        let questions = corners.into_iter().chain(std::iter::repeat_with(&mut random));
-        for question in questions.filter(|q| seen.insert(q.clone())).take(self.count * percent / 100) {
-            writeln!(self.text, "{kind} {} {}", hex(&question), hex(&answer(&question))).unwrap();
+        for (question, answer) in pairs.filter(|(q, _)| seen.insert(q.clone())).take(self.count * percent / 100) {
+            writeln!(self.text, "{kind} {} {}", hex(&question), hex(&answer)).unwrap();
         }
     }
 }
@@ -54,7 +64,7 @@ fn hex(bytes: &[u8]) -> String {
 pub fn run(options: &Options) -> Result<ExitCode, String> {
     for layer in &options.layers {
         let Some(recording) = &layer.record else { continue };
-        let count = options.count.unwrap_or(COUNT);
+        let count = options.count.unwrap_or(recording.count);
         let mut lines = Lines { count, text: String::new() };
         (recording.lines)(&mut Rng::new(options.seed, layer.name), &mut lines);
         let made = lines.text.lines().count();

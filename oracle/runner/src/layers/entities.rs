@@ -12,7 +12,7 @@ use reference::ttml::access;
 pub const LAYER: Layer = Layer {
     name: "entities",
     compare,
-    record: Some(Recording { file: "crates/replay_entities/stdin", lines }),
+    record: Some(Recording { file: "crates/replay_entities/stdin", count: 1_500, lines }),
     bench: Some(bench),
 };
 
@@ -88,13 +88,7 @@ fn escapes(run: &mut Run, lent: &mut Lent, text: &str) {
 
 fn escape(run: &mut Run, lent: &mut Lent, name: &'static str, text: &str, rust: Rust, port: Port) {
     let bytes = text.as_bytes();
-    let rust = rust(text);
-    let fits = rust.len();
-    for length in [0, fits.saturating_sub(6), fits.saturating_sub(1), fits, fits + 1, fits + 9] {
-        let rust = (length >= fits).then_some(Esc(rust.as_bytes()));
-        let port = lent.ask(length, |out| port(bytes, out));
-        run.same(name, format_args!("{:?} into {length} bytes", Esc(bytes)), Ok(rust), port);
-    }
+    lent.same(run, name, format_args!("{:?}", Esc(bytes)), rust(text).as_bytes(), |out| port(bytes, out));
 }
 
 /// A numeric reference's name, with zeros so that it has at least so many bytes.

@@ -41,9 +41,9 @@ fn spaces(run: &mut Run) {
     }
     // Too few cells for an answer.
     for lent in 0..2 {
-        let port = cells::<2, _>(lent, |out| port::probe_trim(b" a ", out)).map(|(answer, _)| answer);
+        let port = cells::<2, _, _>(lent, |out| port::probe_trim(b" a ", out)).map(|(answer, _)| answer);
         run.same("trim", format_args!("lent {lent} cells"), Ok(false), port);
-        let port = cells::<2, _>(lent, |out| port::probe_next_word(b" a ", 0, out)).map(|(answer, _)| answer);
+        let port = cells::<2, _, _>(lent, |out| port::probe_next_word(b" a ", 0, out)).map(|(answer, _)| answer);
         run.same("next_word", format_args!("lent {lent} cells"), Ok(false), port);
     }
 }
