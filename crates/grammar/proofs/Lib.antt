@@ -9,5 +9,6 @@ pub mod Rounds
 pub mod CountedEnds
 pub mod CountedRounds
 pub mod Refusing
+pub mod Inside
 pub mod Theorem
 pub mod Examples
