@@ -10,5 +10,6 @@ pub mod CountedEnds
 pub mod CountedRounds
 pub mod Refusing
 pub mod Inside
+pub mod First
 pub mod Theorem
 pub mod Examples
