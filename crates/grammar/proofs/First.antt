@@ -9,24 +9,24 @@ use Prim.Native.Nat.{ℕ, zero, suc, _+_, _-_, _≤_, _<_}
 use native.Mathlib.Omega.{arith}
 use mathlib.Core.Logic.{_⊎_, inl, inr, _↔_}
 use mathlib.Core.Bool.{Bool, true, false}
-use mathlib.Core.List.{List, [], _∷_, _++_, append-nil, append-assoc, cons≢nil, nil≢cons, head-eq-of-cons-eq}
+use mathlib.Core.List.{List, [], _∷_, _++_, append-nil, append-assoc, nil≢cons, head-eq-of-cons-eq}
 use lib.ListN.{length, drop, length-append}
 use lib.Dec.{eqb}
 use Rattle.scan.specs.Bytes.{blank, nameByte, attrNameByte, other}
 use Rattle.grammar.specs.Words.{Bytes, _then_, Only, Stops, Run, Begins}
 use Rattle.grammar.specs.Tree.{Attr, attr, Tree, element, Forest, none, more}
-use Rattle.grammar.specs.Tree.{`<`, `>`, `/`, `=`, `</`, `<!--`, `-->`, `<![CDATA[`}
-use Rattle.grammar.specs.Grammar.{Blanks, Name, Attribute, Attributes, no-attribute, attribute, Opening, opening, Comment, Before, a-comment, no-comment, Node}
+use Rattle.grammar.specs.Tree.{`<`, `>`, `/`, `=`, `</`, `<!--`, `<![CDATA[`}
+use Rattle.grammar.specs.Grammar.{Blanks, Name, Attributes, no-attribute, attribute, Opening, opening, Comment, Before, a-comment, no-comment, Node}
 use Rattle.grammar.specs.Limits.{treeNodes, treeAttrs}
 use Rattle.grammar.specs.Demand.{Result, refused}
-use Rattle.grammar.specs.Scan.{run, past, prefix, beyond}
-use Rattle.grammar.specs.Reader.{Res, next, mapRes, valueAs, readValue, afterNameAs, afterName, readAttribute, tagEnd, readAttributes, slashAs, afterSlash, NodeKind, Kind, kind, nodeAs, afterClose, readContent, pastProlog, ok, bad, as-text, as-section, as-element, as-close, as-comment, as-node}
+use Rattle.grammar.specs.Scan.{run, past, prefix}
+use Rattle.grammar.specs.Reader.{Res, mapRes, readValue, afterNameAs, afterName, readAttribute, tagEnd, readAttributes, slashAs, afterSlash, NodeKind, kind, nodeAs, afterClose, pastProlog, ok, bad, as-text, as-section, as-element, as-node}
 use Rattle.grammar.specs.Counted.{LRes, lnext, lmap, lift, Counted, attributesAsL, attributesStepL, attributesL, openedAsL, afterOpeningL, afterTagNameL, elementL, nodeL, contentAsL, contentStepL, contentL, nodesAsL, nodesStepL, finishL, readDocumentL, lok, lbad}
 use Rattle.grammar.specs.Refusals.{ElementBegins, NodeBegins, AttributeBegins, Viable, InStartTag, in-start-tag, Meets, too-deep, too-many-nodes, no-tag-name, too-many-attributes, slash, no-value, end-in-tag, open-close-tag, FirstMet}
 use Rattle.grammar.proofs.Tests.{by-test, eqb-eq, not-or3, or-true}
-use Rattle.grammar.proofs.Scans.{run-past, run-only, past-stops, run-is, past-is, begins-prefix, not-prefix, prefix-begins, beyond-is}
-use Rattle.grammar.proofs.Complete.{Front, attribute-front, front-stops, front-length, front-append, Gives, attribute-complete, attributes-stops, name-unblank, name-front, blank-equals, blank-gt, equals-no-name, past-none, Tagged, opening-tagged, kind-close, kind-comment, begins-more, comment-length, NodeOk, node-complete, prolog-complete, Reads}
-use Rattle.grammar.proofs.Sound.{View, view, AttributesS, attributes-sound, all-blanks, content-sound}
+use Rattle.grammar.proofs.Scans.{run-past, past-stops, run-is, past-is, begins-prefix, not-prefix, beyond-is}
+use Rattle.grammar.proofs.Complete.{Front, attribute-front, front-stops, front-length, front-append, Gives, attribute-complete, attributes-stops, name-front, blank-equals, blank-gt, equals-no-name, opening-tagged, kind-close, kind-comment, begins-more, comment-length, NodeOk, node-complete, prolog-complete, Reads}
+use Rattle.grammar.proofs.Sound.{View, view, AttributesS, attributes-sound, all-blanks}
 use Rattle.grammar.proofs.Simulation.{SimA, SimT, attributes-sim, node-sim, content-sim, same, over, fails}
 use Rattle.grammar.proofs.Ends.{content-ends}
 use Rattle.grammar.proofs.CountedRounds.{attributesC, attributesC-is, node-same, content-rounds, contentC, contentC-is, nodesC, nodesC-is, readDocumentL-is}
@@ -40,8 +40,9 @@ abbrev pub cont : ℕ → ℕ → Before → Counted Forest
 cont zero d p k j s = nodesC d k j s
 cont (suc d₀) d p k j s = contentC d p k j s
 
-abbrev pub Within : ℕ → Counted Forest
-Within d k j s = contentC d no-comment k j s
+-- the reader of an element's content from its start tag on, where d more elements may open
+abbrev pub inElement : ℕ → Counted Forest
+inElement d k j s = contentC d no-comment k j s
 
 pub content-some : (rec : ℕ → Before → Counted Forest) (d : ℕ) (p : Before) (k j : ℕ) (s : Bytes) → 0 < length s
     → contentStepL rec d p k j s ≡ contentAsL rec d p (kind s) k j s
@@ -61,8 +62,8 @@ pub cont-comment : (d₀ d : ℕ) (p : Before) (k j : ℕ) {after u : Bytes} →
 unfolding contentAsL nodesAsL
 cont-comment zero d p k j {after} {u} c =
     let s : Bytes = u ++ after in
-    nodesC-is d k j s ∙ nodes-some Within nodesC d k j s (comment-some c)
-    ∙ ap (λ i. nodesAsL Within nodesC d i k j s) (kind-comment s (begins-more `<!--` u after (c .opens)))
+    nodesC-is d k j s ∙ nodes-some inElement nodesC d k j s (comment-some c)
+    ∙ ap (λ i. nodesAsL inElement nodesC d i k j s) (kind-comment s (begins-more `<!--` u after (c .opens)))
     ∙ ap (nodesC d k j) (beyond-is 45 (45 ∷ 62 ∷ []) after u (c .ends))
 cont-comment (suc d₀) d p k j {after} {u} c =
     let s : Bytes = u ++ after in
@@ -71,13 +72,13 @@ cont-comment (suc d₀) d p k j {after} {u} c =
     ∙ ap (contentC d a-comment k j) (beyond-is 45 (45 ∷ 62 ∷ []) after u (c .ends))
 
 pub cont-node : (d₀ d : ℕ) (p : Before) (k j : ℕ) (s : Bytes) (i : NodeKind) → 0 < length s → kind s ≡ as-node i
-    → cont d₀ d p k j s ≡ lnext (nodeL Within i d k j s) (λ t k j r. lmap (more t) (cont d₀ d no-comment k j r))
+    → cont d₀ d p k j s ≡ lnext (nodeL inElement i d k j s) (λ t k j r. lmap (more t) (cont d₀ d no-comment k j r))
 unfolding contentAsL nodesAsL
-cont-node zero d p k j s i g e = nodesC-is d k j s ∙ nodes-some Within nodesC d k j s g ∙ ap (λ i. nodesAsL Within nodesC d i k j s) e
+cont-node zero d p k j s i g e = nodesC-is d k j s ∙ nodes-some inElement nodesC d k j s g ∙ ap (λ i. nodesAsL inElement nodesC d i k j s) e
 cont-node (suc d₀) d p k j s i g e = contentC-is d p k j s ∙ content-some contentC d p k j s g ∙ ap (λ i. contentAsL contentC d p i k j s) e
 
 -- a refusal of the node is one of what goes on
-pub cont-bad : (d₀ d : ℕ) (p : Before) (k j : ℕ) (s : Bytes) (i : NodeKind) (n l : ℕ) → 0 < length s → kind s ≡ as-node i → nodeL Within i d k j s ≡ lbad n l
+pub cont-bad : (d₀ d : ℕ) (p : Before) (k j : ℕ) (s : Bytes) (i : NodeKind) (n l : ℕ) → 0 < length s → kind s ≡ as-node i → nodeL inElement i d k j s ≡ lbad n l
     → cont d₀ d p k j s ≡ lbad n l
 cont-bad d₀ d p k j s i n l g e q = cont-node d₀ d p k j s i g e ∙ ap (λ v. lnext v (λ t k j r. lmap (more t) (cont d₀ d no-comment k j r))) q
 
@@ -99,7 +100,7 @@ node-split t after d k j u v e (over a {r} {n} {l} q) h =
 node-split t after d k j u v e fails h = let z : _≡_ {A = ℕ} 0 1 = cc in absurd (omega arith)
 
 pub node-at : (s after : Bytes) (t : Tree) (i : NodeKind) → kind s ≡ as-node i → 0 < length s → nodeAs (Reads (length s)) i s ≡ ok t after → (d k j : ℕ)
-    → NodeStep t after k j (nodeL Within i d k j s)
+    → NodeStep t after k j (nodeL inElement i d k j s)
 unfolding contentC
 node-at [] after t i e g q d k j = absurd (omega (arith, g))
 node-at (a ∷ s) after t i e g q d k j =
@@ -107,7 +108,7 @@ node-at (a ∷ s) after t i e g q d k j =
     let L : ℕ → Counted Forest = λ d k j r. contentL n d no-comment k j r in
     let v : View (a ∷ s) (as-node i) = subst (View (a ∷ s)) e (view (a ∷ s)) in
     subst (NodeStep t after k j)
-    (node-same (length s) L Within (λ d k j r h. content-rounds n (suc (length r)) d no-comment k j r (omega arith) (omega arith)) i d k j a s (omega arith))
+    (node-same (length s) L inElement (λ d k j r h. content-rounds n (suc (length r)) d no-comment k j r (omega arith) (omega arith)) i d k j a s (omega arith))
     (node-split t after d k j (nodeAs (Reads n) i (a ∷ s)) (nodeL L i d k j (a ∷ s)) q
     (node-sim (Reads n) L (λ d k j r. content-sim n no-comment d k j r) i d k j (a ∷ s))
     (node-inside (length s) (Reads n) L (λ r h. content-ends n no-comment r (omega arith)) (λ d k j r h. content-inside n no-comment d k j r (omega arith)) a s i v (omega arith) d k j))
@@ -226,7 +227,7 @@ pub data Reach (D K J : ℕ) (top : LRes Forest) (after w : Bytes) (d₀ k₀ j�
 pub data ElementReach (D K J : ℕ) (top : LRes Forest) (s w : Bytes) (d₀ k₀ j₀ : ℕ) : Type 0 where
   early : (n l : ℕ) → top ≡ lbad n l → length s < l → 0 < length w → ElementReach D K J top s w d₀ k₀ j₀
   limit : (n : ℕ) → top ≡ lbad n (length s) → n ≤ 5 → ElementReach D K J top s w d₀ k₀ j₀
-  here : (d k j : ℕ) → suc d₀ + d ≡ D → suc k₀ + k ≡ K → j₀ + j ≡ J → ((n l : ℕ) → elementL (Within d) k j (drop 1 s) ≡ lbad n l → top ≡ lbad n l)
+  here : (d k j : ℕ) → suc d₀ + d ≡ D → suc k₀ + k ≡ K → j₀ + j ≡ J → ((n l : ℕ) → elementL (inElement d) k j (drop 1 s) ≡ lbad n l → top ≡ lbad n l)
       → ElementReach D K J top s w d₀ k₀ j₀
 
 pub begins-some : (a : ℕ) (m s : Bytes) → Begins (a ∷ m) s → 0 < length s
@@ -267,7 +268,7 @@ node-reach D K J top after u w d₀ k₀ j₀ p t x (here d k j cd ck cj f) = go
     some : 0 < length s
     some = simp length-append (omega (arith, o .some-byte))
 
-    go : NodeStep t after k j (nodeL Within (o .sort) d k j s) → Reach D K J top after (w ++ u) d₀ (k₀ + treeNodes t) (j₀ + treeAttrs t) no-comment
+    go : NodeStep t after k j (nodeL inElement (o .sort) d k j s) → Reach D K J top after (w ++ u) d₀ (k₀ + treeNodes t) (j₀ + treeAttrs t) no-comment
     go (stopped n l e g) =
         early n l (f n l (cont-bad d₀ d p k j s (o .sort) n l some (o .sorted) e)) g (simp length-append (omega (arith, o .some-byte)))
     go (goes k₂ j₂ e a b) =
@@ -287,12 +288,12 @@ start-reach D K J top after o w n l d₀ k₀ j₀ op (early m i e g q) =
     early m i e (omega (arith, simp length-append at g)) (simp length-append (omega arith))
 start-reach D K J top after o w n l d₀ k₀ j₀ op (limit m e g) =
     early m (length (o ++ (62 ∷ after))) e (simp length-append (omega arith)) (simp length-append (omega arith))
-start-reach D K J top after o w n l d₀ k₀ j₀ op (here d k j cd ck cj f) = go (opening-step (Within d) blank-gt op k j)
+start-reach D K J top after o w n l d₀ k₀ j₀ op (here d k j cd ck cj f) = go (opening-step (inElement d) blank-gt op k j)
   where
-    go : OpeningStep (Within d) (62 ∷ after) n l k j (elementL (Within d) k j (drop 1 (o ++ (62 ∷ after))))
+    go : OpeningStep (inElement d) (62 ∷ after) n l k j (elementL (inElement d) k j (drop 1 (o ++ (62 ∷ after))))
         → Reach D K J top after (w ++ (o ++ (62 ∷ []))) (suc d₀) (suc k₀) (j₀ + length l) no-comment
     go (stopped m i e g) = early m i (f m i e) (omega arith) (simp length-append (omega arith))
-    go (goes j₂ c e) = here d k j₂ cd ck (omega arith) (λ m i q. f m i (e ∙ opened-here (Within d) n l k j₂ after m i q))
+    go (goes j₂ c e) = here d k j₂ cd ck (omega arith) (λ m i q. f m i (e ∙ opened-here (inElement d) n l k j₂ after m i q))
 
 pub reach : (D K J : ℕ) {after w : Bytes} {d₀ k₀ j₀ : ℕ} {p : Before} → Viable after w d₀ k₀ j₀ p → Reach D K J (answer D K J (w ++ after)) after w d₀ k₀ j₀ p
 reach D K J (Viable.prolog {after} {w} pr np) =
@@ -329,11 +330,11 @@ opening-reach D K J top after o w n l d₀ k₀ j₀ h op (early m i e g q) =
     early m i e (omega (arith, simp length-append at g)) (simp length-append (omega arith))
 opening-reach D K J top after o w n l d₀ k₀ j₀ h op (limit m e g) =
     early m (length (o ++ after)) e (simp length-append (omega (arith, opening-some op))) (simp length-append (omega (arith, opening-some op)))
-opening-reach D K J top after o w n l d₀ k₀ j₀ h op (here d k j cd ck cj f) = go (opening-step (Within d) h op k j)
+opening-reach D K J top after o w n l d₀ k₀ j₀ h op (here d k j cd ck cj f) = go (opening-step (inElement d) h op k j)
   where
-    go : OpeningStep (Within d) after n l k j (elementL (Within d) k j (drop 1 (o ++ after))) → TagReach J top after (w ++ o) (j₀ + length l)
+    go : OpeningStep (inElement d) after n l k j (elementL (inElement d) k j (drop 1 (o ++ after))) → TagReach J top after (w ++ o) (j₀ + length l)
     go (stopped m i e g) = early m i (f m i e) g (simp length-append (omega (arith, opening-some op)))
-    go (goes j₂ c e) = here (Within d) n l k j₂ (omega arith) (λ m i q. f m i (e ∙ q))
+    go (goes j₂ c e) = here (inElement d) n l k j₂ (omega arith) (λ m i q. f m i (e ∙ q))
 
 pub tag-reach : (D K J : ℕ) {after w : Bytes} {j₀ : ℕ} → Stops blank after → InStartTag after w j₀ → TagReach J (answer D K J (w ++ after)) after w j₀
 tag-reach D K J {after} h (in-start-tag {w} {o} {n} {d = d₀} {k = k₀} {j = j₀} {p} {l} v eb op) =
@@ -388,7 +389,7 @@ pub some-length : (s : Bytes) → ¬ (s ≡ []) → 0 < length s
 some-length [] h = absurd (h refl)
 some-length (a ∷ s) h = omega arith
 
-pub no-room : (i : NodeKind) (d j : ℕ) (s : Bytes) → (n : ℕ) × (nodeL Within i d 0 j s ≡ lbad n (length s)) × (n ≤ 5)
+pub no-room : (i : NodeKind) (d j : ℕ) (s : Bytes) → (n : ℕ) × (nodeL inElement i d 0 j s ≡ lbad n (length s)) × (n ≤ 5)
 unfolding nodeL
 no-room as-text d j s = (5, refl, omega arith)
 no-room as-section d j s = (5, refl, omega arith)
@@ -416,7 +417,7 @@ pub no-tag-name-sooner : (D K J : ℕ) (w after : Bytes) (d₀ k₀ j₀ : ℕ) 
 no-tag-name-sooner D K J w after d₀ k₀ j₀ (early n l e g h) st = sooner-before D K J w (60 ∷ after) 6 n l e g h
 no-tag-name-sooner D K J w after d₀ k₀ j₀ (limit n e g) st = sooner-here D K J w (60 ∷ after) 6 n e (omega arith)
 no-tag-name-sooner D K J w after d₀ k₀ j₀ (here d k j cd ck cj f) st =
-    sooner-here D K J w (60 ∷ after) 6 6 (f 6 (suc (length after)) (no-name-here (Within d) k j after st)) (omega arith)
+    sooner-here D K J w (60 ∷ after) 6 6 (f 6 (suc (length after)) (no-name-here (inElement d) k j after st)) (omega arith)
 
 -- 7
 pub name-begins-front : (s : Bytes) → AttributeBegins s → Front s
@@ -627,7 +628,7 @@ end-in-tag-sooner D K J w n after d₀ k₀ j₀ (here d k j cd ck cj f) nm no-o
     let some-byte : 0 < length x = simp length-append (omega arith) in
     let a = read in
     by-answer D K J x 10 (length x) (a .0) (a .1)
-    (f (a .0) (a .1) (tag-name (Within d) n after r k j nm refl ∙ ap (λ v. lnext v (λ l k j r. afterOpeningL (Within d) n l k j r)) (a .2)))
+    (f (a .0) (a .1) (tag-name (inElement d) n after r k j nm refl ∙ ap (λ v. lnext v (λ l k j r. afterOpeningL (inElement d) n l k j r)) (a .2)))
     (end-of-text (length x) (a .1) (a .0) some-byte (a .3))
   where
     read : (m : ℕ) × (i : ℕ) × (attributesC k j (past blank after) ≡ lbad m i) × (m ≤ 10)
@@ -670,7 +671,7 @@ pub exactly : (D K J : ℕ) (s : Bytes) (n p : ℕ) → (readDocumentL D K J s �
 exactly D K J s n p = (
   (λ e. record { met = refused-meets D K J s n p e; first = λ m q h. as-first D K J s n p m q e (meets-sooner D K J h) }),
   (λ h.
-  let a = meets-sooner D K J (h .met) in
-  let b = no-other (a .number) (a .place) n p (a .no-later) (h .first (a .number) (a .place) (refused-meets D K J s (a .number) (a .place) (a .answered))) in
-  a .answered ∙ ap₂ refused (b .0) (b .1)),
+      let a = meets-sooner D K J (h .met) in
+      let b = no-other (a .number) (a .place) n p (a .no-later) (h .first (a .number) (a .place) (refused-meets D K J s (a .number) (a .place) (a .answered))) in
+      a .answered ∙ ap₂ refused (b .0) (b .1)),
 )
