@@ -93,7 +93,7 @@ module _ (N : ℕ) (f g : Counted Forest) (same : (k j : ℕ) (r : Bytes) → le
   more-same M (lok t k j r) e h = ap (lmap (more t)) (same k j r (omega arith))
   more-same M (lbad x y) e h = refl
 
-node-same : (N : ℕ) (f g : ℕ → Counted Forest) → ((d k j : ℕ) (r : Bytes) → length r < N → f d k j r ≡ g d k j r)
+pub node-same : (N : ℕ) (f g : ℕ → Counted Forest) → ((d k j : ℕ) (r : Bytes) → length r < N → f d k j r ≡ g d k j r)
     → (i : NodeKind) (d k j a : ℕ) (s : Bytes) → length s ≤ N → nodeL f i d k j (a ∷ s) ≡ nodeL g i d k j (a ∷ s)
 unfolding nodeL
 node-same N f g q as-text d zero j a s h = refl

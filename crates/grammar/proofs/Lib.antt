@@ -9,5 +9,7 @@ pub mod Rounds
 pub mod CountedEnds
 pub mod CountedRounds
 pub mod Refusing
+pub mod Inside
+pub mod First
 pub mod Theorem
 pub mod Examples

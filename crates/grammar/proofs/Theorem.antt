@@ -2,6 +2,7 @@
 --     taken              the reader takes a text, and gives f, exactly if the grammar derives f for it within the limits
 --     takes-exactly, gives-that-tree, no-two     the demand
 --     refuses-truly      a number that is answered is met at its place
+--     refuses-exactly    the number that is answered is the first that is met
 --     too-long           a text past 65,536 bytes meets 2
 use mathlib.Core.Path.{_≡_, refl, sym, ap, _∙_}
 use Prim.Native.Nat.{ℕ, _≤_, _<_}
@@ -12,12 +13,12 @@ use lib.Dec.{leb, leb→le, le→leb}
 use Rattle.grammar.specs.Words.{Bytes}
 use Rattle.grammar.specs.Tree.{Forest}
 use Rattle.grammar.specs.Demand.{Result, tree, refused, Derives, TakesExactly, GivesThatTree, NoTwo, decodeForest}
-use Rattle.grammar.specs.Refusals.{Meets, RefusesTruly}
+use Rattle.grammar.specs.Refusals.{RefusesTruly, RefusesExactly}
 use Rattle.grammar.specs.Counted.{readDocumentL, textAs, readText, decodeResult, treeReader}
 use Rattle.grammar.proofs.Tests.{by-test, T→is, is→T}
 use Rattle.grammar.proofs.Complete.{unique}
 use Rattle.grammar.proofs.Simulation.{text-exactly}
-use Rattle.grammar.proofs.Refusing.{refused-meets}
+use Rattle.grammar.proofs.First.{exactly}
 
 pub taken : (s : Bytes) (f : Forest) → (readText s ≡ tree f) ↔ Derives s f
 taken s f = (
@@ -55,15 +56,26 @@ too-long decode s h =
     (λ e. let small : length s ≤ 65536 = leb→le (length s) 65536 (is→T (leb (length s) 65536) e) in absurd (omega arith))
     (λ e. rw e)
 
-pub refuses-truly : (decode : Bytes → Bytes) → RefusesTruly (treeReader decode)
+-- a text that is not too long is refused as the reader without entities refuses it
+pub refuses-as : (decode : Bytes → Bytes) (s : Bytes) (n p : ℕ) → length s ≤ 65536 → (treeReader decode s ≡ refused n p) ↔ (readDocumentL 64 8192 8192 s ≡ refused n p)
 unfolding treeReader readText textAs
-refuses-truly decode s n p h e =
-    go (readDocumentL 64 8192 8192 s) refl
-    (ap (λ b. decodeResult decode (textAs b s)) (sym (T→is (leb (length s) 65536) (le→leb (length s) 65536 h))) ∙ e)
+refuses-as decode s n p h = ((λ e. go (readDocumentL 64 8192 8192 s) refl (sym short ∙ e)), (λ e. short ∙ ap (decodeResult decode) e))
   where
-    go : (r : Result) → readDocumentL 64 8192 8192 s ≡ r → decodeResult decode (readDocumentL 64 8192 8192 s) ≡ refused n p → Meets 64 8192 8192 s n p
+    short : decodeResult decode (textAs (leb (length s) 65536) s) ≡ decodeResult decode (readDocumentL 64 8192 8192 s)
+    short = ap (λ b. decodeResult decode (textAs b s)) (T→is (leb (length s) 65536) (le→leb (length s) 65536 h))
+
+    go : (r : Result) → readDocumentL 64 8192 8192 s ≡ r → decodeResult decode (readDocumentL 64 8192 8192 s) ≡ refused n p → readDocumentL 64 8192 8192 s ≡ refused n p
     go (tree f) q z =
         let y : _≡_ {A = Result} (tree (decodeForest decode f)) (refused n p) = ap (decodeResult decode) (sym q) ∙ z in
         let o : _≡_ {A = ℕ} 0 1 = cc in
         absurd (omega arith)
-    go (refused m a) q z = refused-meets 64 8192 8192 s n p (q ∙ (ap (decodeResult decode) (sym q) ∙ z))
+    go (refused m a) q z = q ∙ (ap (decodeResult decode) (sym q) ∙ z)
+
+pub refuses-exactly : (decode : Bytes → Bytes) → RefusesExactly (treeReader decode)
+refuses-exactly decode s n p h =
+    let same-answer = refuses-as decode s n p h in
+    let first = exactly 64 8192 8192 s n p in
+    ((λ e. first .0 (same-answer .0 e)), (λ f. same-answer .1 (first .1 f)))
+
+pub refuses-truly : (decode : Bytes → Bytes) → RefusesTruly (treeReader decode)
+refuses-truly decode s n p h e = refuses-exactly decode s n p h .0 e .met
