@@ -1,3 +1,5 @@
 -- What the proofs of several functions use.
 pub mod Summing
 pub mod Clocks
+pub mod Fractions
+pub mod Parts
