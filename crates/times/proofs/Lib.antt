@@ -3,3 +3,4 @@ pub mod Summing
 pub mod Clocks
 pub mod Fractions
 pub mod Parts
+pub mod Back

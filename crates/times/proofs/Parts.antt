@@ -9,6 +9,7 @@ use lib.IntN.{ℤ, pos}
 use lib.ListN.{length, getD, take, drop, length-drop}
 use lib.Seq.{take-all, length-take-le}
 use borrow.Author.Tests.{ltb-true, ltb-false, lt-ltb, eq-eqb, ne-eqb}
+use Rattle.unicode.proofs.Utf8Laws.{by-test}
 use Rattle.scan.specs.Bytes.{other}
 use Rattle.scan.specs.Posts.{Ends}
 use Rattle.scan.specs.Split.{splitAt}
@@ -21,10 +22,6 @@ use Rattle.times.specs.declared.offset.TimingCtx.{TimingCtx}
 use Rattle.times.specs.declared.offset.Time.{Time}
 use Rattle.times.specs.Expressions as spec
 use Rattle.times.specs.Expressions.{timeDecimal, eachTime, rateTime, frameRate, tickRate, float, offsetTime, integer, unfractioned, secondsOf, summed, framed, afterSeconds, afterMinutes, afterHours, clockTime, timeIn}
-
-either : {A : Type 0} (t : Bool) → (t ≡ true → A) → (t ≡ false → A) → A
-either true f g = f refl
-either false f g = g refl
 
 -- what follows a place, as the program's `&s[k..]` has it
 pub rest-of : (s : List ℕ) (k : ℕ) → take (length s - k) (drop k s) ≡ drop k s
@@ -47,7 +44,7 @@ module _ (b : ℕ) (s : List ℕ) (r : ℕ) (e : Ends (other b) s 0 r) where
 -- ---- the parts of a clock time
 module _ (s : List ℕ) (r : ℕ) (e : Ends (other 58) s 0 r) (ctx : TimingCtx) where
   pub frames-first : (t : Time) → afterSeconds t (splitAt 58 s) ctx ≡ framed t (timeDecimal (take r s)) ctx
-  frames-first t = either (ltb r (length s)) (λ w. rw (parts-more 58 s r e (ltb-true r (length s) w))) (λ w. rw (parts-last 58 s r e (ltb-false r (length s) w)))
+  frames-first t = by-test (ltb r (length s)) (λ w. rw (parts-more 58 s r e (ltb-true r (length s) w))) (λ w. rw (parts-last 58 s r e (ltb-false r (length s) w)))
 
   module _ (h m : Numeral) where
     pub seconds-last : length s ≤ r → afterMinutes h m (splitAt 58 s) ctx ≡ summed h m (secondsOf (take r s))
@@ -91,7 +88,7 @@ module _ (s : List ℕ) (r : ℕ) (e : Ends (other 58) s 0 r) (ctx : TimingCtx) 
 
   pub minutes-none : (h : Whole) → Time.Nothing ≡ afterHours (Numeral.Is h) (splitAt 58 s) ctx
   minutes-none h =
-      either (ltb r (length s))
+      by-test (ltb r (length s))
       (λ w. sym (minutes-more s r e ctx (Numeral.Is h) (ltb-true r (length s) w) ∙ rw none (no-minutes h (splitAt 58 (drop (r + 1) s)) ctx)))
       (λ w. sym (minutes-last s r e ctx (Numeral.Is h) (ltb-false r (length s) w) ∙ rw none))
 
@@ -127,7 +124,7 @@ module _ (s : List ℕ) (r : ℕ) (e : Ends (other 46) s 0 r) where
   pub point-nothing : (i : Numeral) → i ≡ integer (take r s) → i ≡ Numeral.Nothing → Time.Nothing ≡ secondsOf s
   point-nothing i d n =
       let none : integer (take r s) ≡ Numeral.Nothing = sym d ∙ n in
-      either (ltb r (length s))
+      by-test (ltb r (length s))
       (λ w. sym (point-here (ltb-true r (length s) w) ∙ rw none))
       (λ w. sym (point-none (ltb-false r (length s) w) ∙ rw none))
 
@@ -144,7 +141,7 @@ module _ (s : List ℕ) (ctx : TimingCtx) where
     pub metric-s : (1 < length s → getD s (length s - 1 - 1) 0 ≡ 109 → ⊥) → spec.expression s ctx ≡ eachTime (timeDecimal (trimmed (take (length s - 1) s))) (float 1000000)
     unfolding spec.expression offsetTime
     metric-s n =
-        either (ltb 1 (length s))
+        by-test (ltb 1 (length s))
         (λ w.
         let z : length s - 1 - 1 ≡ length s - 2 = omega arith in
         let m : getD s (length s - 2) 0 ≡ 109 → ⊥ = rw z at (n (ltb-true 1 (length s) w)) in
