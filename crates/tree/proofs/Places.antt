@@ -3,13 +3,13 @@
 --     span-within, span-apart                      what a consumer reads off it
 --     meaning-placed                               the theorem
 use Prim.Native.Nat.{ℕ, zero, suc, _+_, _-_, _≤_, _<_}
-use mathlib.Core.Path.{_≡_, refl, sym, subst⁻¹, _∙_}
+use mathlib.Core.Path.{_≡_, refl, sym, subst⁻¹}
 use mathlib.Core.Bool.{Bool, true, false, cond, true≢false}
 use mathlib.Core.List.{List, [], _∷_, _++_, append-assoc, append-nil}
 use native.Mathlib.Omega.{arith}
 use lib.ListN.{length, getD}
 use lib.Dec.{eqb, ltb}
-use borrow.Author.Tests.{ltb-true, ltb-false}
+use borrow.Author.Tests.{ltb-true}
 use Rattle.scan.specs.Loop.{Next, halt, more, go, loop}
 use Rattle.scan.specs.Bytes.{blank, textByte, nameByte, attrNameByte, other, runEnd}
 use Rattle.scan.specs.Marks.{startsAt, seekTurn, seek, past}

@@ -6,14 +6,14 @@
 --     placed-text, placed-section, placed-elem        the order of strings, node by node
 use Prim.Native.Nat.{ℕ, zero, suc, _+_, _-_, _*_, _≤_, _<_}
 use mathlib.Core.Path.{_≡_, refl, sym, ap, _∙_}
-use mathlib.Core.List.{List, [], _∷_, _++_, append-assoc, append-nil}
+use mathlib.Core.List.{List, [], _∷_, _++_, append-assoc}
 use native.Mathlib.Omega.{arith}
 use native.Mathlib.Nat.{sub-zero}
 use lib.ListN.{length, getD, drop, replicate, length-append, length-drop, List·getD-append}
 use lib.Seq.{getD-drop, drop-drop, drop-at}
 use Rattle.scan.specs.Rows.{cells, Wide}
-use Rattle.scan.proofs.Rows.{cells-append, wide-append, cells-length, cells-at}
-use Rattle.tree.specs.Trees.{Attr, Forest, nil, text, section, elem, size, attrsOf, row, rows, attrRow, attrRows, Span, attrSpans, spans, InOrder}
+use Rattle.scan.proofs.Rows.{cells-append, wide-append, cells-at}
+use Rattle.tree.specs.Trees.{Attr, Forest, nil, text, section, elem, size, attrsOf, row, rows, attrRow, attrRows, attrSpans, spans, InOrder}
 use Rattle.tree.specs.Read.{Out, got, nothing, bad, meaning, nodesOf, attrCells}
 use Rattle.tree.specs.Walks.{treeOf, rowList, RowFits, Stands, RowIs, Listed, AttrIs}
 use Rattle.tree.proofs.Tags.{length-attrRows, attrRows-append}
