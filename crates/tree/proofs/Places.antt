@@ -165,7 +165,7 @@ module _ (s : List ℕ) (p e : ℕ) (h : p ≤ e) where
       let b : z ≤ length s = run-high (other c) s (v + 1) (omega arith) in
       let r : ℕ = cond (ltb z (length s)) (skip s (z + 1)) z in
       let d : (z ≤ r) × (r ≤ length s) = by-cond (λ k. (z ≤ k) × (k ≤ length s)) (ltb z (length s)) _ _
-            (λ w. (omega (arith, run-low blank s (z + 1)), run-high blank s (z + 1) (omega (arith, ltb-true z (length s) w)))) (λ w. (omega arith, b)) in
+      (λ w. (omega (arith, run-low blank s (z + 1)), run-high blank s (z + 1) (omega (arith, ltb-true z (length s) w)))) (λ w. (omega arith, b)) in
       attr-leaf s p e (v + 1) (z - (v + 1)) r h (omega arith) (omega arith) (d .1)
 
   bare-in : (v : ℕ) → e ≤ v → v < length s → AttrIn p s (bare s p e v)

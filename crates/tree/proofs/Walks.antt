@@ -78,12 +78,11 @@ module _ (hi n m : ℕ) where
       let d : ℕ = a + length l + length (attrsOf c) in
       let e : length (l ++ (attrsOf c ++ attrsOf f)) ≡ length l + (length (attrsOf c) + length (attrsOf f)) = simp length-append in
       let w : p + 1 + x ≤ hi = in-whole (attrSpans l ++ (spans c ++ spans f)) (p + 1 + x) hi (i .1) in
-      let r : InOrder (p + 1 + x) (spans c ++ spans f) hi = in-rest (attrSpans l) (spans c ++ spans f) (p + 1 + x) hi (i .1) in
-      (
+      let r : InOrder (p + 1 + x) (spans c ++ spans f) hi = in-rest (attrSpans l) (spans c ++ spans f) (p + 1 + x) hi (i .1) in (
         record { within = omega arith; later = omega arith; last = omega arith; own = omega arith },
         fitting-append (rowList (k + 1) b c) (rowList (k + 1 + size c) d f) (k + 1) (k + 1 + size c) (omega (arith, rows-many c (k + 1) b))
-        (fitting c (k + 1) b (p + 1 + x) (in-first (spans c) (spans f) (p + 1 + x) hi r) (omega arith) (omega arith))
-        (fitting f (k + 1 + size c) d (p + 1 + x) (in-rest (spans c) (spans f) (p + 1 + x) hi r) (omega arith) (omega arith)),
+            (fitting c (k + 1) b (p + 1 + x) (in-first (spans c) (spans f) (p + 1 + x) hi r) (omega arith) (omega arith))
+            (fitting f (k + 1 + size c) d (p + 1 + x) (in-rest (spans c) (spans f) (p + 1 + x) hi r) (omega arith) (omega arith)),
       )
 
   pub row-fits : (f : Forest) (lo i : ℕ) → InOrder lo (spans f) hi → size f ≤ n → length (attrsOf f) ≤ m → i < size f → RowFits hi n m i (getD (rowList 0 0 f) i [])
@@ -123,7 +122,7 @@ module _ (s t : List ℕ) (n m : ℕ) (left : t ≡ nodesOf n (meaning s n m)) w
   cell-at i j h g =
       let l : length (rows 0 0 forest) ≡ size forest * 6 = length-rows forest 0 0 in
       let d : getD t (i * 6 + j) 0 ≡ getD (rows 0 0 forest) (i * 6 + j) 0
-            = rw (left, nodes-of n (meaning s n m)) (List·getD-append (rows 0 0 forest) (replicate (n - size forest * 6) 0) 0 (i * 6 + j) (omega arith)) in
+      = rw (left, nodes-of n (meaning s n m)) (List·getD-append (rows 0 0 forest) (replicate (n - size forest * 6) 0) 0 (i * 6 + j) (omega arith)) in
       d ∙ rw (rows-cells forest 0 0) (cells-at 6 (rowList 0 0 forest) i j (rows-wide forest 0 0) (omega (arith, rows-many forest 0 0)) g)
 
   pub root-fits : (i : ℕ) → i < size forest → RowFits (length s) (size forest) (length (attrsOf forest)) i (getD (rowList 0 0 forest) i [])
@@ -143,7 +142,7 @@ past-cells t l i e m w z = rw (z, ← (drop-drop m (i * 6) t), w)
 row-is : (t : List ℕ) (i kind end place len first many : ℕ) (l : List ℕ) → drop (i * 6) t ≡ row kind end place len first many ++ l → RowIs t i kind end place len first many
 unfolding row
 row-is t i kind end place len first many l e = record {
-  kind-is = cell-0 ;
+  kind-is = cell-0;
   end-is = cell 1 end refl;
   place-is = cell 2 place refl;
   len-is = cell 3 len refl;
@@ -177,8 +176,7 @@ module _ (t : List ℕ) (i a p n : ℕ) where
       let d : ℕ = a + length l + length (attrsOf c) in
       let q : List ℕ = rows (i + 1) b c in
       let r : List ℕ = rows (i + 1 + size c) d f in
-      let j : length q ≡ size c * 6 = length-rows c (i + 1) b in
-      (
+      let j : length q ≡ size c * 6 = length-rows c (i + 1) b in (
         row-is t i 2 (i + 1 + size c) p n a (length l) ((q ++ r) ++ x .tail) (x .is),
         record { tail = r ++ x .tail; is = past-cells t _ i (i + 1) 6 (x .is) (omega arith) ∙ append-assoc q r (x .tail) },
         record { tail = x .tail; is = past-cells t _ i (i + 1 + size c) (6 + size c * 6) (x .is) (omega arith) ∙ (sym (drop-drop (size c * 6) 6 _) ∙ rw (append-assoc q r (x .tail)) (drop-at q (r ++ x .tail) (size c * 6) j)) },
@@ -211,8 +209,7 @@ on-attr u j x l y = (
 pub on-attrs : (u : List ℕ) (j : ℕ) (a b : List Attr) → Listed u j (a ++ b) → Listed u j a × Listed u (j + length a) b
 on-attrs u j a b y =
     let e : drop (j * 4) u ≡ attrRows a ++ (attrRows b ++ y .tail) = y .is ∙ rw (attrRows-append a b) (append-assoc (attrRows a) (attrRows b) (y .tail)) in
-    let z : (j + length a) * 4 ≡ j * 4 + length a * 4 = omega arith in
-    (
+    let z : (j + length a) * 4 ≡ j * 4 + length a * 4 = omega arith in (
       record { tail = attrRows b ++ y .tail; is = e },
       record { tail = y .tail; is = rw (z, ← (drop-drop (length a * 4) (j * 4) u), e) (drop-at (attrRows a) (attrRows b ++ y .tail) (length a * 4) (length-attrRows a)) },
     )

@@ -44,7 +44,7 @@ returns-2 c =
     let a = c .before .before .before .before .before .before .before .before .before .before .args in
     let e = c .before .before .before .before .before .find-seq in
     let passed : Passed cdataEnd (a .src .now) (a .pos + 9) (c .if2 .q)
-          = ⊎-elim (λ w. rw (w .1) (passed-got cdataEnd (a .src .now) (a .pos + 9) (e .result) (e .ensures) (w .0 .taken))) (λ w. rw (w .1) (section-unclosed cdataEnd (a .src .now) (a .pos + 9) (e .result) (e .ensures) (w .0 .left))) (c .if2 .came) in
+    = ⊎-elim (λ w. rw (w .1) (passed-got cdataEnd (a .src .now) (a .pos + 9) (e .result) (e .ensures) (w .0 .taken))) (λ w. rw (w .1) (section-unclosed cdataEnd (a .src .now) (a .pos + 9) (e .result) (e .ensures) (w .0 .left))) (c .if2 .came) in
     λ u. built-section (a .src .now) (a .nodes .now) _ u (a .pos) (a .k) (a .a) (e .result) (c .before .before .before .before .before .before .before .if1 .left) (c .before .before .before .before .before .before .before .before .before .before .pre .3) (c .if2 .q) (e .ensures) passed (c .before .before .before .put-node .ensures)
 
 pub parse-section-spec : {M : Type 1} → statement M
