@@ -1,5 +1,6 @@
 -- Reading the two tables back. Assumes nothing.
 --     rows-cells, rows-wide, rows-many, row-fits      row by row
+--     items-many, items-spans, items-attrs, item-at   the same in document order, with strings and attributes
 --     cell-at, root-fits                              the same of the table that the reader leaves
 --     root, on-text, on-section, on-elem, room        node by node, in the table of nodes
 --     root-attrs, on-attr, on-attrs                   attribute by attribute
@@ -9,13 +10,13 @@ use mathlib.Core.Path.{_≡_, refl, sym, ap, _∙_}
 use mathlib.Core.List.{List, [], _∷_, _++_, append-assoc}
 use native.Mathlib.Omega.{arith}
 use native.Mathlib.Nat.{sub-zero}
-use lib.ListN.{length, getD, drop, replicate, length-append, length-drop, List·getD-append}
+use lib.ListN.{take, length, getD, drop, replicate, length-append, length-drop, List·getD-append}
 use lib.Seq.{getD-drop, drop-drop, drop-at}
 use Rattle.scan.specs.Rows.{cells, Wide}
 use Rattle.scan.proofs.Rows.{cells-append, wide-append, cells-at}
 use Rattle.tree.specs.Trees.{Attr, Forest, nil, text, section, elem, size, attrsOf, row, rows, attrRow, attrRows, attrSpans, spans, InOrder}
 use Rattle.tree.specs.Read.{Out, got, nothing, bad, meaning, nodesOf, attrCells}
-use Rattle.tree.specs.Walks.{treeOf, rowList, RowFits, Stands, RowIs, Listed, AttrIs}
+use Rattle.tree.specs.Walks.{treeOf, rowList, RowFits, Item, items, itemSpans, spansOf, ownOf, Shows, Stands, RowIs, Listed, AttrIs}
 use Rattle.tree.proofs.Tags.{length-attrRows, attrRows-append}
 use Rattle.tree.proofs.Forests.{length-rows}
 use Rattle.tree.proofs.Places.{in-whole, in-first, in-rest, meaning-placed}
@@ -89,6 +90,83 @@ module _ (hi n m : ℕ) where
   row-fits f lo i o h g l =
       let z : 0 + i ≡ i = omega arith in
       rw z at (fitting-at (rowList 0 0 f) 0 i (fitting f 0 0 lo o (omega arith) (omega arith)) (omega (arith, rows-many f 0 0)))
+
+-- ---- in document order
+pub items-many : (f : Forest) → length (items f) ≡ size f
+unfolding items size
+items-many nil = refl
+items-many (text p n f) = omega (arith, items-many f)
+items-many (section p n f) = omega (arith, items-many f)
+items-many (elem p n l c f) = omega (arith, length-append (items c) (items f), items-many c, items-many f)
+
+spansOf-append : (a b : List Item) → spansOf (a ++ b) ≡ spansOf a ++ spansOf b
+unfolding spansOf
+spansOf-append [] b = refl
+spansOf-append (x ∷ a) b = rw (spansOf-append a b, append-assoc)
+
+ownOf-append : (a b : List Item) → ownOf (a ++ b) ≡ ownOf a ++ ownOf b
+unfolding ownOf
+ownOf-append [] b = refl
+ownOf-append (x ∷ a) b = rw (ownOf-append a b, append-assoc)
+
+pub items-spans : (f : Forest) → spansOf (items f) ≡ spans f
+unfolding items spansOf itemSpans spans attrSpans
+items-spans nil = refl
+items-spans (text p n f) = rw (items-spans f)
+items-spans (section p n f) = rw (items-spans f)
+items-spans (elem p n l c f) = rw (spansOf-append (items c) (items f), items-spans c, items-spans f)
+
+pub items-attrs : (f : Forest) → ownOf (items f) ≡ attrsOf f
+unfolding items ownOf attrsOf
+items-attrs nil = refl
+items-attrs (text p n f) = items-attrs f
+items-attrs (section p n f) = items-attrs f
+items-attrs (elem p n l c f) = rw (ownOf-append (items c) (items f), items-attrs c, items-attrs f)
+
+-- rows show items one by one, a attributes standing before the first
+abbrev Showing : ℕ → List (List ℕ) → List Item → Type 0
+Showing a [] [] = Unit {0}
+Showing a [] (x ∷ xs) = ⊥
+Showing a (r ∷ rs) [] = ⊥
+Showing a (r ∷ rs) (x ∷ xs) = Shows r x a × Showing (a + length (x .own)) rs xs
+
+showing-append : (a b : ℕ) (r s : List (List ℕ)) (x y : List Item) → b ≡ a + length (ownOf x) → Showing a r x → Showing b s y → Showing a (r ++ s) (x ++ y)
+unfolding ownOf
+showing-append a b [] s [] y e h g = let z : a ≡ b = omega arith in rw z g
+showing-append a b [] s (x ∷ xs) y e h g = absurd h
+showing-append a b (r ∷ rs) s [] y e h g = absurd h
+showing-append a b (r ∷ rs) s (x ∷ xs) y e h g = (h .0, showing-append (a + length (x .own)) b rs s xs y (omega (arith, length-append (x .own) (ownOf xs))) (h .1) g)
+
+showing : (f : Forest) (k a : ℕ) → Showing a (rowList k a f) (items f)
+unfolding rowList row items
+showing nil k a = tt
+showing (text p n f) k a =
+    let z : a + 0 ≡ a = omega arith in
+    (record { kind-is = refl; place-is = refl; len-is = refl; first-is = λ e. absurd (omega (arith, e)); many-is = refl }, rw z (showing f (k + 1) a))
+showing (section p n f) k a =
+    let z : a + 0 ≡ a = omega arith in
+    (record { kind-is = refl; place-is = refl; len-is = refl; first-is = λ e. absurd (omega (arith, e)); many-is = refl }, rw z (showing f (k + 1) a))
+showing (elem p n l c f) k a =
+    let b : ℕ = a + length l in
+    let d : ℕ = a + length l + length (attrsOf c) in
+    let e : d ≡ b + length (ownOf (items c)) = rw (items-attrs c) in
+    (record { kind-is = refl; place-is = refl; len-is = refl; first-is = λ w. refl; many-is = refl }, showing-append b d (rowList (k + 1) b c) (rowList (k + 1 + size c) d f) (items c) (items f) e (showing c (k + 1) b) (showing f (k + 1 + size c) d))
+
+showing-at : (none : Item) (a i : ℕ) (rs : List (List ℕ)) (xs : List Item) → Showing a rs xs → i < length xs → Shows (getD rs i []) (getD xs i none) (a + length (ownOf (take i xs)))
+unfolding ownOf
+showing-at none a i [] [] h l = absurd (omega arith)
+showing-at none a i [] (x ∷ xs) h l = absurd h
+showing-at none a i (r ∷ rs) [] h l = absurd h
+showing-at none a zero (r ∷ rs) (x ∷ xs) h l = let z : a + 0 ≡ a = omega arith in rw z (h .0)
+showing-at none a (suc i) (r ∷ rs) (x ∷ xs) h l =
+    let z : a + length (x .own ++ ownOf (take i xs)) ≡ a + length (x .own) + length (ownOf (take i xs)) = rw length-append (omega arith) in
+    rw z (showing-at none (a + length (x .own)) i rs xs (h .1) (omega arith))
+
+-- row i shows item i
+pub item-at : (none : Item) (f : Forest) (i : ℕ) → i < size f → Shows (getD (rowList 0 0 f) i []) (getD (items f) i none) (length (ownOf (take i (items f))))
+item-at none f i h =
+    let z : 0 + length (ownOf (take i (items f))) ≡ length (ownOf (take i (items f))) = omega arith in
+    rw z at (showing-at none 0 i (rowList 0 0 f) (items f) (showing f 0 0) (omega (arith, items-many f)))
 
 -- ---- the table of nodes that the reader leaves
 nodes-of : (n : ℕ) (o : Out) → nodesOf n o ≡ rows 0 0 (treeOf o) ++ replicate (n - size (treeOf o) * 6) 0
