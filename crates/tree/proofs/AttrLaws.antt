@@ -7,12 +7,11 @@ use mathlib.Core.Logic.{_⊎_, inl, inr}
 use native.Mathlib.Omega.{arith}
 use lib.ListN.{length, getD}
 use lib.Dec.{eqb, ltb}
-use borrow.Author.Tests.{lt-ltb, le-ltb, ne-eqb, ltb-true, ltb-false, eqb-true, eqb-false}
+use borrow.Author.Tests.{lt-ltb, le-ltb, ne-eqb, ltb-true, ltb-false, eqb-true}
 use Rattle.scan.specs.Bytes.{blank, nameByte, attrNameByte, other}
 use Rattle.scan.specs.Marks.{startsAt}
 use Rattle.scan.specs.Posts.{Ends}
-use Rattle.tree.specs.Trees.{Attr}
-use Rattle.tree.specs.Read.{equals, quoteByte, AttrOut, attr, flaw, quoted, bare, valueAt, attrAt}
+use Rattle.tree.specs.Read.{equals, quoteByte, attr, flaw, quoted, bare, valueAt, attrAt}
 use Rattle.scan.proofs.Runs.{run-here}
 
 pub quote-yes : (b : ℕ) → (b ≡ 34) ⊎ (b ≡ 39) → quoteByte b ≡ true

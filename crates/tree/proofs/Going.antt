@@ -1,18 +1,18 @@
 -- A loop over nodes: what holds at its head, and a lemma for each way through its body. Assumes nothing.
-use Prim.Native.Nat.{ℕ, zero, suc, _+_, _-_, _*_, _≤_, _<_}
-use mathlib.Core.Path.{_≡_, refl, sym, ap, _∙_}
-use mathlib.Core.Bool.{Bool, true, false, cond}
-use mathlib.Core.List.{List, [], _∷_, _++_}
+use Prim.Native.Nat.{ℕ, _+_, _*_, _≤_, _<_}
+use mathlib.Core.Path.{_≡_, refl, ap, _∙_}
+use mathlib.Core.Bool.{Bool, true, false}
+use mathlib.Core.List.{List}
 use native.Mathlib.Omega.{arith}
-use lib.ListN.{length, getD, length-append}
+use lib.ListN.{length, length-append}
 use lib.Seq.{sets, length-sets}
 use lib.Dec.{ltb}
 use borrow.Author.Tests.{lt-ltb, le-ltb, ltb-true}
-use Rattle.scan.specs.Loop.{Next, halt, more, loop}
+use Rattle.scan.specs.Loop.{Next, halt}
 use Rattle.scan.specs.Bytes.{other, runEnd}
 use Rattle.scan.specs.Marks.{startsAt}
-use Rattle.tree.specs.Trees.{Attr, Forest, nil, size, attrsOf, join, rows, attrRows}
-use Rattle.tree.specs.Read.{Out, got, nothing, bad, gt, closeMark, Reader, nodeAt, State, nodeNext, closeAt, innerTurn, outerTurn, rowOf, fresh}
+use Rattle.tree.specs.Trees.{Forest, nil, size, attrsOf, join, rows, attrRows}
+use Rattle.tree.specs.Read.{Out, got, bad, closeMark, Reader, nodeAt, State, nodeNext, closeAt, innerTurn, outerTurn, rowOf, fresh}
 use Rattle.scan.specs.Posts.{Ends}
 use Rattle.tree.specs.Posts.{Ready, Laid, Idle, ContentPost, closedAt}
 use Rattle.tree.specs.declared.answers.Cursor.{Cursor}

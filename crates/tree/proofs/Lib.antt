@@ -8,3 +8,4 @@ pub mod Going
 pub mod Whole
 pub mod Places
 pub mod Walks
+pub mod Examples

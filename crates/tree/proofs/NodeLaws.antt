@@ -1,27 +1,27 @@
 -- Nodes and elements: a law for each way, and what is laid. Assumes nothing.
 use Prim.Native.Nat.{ℕ, zero, suc, _+_, _-_, _*_, _≤_, _<_}
-use mathlib.Core.Path.{_≡_, refl, sym, ap, _∙_}
-use mathlib.Core.Bool.{Bool, true, false, not, cond, true≢false}
-use mathlib.Core.List.{List, [], _∷_, _++_, append-nil}
+use mathlib.Core.Path.{_≡_, refl, sym, _∙_}
+use mathlib.Core.Bool.{Bool, true, false, true≢false}
+use mathlib.Core.List.{List, append-nil}
 use native.Mathlib.Omega.{arith}
 use native.Mathlib.Nat.{add-zero}
 use lib.ListN.{length, getD, length-append}
 use lib.Seq.{sets}
-use lib.Dec.{eqb, ltb}
-use borrow.Author.Tests.{lt-ltb, le-ltb, eq-eqb, ne-eqb, ltb-true, ltb-false, not-false}
-use Rattle.scan.specs.Loop.{Next, halt, more, loop}
-use Rattle.scan.specs.Bytes.{textByte, nameByte, runEnd}
-use Rattle.scan.specs.Marks.{startsAt, seek, past}
-use Rattle.tree.specs.Trees.{Attr, Forest, nil, text, section, elem, size, attrsOf, join, row, rows, attrRows}
-use Rattle.tree.specs.Read.{Out, got, nothing, bad, cdataMark, cdataEnd, closeMark, commentMark, commentEnd, skip, TagOut, opened, shut, torn, startAt, Reader, commentTurn, pastComments, textAt, sectionAt, nodeHere, nodeAt, enclose, tagged, elementBy, elementOf, contentOf}
+use lib.Dec.{ltb}
+use borrow.Author.Tests.{lt-ltb, le-ltb, eq-eqb, ne-eqb, ltb-true, ltb-false}
+use Rattle.scan.specs.Bytes.{textByte, nameByte}
+use Rattle.scan.specs.Marks.{startsAt}
+use Rattle.tree.specs.Trees.{Attr, Forest, nil, text, section, elem, size, attrsOf, row, rows, attrRows}
+use Rattle.tree.specs.Read.{Out, nothing, bad, cdataMark, cdataEnd, closeMark, commentMark, commentEnd, TagOut, opened, shut, torn, startAt, Reader, commentTurn, pastComments, textAt, sectionAt, nodeHere, nodeAt, enclose, tagged, elementBy, elementOf, contentOf}
 use Rattle.scan.specs.Posts.{Ends, Found, Passed}
-use Rattle.tree.specs.Posts.{Skipped, Laid, Idle, StepPost}
+use Rattle.tree.specs.Posts.{Skipped, Laid, StepPost}
 use Rattle.tree.specs.declared.answers.Cursor.{Cursor}
 use Rattle.tree.specs.declared.answers.Step.{Step}
 use Rattle.tree.specs.declared.answers.Step.the-variants as step
 use Rattle.tree.specs.declared.answers.Spot.{Spot}
 use Rattle.scan.proofs.Loop.{loop-out, loop-halt, loop-more}
-use Rattle.scan.proofs.Stores.{sets-before, sets-on}
+use Rattle.scan.proofs.Searches.{passed-none}
+use Rattle.scan.proofs.Stores.{sets-before}
 use Rattle.tree.proofs.Forests.{attrs-on}
 
 -- ---- comments
@@ -121,6 +121,12 @@ module _ (s t t′ u : List ℕ) (p k a e : ℕ) (h : k < 8192) (b : a ≤ 8192)
     laid = l;
     listed = refl;
   }
+
+-- a section that is not closed runs to the text's end
+pub section-unclosed : (m s : List ℕ) (p r : ℕ) → Found m s p r → length s ≤ r → Passed m s p r
+section-unclosed m s p r f h =
+    let z : r ≡ length s = omega (arith, f .within) in
+    rw z (passed-none m s p r f h)
 
 -- ---- an element
 pub el-deep : (d : ℕ) (s : List ℕ) (p k a : ℕ) → d ≡ 0 → elementOf d s p k a ≡ bad 4 p

@@ -3,13 +3,13 @@
 --     span-within, span-apart                      what a consumer reads off it
 --     meaning-placed                               the theorem
 use Prim.Native.Nat.{ℕ, zero, suc, _+_, _-_, _≤_, _<_}
-use mathlib.Core.Path.{_≡_, refl, sym, subst⁻¹, _∙_}
+use mathlib.Core.Path.{_≡_, refl, sym, subst⁻¹}
 use mathlib.Core.Bool.{Bool, true, false, cond, true≢false}
 use mathlib.Core.List.{List, [], _∷_, _++_, append-assoc, append-nil}
 use native.Mathlib.Omega.{arith}
 use lib.ListN.{length, getD}
 use lib.Dec.{eqb, ltb}
-use borrow.Author.Tests.{ltb-true, ltb-false}
+use borrow.Author.Tests.{ltb-true}
 use Rattle.scan.specs.Loop.{Next, halt, more, go, loop}
 use Rattle.scan.specs.Bytes.{blank, textByte, nameByte, attrNameByte, other, runEnd}
 use Rattle.scan.specs.Marks.{startsAt, seekTurn, seek, past}
@@ -165,7 +165,7 @@ module _ (s : List ℕ) (p e : ℕ) (h : p ≤ e) where
       let b : z ≤ length s = run-high (other c) s (v + 1) (omega arith) in
       let r : ℕ = cond (ltb z (length s)) (skip s (z + 1)) z in
       let d : (z ≤ r) × (r ≤ length s) = by-cond (λ k. (z ≤ k) × (k ≤ length s)) (ltb z (length s)) _ _
-            (λ w. (omega (arith, run-low blank s (z + 1)), run-high blank s (z + 1) (omega (arith, ltb-true z (length s) w)))) (λ w. (omega arith, b)) in
+      (λ w. (omega (arith, run-low blank s (z + 1)), run-high blank s (z + 1) (omega (arith, ltb-true z (length s) w)))) (λ w. (omega arith, b)) in
       attr-leaf s p e (v + 1) (z - (v + 1)) r h (omega arith) (omega arith) (d .1)
 
   bare-in : (v : ℕ) → e ≤ v → v < length s → AttrIn p s (bare s p e v)

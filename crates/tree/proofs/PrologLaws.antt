@@ -1,14 +1,14 @@
 -- The prolog, a law for each way. Assumes nothing.
-use Prim.Native.Nat.{ℕ, zero, suc, _+_, _-_, _≤_, _<_}
-use mathlib.Core.Path.{_≡_, refl, sym, ap, _∙_}
-use mathlib.Core.Bool.{Bool, true, false, cond}
-use mathlib.Core.List.{List, [], _∷_}
+use Prim.Native.Nat.{ℕ, _≤_, _<_}
+use mathlib.Core.Path.{_≡_}
+use mathlib.Core.Bool.{true, false}
+use mathlib.Core.List.{List}
 use native.Mathlib.Omega.{arith}
 use lib.ListN.{length}
-use Rattle.scan.specs.Loop.{Next, halt, more, loop}
+use Rattle.scan.specs.Loop.{loop}
 use Rattle.scan.specs.Bytes.{blank}
-use Rattle.scan.specs.Marks.{startsAt, past}
-use Rattle.tree.specs.Read.{skip, piMark, piEnd, commentMark, commentEnd, declMark, gt, prologTurn, prologEnd}
+use Rattle.scan.specs.Marks.{startsAt}
+use Rattle.tree.specs.Read.{piMark, piEnd, commentMark, commentEnd, declMark, gt, prologTurn, prologEnd}
 use Rattle.scan.specs.Posts.{Ends, Passed}
 use Rattle.scan.proofs.Loop.{loop-out, loop-halt, loop-more}
 

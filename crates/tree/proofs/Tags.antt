@@ -1,18 +1,17 @@
 -- The rest of a start tag: a law for each way, what holds at the loop's head, and how it goes on. Assumes nothing.
-use Prim.Native.Nat.{ℕ, zero, suc, _+_, _-_, _*_, _≤_, _<_}
+use Prim.Native.Nat.{ℕ, _+_, _*_, _≤_, _<_}
 use mathlib.Core.Path.{_≡_, refl, sym, ap, _∙_}
-use mathlib.Core.Bool.{Bool, true, false, cond, true≢false}
-use mathlib.Core.List.{List, [], _∷_, _++_, append-nil, append-assoc}
+use mathlib.Core.Bool.{Bool, true, false, true≢false}
+use mathlib.Core.List.{List, [], _∷_, _++_}
 use native.Mathlib.Omega.{arith}
 use lib.ListN.{length, getD, length-append}
 use lib.Seq.{sets, length-sets}
-use lib.Dec.{eqb, ltb}
+use lib.Dec.{ltb}
 use borrow.Author.Tests.{lt-ltb, le-ltb, ltb-true, eq-eqb, ne-eqb}
-use Rattle.scan.specs.Loop.{Next, halt, more, loop}
-use Rattle.scan.specs.Bytes.{blank, nameByte, runEnd}
+use Rattle.scan.specs.Bytes.{blank}
 use Rattle.scan.specs.Marks.{startsAt}
 use Rattle.tree.specs.Trees.{Attr, attrRow, attrRows}
-use Rattle.tree.specs.Read.{gt, skip, AttrOut, attr, flaw, attrAt, TagOut, opened, shut, torn, TagState, slash, attrNext, tagTurn, tagFrom, startAt}
+use Rattle.tree.specs.Read.{gt, skip, attr, flaw, attrAt, TagOut, opened, shut, torn, TagState, slash, attrNext, tagTurn, tagFrom, startAt}
 use Rattle.scan.specs.Posts.{Ends}
 use Rattle.tree.specs.Posts.{PairGot, TagGot, TagPost, shutAt}
 use Rattle.tree.specs.declared.answers.Spot.{Spot}

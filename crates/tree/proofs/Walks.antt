@@ -1,21 +1,22 @@
 -- Reading the two tables back. Assumes nothing.
 --     rows-cells, rows-wide, rows-many, row-fits      row by row
+--     items-many, items-spans, items-attrs, item-at   the same in document order, with strings and attributes
 --     cell-at, root-fits                              the same of the table that the reader leaves
 --     root, on-text, on-section, on-elem, room        node by node, in the table of nodes
 --     root-attrs, on-attr, on-attrs                   attribute by attribute
 --     placed-text, placed-section, placed-elem        the order of strings, node by node
 use Prim.Native.Nat.{ℕ, zero, suc, _+_, _-_, _*_, _≤_, _<_}
 use mathlib.Core.Path.{_≡_, refl, sym, ap, _∙_}
-use mathlib.Core.List.{List, [], _∷_, _++_, append-assoc, append-nil}
+use mathlib.Core.List.{List, [], _∷_, _++_, append-assoc}
 use native.Mathlib.Omega.{arith}
 use native.Mathlib.Nat.{sub-zero}
-use lib.ListN.{length, getD, drop, replicate, length-append, length-drop, List·getD-append}
+use lib.ListN.{take, length, getD, drop, replicate, length-append, length-drop, List·getD-append}
 use lib.Seq.{getD-drop, drop-drop, drop-at}
 use Rattle.scan.specs.Rows.{cells, Wide}
-use Rattle.scan.proofs.Rows.{cells-append, wide-append, cells-length, cells-at}
-use Rattle.tree.specs.Trees.{Attr, Forest, nil, text, section, elem, size, attrsOf, row, rows, attrRow, attrRows, Span, attrSpans, spans, InOrder}
+use Rattle.scan.proofs.Rows.{cells-append, wide-append, cells-at}
+use Rattle.tree.specs.Trees.{Attr, Forest, nil, text, section, elem, size, attrsOf, row, rows, attrRow, attrRows, attrSpans, spans, InOrder}
 use Rattle.tree.specs.Read.{Out, got, nothing, bad, meaning, nodesOf, attrCells}
-use Rattle.tree.specs.Walks.{treeOf, rowList, RowFits, Stands, RowIs, Listed, AttrIs}
+use Rattle.tree.specs.Walks.{treeOf, rowList, RowFits, Item, items, itemSpans, spansOf, ownOf, Shows, Stands, RowIs, Listed, AttrIs}
 use Rattle.tree.proofs.Tags.{length-attrRows, attrRows-append}
 use Rattle.tree.proofs.Forests.{length-rows}
 use Rattle.tree.proofs.Places.{in-whole, in-first, in-rest, meaning-placed}
@@ -78,18 +79,94 @@ module _ (hi n m : ℕ) where
       let d : ℕ = a + length l + length (attrsOf c) in
       let e : length (l ++ (attrsOf c ++ attrsOf f)) ≡ length l + (length (attrsOf c) + length (attrsOf f)) = simp length-append in
       let w : p + 1 + x ≤ hi = in-whole (attrSpans l ++ (spans c ++ spans f)) (p + 1 + x) hi (i .1) in
-      let r : InOrder (p + 1 + x) (spans c ++ spans f) hi = in-rest (attrSpans l) (spans c ++ spans f) (p + 1 + x) hi (i .1) in
-      (
+      let r : InOrder (p + 1 + x) (spans c ++ spans f) hi = in-rest (attrSpans l) (spans c ++ spans f) (p + 1 + x) hi (i .1) in (
         record { within = omega arith; later = omega arith; last = omega arith; own = omega arith },
         fitting-append (rowList (k + 1) b c) (rowList (k + 1 + size c) d f) (k + 1) (k + 1 + size c) (omega (arith, rows-many c (k + 1) b))
-        (fitting c (k + 1) b (p + 1 + x) (in-first (spans c) (spans f) (p + 1 + x) hi r) (omega arith) (omega arith))
-        (fitting f (k + 1 + size c) d (p + 1 + x) (in-rest (spans c) (spans f) (p + 1 + x) hi r) (omega arith) (omega arith)),
+            (fitting c (k + 1) b (p + 1 + x) (in-first (spans c) (spans f) (p + 1 + x) hi r) (omega arith) (omega arith))
+            (fitting f (k + 1 + size c) d (p + 1 + x) (in-rest (spans c) (spans f) (p + 1 + x) hi r) (omega arith) (omega arith)),
       )
 
   pub row-fits : (f : Forest) (lo i : ℕ) → InOrder lo (spans f) hi → size f ≤ n → length (attrsOf f) ≤ m → i < size f → RowFits hi n m i (getD (rowList 0 0 f) i [])
   row-fits f lo i o h g l =
       let z : 0 + i ≡ i = omega arith in
       rw z at (fitting-at (rowList 0 0 f) 0 i (fitting f 0 0 lo o (omega arith) (omega arith)) (omega (arith, rows-many f 0 0)))
+
+-- ---- in document order
+pub items-many : (f : Forest) → length (items f) ≡ size f
+unfolding items size
+items-many nil = refl
+items-many (text p n f) = omega (arith, items-many f)
+items-many (section p n f) = omega (arith, items-many f)
+items-many (elem p n l c f) = omega (arith, length-append (items c) (items f), items-many c, items-many f)
+
+spansOf-append : (a b : List Item) → spansOf (a ++ b) ≡ spansOf a ++ spansOf b
+unfolding spansOf
+spansOf-append [] b = refl
+spansOf-append (x ∷ a) b = rw (spansOf-append a b, append-assoc)
+
+ownOf-append : (a b : List Item) → ownOf (a ++ b) ≡ ownOf a ++ ownOf b
+unfolding ownOf
+ownOf-append [] b = refl
+ownOf-append (x ∷ a) b = rw (ownOf-append a b, append-assoc)
+
+pub items-spans : (f : Forest) → spansOf (items f) ≡ spans f
+unfolding items spansOf itemSpans spans attrSpans
+items-spans nil = refl
+items-spans (text p n f) = rw (items-spans f)
+items-spans (section p n f) = rw (items-spans f)
+items-spans (elem p n l c f) = rw (spansOf-append (items c) (items f), items-spans c, items-spans f)
+
+pub items-attrs : (f : Forest) → ownOf (items f) ≡ attrsOf f
+unfolding items ownOf attrsOf
+items-attrs nil = refl
+items-attrs (text p n f) = items-attrs f
+items-attrs (section p n f) = items-attrs f
+items-attrs (elem p n l c f) = rw (ownOf-append (items c) (items f), items-attrs c, items-attrs f)
+
+-- rows show items one by one, a attributes standing before the first
+abbrev Showing : ℕ → List (List ℕ) → List Item → Type 0
+Showing a [] [] = Unit {0}
+Showing a [] (x ∷ xs) = ⊥
+Showing a (r ∷ rs) [] = ⊥
+Showing a (r ∷ rs) (x ∷ xs) = Shows r x a × Showing (a + length (x .own)) rs xs
+
+showing-append : (a b : ℕ) (r s : List (List ℕ)) (x y : List Item) → b ≡ a + length (ownOf x) → Showing a r x → Showing b s y → Showing a (r ++ s) (x ++ y)
+unfolding ownOf
+showing-append a b [] s [] y e h g = let z : a ≡ b = omega arith in rw z g
+showing-append a b [] s (x ∷ xs) y e h g = absurd h
+showing-append a b (r ∷ rs) s [] y e h g = absurd h
+showing-append a b (r ∷ rs) s (x ∷ xs) y e h g = (h .0, showing-append (a + length (x .own)) b rs s xs y (omega (arith, length-append (x .own) (ownOf xs))) (h .1) g)
+
+showing : (f : Forest) (k a : ℕ) → Showing a (rowList k a f) (items f)
+unfolding rowList row items
+showing nil k a = tt
+showing (text p n f) k a =
+    let z : a + 0 ≡ a = omega arith in
+    (record { kind-is = refl; place-is = refl; len-is = refl; first-is = λ e. absurd (omega (arith, e)); many-is = refl }, rw z (showing f (k + 1) a))
+showing (section p n f) k a =
+    let z : a + 0 ≡ a = omega arith in
+    (record { kind-is = refl; place-is = refl; len-is = refl; first-is = λ e. absurd (omega (arith, e)); many-is = refl }, rw z (showing f (k + 1) a))
+showing (elem p n l c f) k a =
+    let b : ℕ = a + length l in
+    let d : ℕ = a + length l + length (attrsOf c) in
+    let e : d ≡ b + length (ownOf (items c)) = rw (items-attrs c) in
+    (record { kind-is = refl; place-is = refl; len-is = refl; first-is = λ w. refl; many-is = refl }, showing-append b d (rowList (k + 1) b c) (rowList (k + 1 + size c) d f) (items c) (items f) e (showing c (k + 1) b) (showing f (k + 1 + size c) d))
+
+showing-at : (none : Item) (a i : ℕ) (rs : List (List ℕ)) (xs : List Item) → Showing a rs xs → i < length xs → Shows (getD rs i []) (getD xs i none) (a + length (ownOf (take i xs)))
+unfolding ownOf
+showing-at none a i [] [] h l = absurd (omega arith)
+showing-at none a i [] (x ∷ xs) h l = absurd h
+showing-at none a i (r ∷ rs) [] h l = absurd h
+showing-at none a zero (r ∷ rs) (x ∷ xs) h l = let z : a + 0 ≡ a = omega arith in rw z (h .0)
+showing-at none a (suc i) (r ∷ rs) (x ∷ xs) h l =
+    let z : a + length (x .own ++ ownOf (take i xs)) ≡ a + length (x .own) + length (ownOf (take i xs)) = rw length-append (omega arith) in
+    rw z (showing-at none (a + length (x .own)) i rs xs (h .1) (omega arith))
+
+-- row i shows item i
+pub item-at : (none : Item) (f : Forest) (i : ℕ) → i < size f → Shows (getD (rowList 0 0 f) i []) (getD (items f) i none) (length (ownOf (take i (items f))))
+item-at none f i h =
+    let z : 0 + length (ownOf (take i (items f))) ≡ length (ownOf (take i (items f))) = omega arith in
+    rw z at (showing-at none 0 i (rowList 0 0 f) (items f) (showing f 0 0) (omega (arith, items-many f)))
 
 -- ---- the table of nodes that the reader leaves
 nodes-of : (n : ℕ) (o : Out) → nodesOf n o ≡ rows 0 0 (treeOf o) ++ replicate (n - size (treeOf o) * 6) 0
@@ -123,7 +200,7 @@ module _ (s t : List ℕ) (n m : ℕ) (left : t ≡ nodesOf n (meaning s n m)) w
   cell-at i j h g =
       let l : length (rows 0 0 forest) ≡ size forest * 6 = length-rows forest 0 0 in
       let d : getD t (i * 6 + j) 0 ≡ getD (rows 0 0 forest) (i * 6 + j) 0
-            = rw (left, nodes-of n (meaning s n m)) (List·getD-append (rows 0 0 forest) (replicate (n - size forest * 6) 0) 0 (i * 6 + j) (omega arith)) in
+      = rw (left, nodes-of n (meaning s n m)) (List·getD-append (rows 0 0 forest) (replicate (n - size forest * 6) 0) 0 (i * 6 + j) (omega arith)) in
       d ∙ rw (rows-cells forest 0 0) (cells-at 6 (rowList 0 0 forest) i j (rows-wide forest 0 0) (omega (arith, rows-many forest 0 0)) g)
 
   pub root-fits : (i : ℕ) → i < size forest → RowFits (length s) (size forest) (length (attrsOf forest)) i (getD (rowList 0 0 forest) i [])
@@ -143,7 +220,7 @@ past-cells t l i e m w z = rw (z, ← (drop-drop m (i * 6) t), w)
 row-is : (t : List ℕ) (i kind end place len first many : ℕ) (l : List ℕ) → drop (i * 6) t ≡ row kind end place len first many ++ l → RowIs t i kind end place len first many
 unfolding row
 row-is t i kind end place len first many l e = record {
-  kind-is = cell-0 ;
+  kind-is = cell-0;
   end-is = cell 1 end refl;
   place-is = cell 2 place refl;
   len-is = cell 3 len refl;
@@ -177,8 +254,7 @@ module _ (t : List ℕ) (i a p n : ℕ) where
       let d : ℕ = a + length l + length (attrsOf c) in
       let q : List ℕ = rows (i + 1) b c in
       let r : List ℕ = rows (i + 1 + size c) d f in
-      let j : length q ≡ size c * 6 = length-rows c (i + 1) b in
-      (
+      let j : length q ≡ size c * 6 = length-rows c (i + 1) b in (
         row-is t i 2 (i + 1 + size c) p n a (length l) ((q ++ r) ++ x .tail) (x .is),
         record { tail = r ++ x .tail; is = past-cells t _ i (i + 1) 6 (x .is) (omega arith) ∙ append-assoc q r (x .tail) },
         record { tail = x .tail; is = past-cells t _ i (i + 1 + size c) (6 + size c * 6) (x .is) (omega arith) ∙ (sym (drop-drop (size c * 6) 6 _) ∙ rw (append-assoc q r (x .tail)) (drop-at q (r ++ x .tail) (size c * 6) j)) },
@@ -211,8 +287,7 @@ on-attr u j x l y = (
 pub on-attrs : (u : List ℕ) (j : ℕ) (a b : List Attr) → Listed u j (a ++ b) → Listed u j a × Listed u (j + length a) b
 on-attrs u j a b y =
     let e : drop (j * 4) u ≡ attrRows a ++ (attrRows b ++ y .tail) = y .is ∙ rw (attrRows-append a b) (append-assoc (attrRows a) (attrRows b) (y .tail)) in
-    let z : (j + length a) * 4 ≡ j * 4 + length a * 4 = omega arith in
-    (
+    let z : (j + length a) * 4 ≡ j * 4 + length a * 4 = omega arith in (
       record { tail = attrRows b ++ y .tail; is = e },
       record { tail = y .tail; is = rw (z, ← (drop-drop (length a * 4) (j * 4) u), e) (drop-at (attrRows a) (attrRows b ++ y .tail) (length a * 4) (length-attrRows a)) },
     )

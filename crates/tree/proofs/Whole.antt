@@ -1,15 +1,15 @@
 -- The whole text: which case of `meaning` holds, and the answer and tables of each. Assumes nothing.
 use Prim.Native.Nat.{ℕ, zero, suc, _+_, _-_, _*_, _≤_, _<_}
-use mathlib.Core.Path.{_≡_, refl, sym, ap, _∙_}
-use mathlib.Core.List.{List, [], _∷_, _++_}
+use mathlib.Core.Path.{_≡_, refl, _∙_}
+use mathlib.Core.List.{List, _++_}
 use native.Mathlib.Omega.{arith}
 use native.Mathlib.Nat.{sub-zero, zero-sub, suc-sub-suc, zero-add}
-use lib.ListN.{length, take, drop, replicate, length-replicate}
+use lib.ListN.{length, drop, replicate, length-replicate}
 use lib.Seq.{sets, sets-eq}
 use borrow.Author.Tests.{lt-ltb, le-ltb}
 use Rattle.unicode.specs.Utf8.{utf8End}
 use Rattle.tree.specs.Trees.{Forest, size, attrsOf, rows, attrRows}
-use Rattle.tree.specs.Read.{Out, got, nothing, bad, outerTurn, rowOf, fresh, elementOf, prologEnd, meaning, answerOf, nodesOf, attrCells}
+use Rattle.tree.specs.Read.{Out, bad, outerTurn, rowOf, fresh, elementOf, prologEnd, meaning, answerOf, nodesOf, attrCells}
 use Rattle.tree.specs.Posts.{Laid, Fits}
 use Rattle.tree.specs.declared.answers.Cursor.{Cursor}
 use Rattle.tree.specs.declared.answers.Answer.the-variants.{Tree, Refused}

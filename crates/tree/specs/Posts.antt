@@ -13,7 +13,6 @@ use Rattle.tree.specs.Trees.{Attr, Forest, size, attrsOf, rows, attrRow,
 use Rattle.tree.specs.Read.{Out, got, nothing, bad, AttrOut, attr, flaw, TagOut, opened, shut, torn, gt, skip, pastComments, meaning}
 use Rattle.tree.specs.declared.answers.Cursor.{Cursor}
 use Rattle.tree.specs.declared.answers.Spot.{Spot}
-use Rattle.tree.specs.declared.answers.Refusal.{Refusal}
 use Rattle.tree.specs.declared.answers.Step.{Step}
 use Rattle.tree.specs.declared.answers.Step.the-variants as step
 use Rattle.tree.specs.declared.answers.Content.{Content}

@@ -10,7 +10,6 @@ use Rattle.scan.specs.Bytes.{blank, textByte, nameByte, attrNameByte, other, ru
 use Rattle.scan.specs.Marks.{startsAt, seek, past}
 use Rattle.unicode.specs.Utf8.{utf8End}
 use Rattle.tree.specs.Trees.{Attr, Forest, nil, text, section, elem, size, join, rows, attrsOf, attrRows}
-use Rattle.tree.specs.declared.answers.Refusal.{Refusal}
 use Rattle.tree.specs.declared.answers.Answer.{Answer}
 use Rattle.tree.specs.declared.answers.Answer.the-variants.{Tree, Refused}
 

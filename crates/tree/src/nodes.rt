@@ -63,7 +63,10 @@ fn parse_section(src: &[u8], nodes: &mut [u32], pos: usize, k: usize, a: usize) 
     let start = pos + 9;
     let e = scan::find_seq(src, start, b"]]>");
     crate::rows::put_node(nodes, k, 3, k + 1, start, e - start, 0, 0);
-    let q = scan::find_past(src, start, b"]]>");
+    let mut q = e;
+    if e < src.len() {
+        q = e + 3;
+    }
     Step::Node(Cursor {
         pos: q,
         nodes: k + 1,

@@ -1,5 +1,10 @@
--- `parse_section` meets its contract: no room for a node, or its row is laid. Assumes nothing.
-use Rattle.tree.proofs.NodeLaws.{section-full, built-section}
+-- `parse_section` meets its contract: no room for a node, or its row is laid, and the place after it is past the end mark or the text's end. Assumes nothing.
+use Prim.Native.Nat.{_+_}
+use mathlib.Core.Logic.{⊎-elim}
+use Rattle.scan.specs.Posts.{Passed}
+use Rattle.tree.specs.Read.{cdataEnd}
+use Rattle.scan.proofs.Searches.{passed-got}
+use Rattle.tree.proofs.NodeLaws.{section-full, section-unclosed, built-section}
 use borrow.Author.Needs.{needs}
 use Rattle.tree.proofs.nodes.parse_section.Statement.{statement}
 use Rattle.tree.proofs.nodes.parse_section.Tie as tie
@@ -25,11 +30,8 @@ sub-put-node c = search needs
 put-node-requires : tie.Need-put-node-requires
 put-node-requires c κs = search needs
 
-slice-aggregate-find-past : tie.Need-slice-aggregate-find-past
-slice-aggregate-find-past c = search needs
-
-find-past-requires : tie.Need-find-past-requires
-find-past-requires c κs = search needs
+add-q : tie.Need-add-q
+add-q c = search needs
 
 add-t18 : tie.Need-add-t18
 add-t18 c = search needs
@@ -39,8 +41,11 @@ same-length c = search needs
 
 returns-2 : tie.Need-returns-2
 returns-2 c =
-    let a = c .before .before .before .before .before .before .before .before .before .before .before .args in
-    λ u. built-section (a .src .now) (a .nodes .now) _ u (a .pos) (a .k) (a .a) (c .before .before .before .before .before .before .find-seq .result) (c .before .before .before .before .before .before .before .before .if1 .left) (c .before .before .before .before .before .before .before .before .before .before .before .pre .3) (c .find-past .result) (c .before .before .before .before .before .before .find-seq .ensures) (c .find-past .ensures) (c .before .before .before .before .put-node .ensures)
+    let a = c .before .before .before .before .before .before .before .before .before .before .args in
+    let e = c .before .before .before .before .before .find-seq in
+    let passed : Passed cdataEnd (a .src .now) (a .pos + 9) (c .if2 .q)
+    = ⊎-elim (λ w. rw (w .1) (passed-got cdataEnd (a .src .now) (a .pos + 9) (e .result) (e .ensures) (w .0 .taken))) (λ w. rw (w .1) (section-unclosed cdataEnd (a .src .now) (a .pos + 9) (e .result) (e .ensures) (w .0 .left))) (c .if2 .came) in
+    λ u. built-section (a .src .now) (a .nodes .now) _ u (a .pos) (a .k) (a .a) (e .result) (c .before .before .before .before .before .before .before .if1 .left) (c .before .before .before .before .before .before .before .before .before .before .pre .3) (c .if2 .q) (e .ensures) passed (c .before .before .before .put-node .ensures)
 
 pub parse-section-spec : {M : Type 1} → statement M
 parse-section-spec =
@@ -53,8 +58,7 @@ parse-section-spec =
     add-put-node
     sub-put-node
     put-node-requires
-    slice-aggregate-find-past
-    find-past-requires
+    add-q
     add-t18
     same-length
     returns-2)
