@@ -1,7 +1,7 @@
 -- A time that was written as a clock time is read back as its whole milliseconds. Assumes nothing.
 use Prim.Native.Nat.{ℕ, zero, suc, _+_, _-_, _*_, _/_, _%_, _^_, _≤_, _<_}
-use mathlib.Core.Path.{_≡_, refl, sym, ap, _∙_}
-use mathlib.Core.Bool.{Bool, true, false, cond}
+use mathlib.Core.Path.{_≡_, refl, ap, _∙_}
+use mathlib.Core.Bool.{true, false}
 use mathlib.Core.List.{List, [], _∷_, _++_, append-assoc}
 use native.Mathlib.Omega.{arith}
 use native.Mathlib.Nat.{le-max-left, le-max-right, pow-le-pow-right}
@@ -9,9 +9,9 @@ use lib.IntN.{ℤ, pos, negsuc}
 use lib.Signed.{mag}
 use lib.ListN.{length, getD, take, replicate, length-append}
 use lib.Seq.{take-all, take-append-add}
-use borrow.Author.Tests.{eq-eqb, ne-eqb, lt-leb, le-ltb}
-use Rattle.scan.specs.Split.{splitAt, Halves, halves, splitOnce}
-use Rattle.unicode.specs.White.{whiteAt, endsWith, whiteBefore, trimmed}
+use borrow.Author.Tests.{eq-eqb, ne-eqb, le-ltb}
+use Rattle.scan.specs.Split.{splitAt, halves, splitOnce}
+use Rattle.unicode.specs.White.{whiteAt, whiteBefore, trimmed}
 use Rattle.unicode.specs.Utf8.{charAt}
 use Rattle.unicode.proofs.Utf8Laws.{sequence-ascii}
 use Rattle.unicode.proofs.WhiteLaws.{isWhite-visible, whiteAt-other, endsWith-on, endsWith-out, trimmed-all}
@@ -25,8 +25,8 @@ use Rattle.times.specs.declared.offset.TimingCtx.{TimingCtx}
 use Rattle.times.specs.declared.offset.Time.{Time}
 use Rattle.times.specs.Sums.{checked, plus}
 use Rattle.times.specs.Expressions as spec
-use Rattle.times.specs.Expressions.{integer, charsLength, numberIn, microsOf, timeOf, fractioned, secondsOf, summed, clockOf, clockTime, timeIn}
-use Rattle.times.specs.Written.{millis, field, hoursWidth, clockOfMillis, clockText}
+use Rattle.times.specs.Expressions.{integer, charsLength, numberIn, microsOf, timeOf, secondsOf, clockTime, timeIn}
+use Rattle.times.specs.Written.{millis, hoursWidth, clockOfMillis, clockText}
 use Rattle.times.proofs.Summing.{checked-fits}
 use Rattle.times.proofs.Clocks.{clock-length}
 use Rattle.times.proofs.Fractions.{low-starts}
@@ -136,9 +136,6 @@ chars-ascii (b ∷ s) (suc n) h e = let d : Digit b = e .0 in rw (low-starts b (
 
 -- three digits are so many thousand microseconds
 module _ (f : ℕ) (few : f < 1000) where
-  three : List ℕ
-  three = padded 10 3 f
-
   zeros : List ℕ
   zeros = 48 ∷ 48 ∷ 48 ∷ []
 

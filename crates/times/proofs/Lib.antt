@@ -4,3 +4,4 @@ pub mod Clocks
 pub mod Fractions
 pub mod Parts
 pub mod Back
+pub mod Examples
