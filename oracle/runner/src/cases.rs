@@ -106,6 +106,11 @@ pub fn any_text(rng: &mut Rng, most: usize) -> String {
     (0..rng.below(most + 1)).map(|_| any_char(rng)).collect()
 }
 
+/// The texts of all groups.
+pub fn texts(groups: &[&[&str]]) -> Vec<String> {
+    groups.concat().into_iter().map(String::from).collect()
+}
+
 /// A text in which a character is put in, left out, changed or doubled, or that is cut.
 pub fn damage(rng: &mut Rng, text: &str, foreign: &[char]) -> String {
     let mut text: Vec<char> = text.chars().collect();

@@ -80,11 +80,11 @@ impl Cell for i64 {
 }
 
 impl Cell for f64 {
-    const FILL: f64 = -0.0123456789e-200;
+    const FILL: f64 = -1.25e-200;
 }
 
 impl Cell for f32 {
-    const FILL: f32 = -0.0123456789e-20;
+    const FILL: f32 = -1.25e-20;
 }
 
 impl Cell for u8 {

@@ -3,7 +3,7 @@
 use super::Layer;
 use crate::answer::{Answer, coded};
 use crate::bench::{Bench, pieces};
-use crate::cases::{Rng, SPACES, any_char, damage, every_text, every_word};
+use crate::cases::{Rng, SPACES, any_char, damage, every_text, every_word, texts};
 use crate::compare::{Esc, Run};
 use crate::lend::{Lent, cells};
 use crate::record::Lines;
@@ -125,12 +125,12 @@ const CORNERS: &[&[&str]] = &[
     // rgb
     &[
         "rgb", "rgb(", "rgb()", "rgb)", "(1,2,3)", "rgb(1)", "rgb(1,2)", "rgb(1,2,3)", "rgb(1,2,3,4)", "rgb(1,2,3,)",
-        "rgb(,,)", "rgb(,,,)", "rgb(1,2,)", "rgb(1,,3)", "rgb(1,2,3", "rgb(1,2,3))", "rgb((1,2,3)", "rgb(1,2,3) ",
-        " rgb(1,2,3)", "rgb (1,2,3)", "rgb( 1 , 2 , 3 )", "rgb(\u{A0}1,\n2,\u{3000}3\t)", "rgb(1 2,3,4)", "RGB(1,2,3)",
-        "Rgb(1,2,3)", "rgba(1,2,3,4)", "rgb(0,0,0)", "rgb(255,255,255)", "rgb(256,0,0)", "rgb(0,256,0)",
-        "rgb(0,0,256)", "rgb(-1,0,0)", "rgb(-0,0,0)", "rgb(+1,+2,+3)", "rgb(+,0,0)", "rgb(1.0,2,3)", "rgb(1%,2%,3%)",
-        "rgb(1e1,2,3)", "rgb(é,2,3)", "rgb(1,2,é)", "rgb(1,2,3)é", "érgb(1,2,3)", "rgb(red)", "rgb(x,2,3)",
-        "rgb(1,x,3)", "rgb(1,2,x)", "rgb(1;2;3)", "rgb(0x1,2,3)", "rgb(ff,2,3)",
+        "rgb(,,)", "rgb(,,,)", "rgb(1,2,)", "rgb(1,,3)", "rgb(1,2,3", "rgb(1,2,34", "rgb(1,2,3]", "rgb(1,2,3))",
+        "rgb((1,2,3)", "rgb(1,2,3) ", " rgb(1,2,3)", "rgb (1,2,3)", "rgb( 1 , 2 , 3 )", "rgb(\u{A0}1,\n2,\u{3000}3\t)",
+        "rgb(1 2,3,4)", "RGB(1,2,3)", "Rgb(1,2,3)", "rgba(1,2,3,4)", "rgb(0,0,0)", "rgb(255,255,255)", "rgb(256,0,0)",
+        "rgb(0,256,0)", "rgb(0,0,256)", "rgb(-1,0,0)", "rgb(-0,0,0)", "rgb(+1,+2,+3)", "rgb(+,0,0)", "rgb(1.0,2,3)",
+        "rgb(1%,2%,3%)", "rgb(1e1,2,3)", "rgb(é,2,3)", "rgb(1,2,é)", "rgb(1,2,3)é", "érgb(1,2,3)", "rgb(red)",
+        "rgb(x,2,3)", "rgb(1,x,3)", "rgb(1,2,x)", "rgb(1;2;3)", "rgb(0x1,2,3)", "rgb(ff,2,3)",
     ],
     // nearly names
     &[
@@ -143,8 +143,7 @@ const CORNERS: &[&[&str]] = &[
 ];
 
 fn corners() -> Vec<String> {
-    let names = NAMES.iter().chain(CORNERS.iter().copied().flatten());
-    names.map(|text| text.to_string()).collect()
+    [texts(&[NAMES]), texts(CORNERS)].concat()
 }
 
 /// A colour, or nearly one.
@@ -217,8 +216,8 @@ pub fn lines(rng: &mut Rng, lines: &mut Lines) {
 
 fn bench(bench: &mut Bench) {
     let name = |n: usize| NAMES[n % NAMES.len()].to_string();
-    let byte = |n: usize| (n * 2_654_435_761 >> 8) as u8;
-    let hex = |n: usize| written((byte(n), byte(n + 1), byte(n + 2), byte(n + 3)), n % 2 == 0);
+    let byte = |n: usize| (n * 2_654_435_761).to_le_bytes()[1];
+    let hex = |n: usize| written((byte(n), byte(n + 1), byte(n + 2), byte(n + 3)), n % 2 == 1);
     let rgb = |n: usize| format!("rgb({}, {}, {})", byte(n), byte(n + 1), byte(n + 2));
     let port = |text: &str| {
         let mut out = [0; 4];

@@ -3,7 +3,7 @@
 
 use super::Layer;
 use crate::answer::{Answer, Coded, coded};
-use crate::cases::{Rng, damage, every_text};
+use crate::cases::{Rng, damage, every_text, texts};
 use crate::compare::{Esc, Run};
 use crate::lend::{Fault, Lent, cells};
 use crate::record::Lines;
@@ -206,27 +206,38 @@ fn size(text: &str) -> Answer<(f32, String)> {
 }
 
 /// The corners of document 01 and of Rust's grammar of floats.
-pub fn corners() -> Vec<String> {
-    let mut corners: Vec<String> = [
+const CORNERS: &[&[&str]] = &[
+    &[
         "", "+", "-", ".", "+.", "-.", "..", "0", "00", "-0", "+0", "0.", ".0", "-.0", "+.0", "-0.0", "1", "1.", ".1",
         "+.5", "-5.", "1.5", "+1.5", "-1.5", "1..5", "1.5.", ".1.", "1,5", " 1", "1 ", "\t1", "1\u{A0}", "1_0", "1'0",
         "1é", "é", "\u{661}", "\u{2212}1", "0x10", "1f", "1s", "++1", "--1", "+-1", "-+1", "1+", "1-", "1-1",
-        // exponents
+    ],
+    // exponents
+    &[
         "1e5", "1E5", "1e+5", "1e-5", "0e0", "1.e5", ".5e5", "1.5e05", "+1e5", "-1e-5", "1e400", "1e-400", "0e999999",
         "1e", "1e+", "1e-", "1ee5", "1e5.0", "1e 5", "e5", ".e5", "+e5", "1e5 ", "1e++5", "1d5", "1e5e5", "1.e", ".e",
-        // words
+    ],
+    // words
+    &[
         "inf", "-inf", "+inf", "INF", "InF", "infinity", "-Infinity", "+INFINITY", "nan", "NaN", "-nan", "+NAN", "in",
         "infi", "infinit", "infinityy", "inf ", "na", "nann", "nan1", "1inf", "1nan", "--inf", ".inf", "i", "n", "+i",
-        "\u{130}nf", "ınf", "infınity", // of document 01 and its readings
+        "\u{130}nf", "ınf", "infınity",
+    ],
+    // document 01 and its readings
+    &[
         "999999999999999", "1000000000000000", "0.0000000000000000000001", "0.00000000000000000000001",
         "1.000000000000000", "1.00000000000000", "123456", "1234567", "80", "1.001", "201", "0.29",
-        // hard to round
-        "0.1", "0.2", "0.3", "0.7", "9007199254740993", "9007199254740991", "900719925474099.1", "16777217", "16777.21",
-        "0.000001", "0.00001", "8.5", "33.333", "1.17549", "100000", "100000.0", "10.50", "010.50", "1.0", "-00.50",
-        "0.0000000000", "0.00000000000", "99999.9", "9999.99", "65535", "65536",
-    ]
-    .map(String::from)
-    .to_vec();
+    ],
+    // hard to round, or to print
+    &[
+        "0.1", "0.2", "0.3", "0.7", "9007199254740993", "9007199254740991", "900719925474099.1", "16777217",
+        "16777.21", "0.000001", "0.00001", "8.5", "33.333", "1.17549", "100000", "100000.0", "10.50", "010.50", "1.0",
+        "-00.50", "0.0000000000", "0.00000000000", "99999.9", "9999.99", "65535", "65536",
+    ],
+];
+
+pub fn corners() -> Vec<String> {
+    let mut corners = texts(CORNERS);
     // So many digits, of which some stand behind the point: around both limits.
     for digits in [6, 7, 10, 11, 15, 16, 18, 19, 22, 23, 40] {
         let (nines, ten) = ("9".repeat(digits), format!("1{}", "0".repeat(digits - 1)));
@@ -236,6 +247,8 @@ pub fn corners() -> Vec<String> {
         }
         corners.extend([format!("0.{ten}"), format!("-000{ten}"), format!("0.0000{nines}"), ten, "0".repeat(digits)]);
     }
+    // So many behind the point.
+    corners.extend((1..=23).map(|behind| format!("0.{:0>behind$}", 7)));
     corners.push("7".repeat(330));
     corners
 }
@@ -290,7 +303,7 @@ pub fn lines(rng: &mut Rng, lines: &mut Lines) {
     );
     lines.add(
         'z',
-        15,
+        16,
         text(),
         || any_decimal(rng, SIZES).into_bytes(),
         |s| {

@@ -5,7 +5,7 @@ use super::decimals::{TIMES, any_decimal, decimal};
 use super::{Layer, colors, decimals};
 use crate::answer::{Answer, coded};
 use crate::bench::{Bench, pieces};
-use crate::cases::{Rng, damage, every_text, every_word};
+use crate::cases::{Rng, damage, every_text, every_word, texts};
 use crate::compare::{Esc, Run};
 use crate::lend::{Lent, cells};
 use crate::record::{Lines, Recording};
@@ -36,7 +36,7 @@ fn compare(run: &mut Run) {
     let lent = &mut Lent::default();
     let mut turn = 0;
     every_text(SYMBOLS, 6, |text| {
-        // The rates take turns: 14 frame rates, and as many ticks in another order.
+        // The rates take turns, those of frames faster than those of ticks.
         turn += 1;
         check(run, text, (RATES[turn % RATES.len()], RATES[turn / 3 % RATES.len()]));
     });
@@ -214,8 +214,8 @@ fn rates(text: &str, rate: Option<f64>) -> Rates {
 
 fn corners() -> Vec<(String, Rates)> {
     let mut corners = Vec::new();
-    for &text in CORNERS.iter().copied().flatten() {
-        corners.extend(RATES[..3].iter().map(|&rate| (text.to_string(), rates(text, rate))));
+    for text in texts(CORNERS) {
+        corners.extend(RATES[..3].iter().map(|&rate| (text.clone(), rates(&text, rate))));
     }
     for &rate in &RATES[3..] {
         corners.extend([("5f", rate, None), ("201f", rate, Some(50.0)), ("0:0:1:7", rate, Some(50.0))].map(at));
@@ -331,7 +331,7 @@ fn lines(rng: &mut Rng, lines: &mut Lines) {
     let text = |us: i64| us.to_be_bytes().to_vec();
     let corners = written_corners().into_iter().map(text).collect();
     let number = |bytes: &[u8]| i64::from_be_bytes(bytes.try_into().unwrap());
-    lines.add('w', 9, corners, || text(any_us(rng)), |us| access::format_ts(number(us)).into_bytes());
+    lines.add('w', 8, corners, || text(any_us(rng)), |us| access::format_ts(number(us)).into_bytes());
     colors::lines(rng, lines);
 }
 
@@ -348,7 +348,7 @@ fn given(text: &str, (frames, ticks): Rates) -> Vec<u8> {
 fn bench(bench: &mut Bench) {
     let clock = |n: usize| format!("{:02}:{:02}:{:02}.{:03}", n % 24, n * 7 % 60, n * 13 % 60, n * 37 % 1000);
     let framed = |n: usize| format!("{:02}:{:02}:{:02}:{:02}", n % 24, n * 7 % 60, n * 13 % 60, n % 25);
-    let offset = |n: usize| format!("{}.{:03}{}", n * 17 % 4000, n * 37 % 1000, METRICS[n % METRICS.len()]);
+    let offset = |n: usize| format!("{}.{:03}{}", n * 17 % 4000, n * 37 % 1000, METRICS[n / 3 % METRICS.len()]);
     let mixed = |n: usize| [clock(n), offset(n), framed(n)][n % 3].clone();
     let rates = (Some(25.0), Some(10_000_000.0));
     let rust = |text: &str| access::parse_ttml_time(text, rates.0, rates.1);
