@@ -1,7 +1,7 @@
 -- Reading the two tables back. Assumes nothing.
 --     rows-cells, rows-wide, rows-many, row-fits      row by row
 --     items-many, items-spans, items-attrs, item-at   the same in document order, with strings and attributes
---     cell-at, root-fits                              the same of the table that the reader leaves
+--     cell-at, root-fits, root-room, attrs-room       the same of the tables that the reader leaves
 --     root, on-text, on-section, on-elem, room        node by node, in the table of nodes
 --     root-attrs, on-attr, on-attrs                   attribute by attribute
 --     placed-text, placed-section, placed-elem        the order of strings, node by node
@@ -206,11 +206,24 @@ module _ (s t : List ℕ) (n m : ℕ) (left : t ≡ nodesOf n (meaning s n m)) w
   pub root-fits : (i : ℕ) → i < size forest → RowFits (length s) (size forest) (length (attrsOf forest)) i (getD (rowList 0 0 forest) i [])
   root-fits i h = row-fits (length s) (size forest) (length (attrsOf forest)) forest 0 i (root-placed s n m) (omega arith) (omega arith) h
 
+  pub root-room : size forest * 6 ≤ length t
+  root-room =
+      let z : List ℕ = replicate (n - size forest * 6) 0 in
+      let e : length t ≡ length (rows 0 0 forest ++ z) = ap length (left ∙ nodes-of n (meaning s n m)) in
+      omega (arith, e, length-append (rows 0 0 forest) z, length-rows forest 0 0)
+
   pub root : Stands t 0 0 forest
   root = record { tail = _; is = left ∙ nodes-of n (meaning s n m) }
 
 pub root-attrs : (s u : List ℕ) (n m : ℕ) → u ≡ attrCells m (meaning s n m) → Listed u 0 (attrsOf (treeOf (meaning s n m)))
 root-attrs s u n m left = record { tail = _; is = left ∙ attrs-of m (meaning s n m) }
+
+pub attrs-room : (s u : List ℕ) (n m : ℕ) → u ≡ attrCells m (meaning s n m) → length (attrsOf (treeOf (meaning s n m))) * 4 ≤ length u
+attrs-room s u n m left =
+    let l : List Attr = attrsOf (treeOf (meaning s n m)) in
+    let z : List ℕ = replicate (m - length l * 4) 0 in
+    let e : length u ≡ length (attrRows l ++ z) = ap length (left ∙ attrs-of m (meaning s n m)) in
+    omega (arith, e, length-append (attrRows l) z, length-attrRows l)
 
 -- ---- node by node
 -- what stands m cells after row i
