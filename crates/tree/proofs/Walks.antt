@@ -1,9 +1,9 @@
 -- Reading the two tables back. Assumes nothing.
---     rows-cells, rows-wide, rows-many, row-fits      row by row
+--     rows-cells, rows-wide, rows-many, row-fits, attr-fits   row by row
 --     items-many, items-spans, items-attrs, item-at   the same in document order, with strings and attributes
---     cell-at, root-fits                              the same of the table that the reader leaves
+--     cell-at, root-fits, root-room, attrs-room       the same of the tables that the reader leaves
 --     root, on-text, on-section, on-elem, room        node by node, in the table of nodes
---     root-attrs, on-attr, on-attrs                   attribute by attribute
+--     root-attrs, on-attr, attr-at, on-attrs          attribute by attribute
 --     placed-text, placed-section, placed-elem        the order of strings, node by node
 use Prim.Native.Nat.{ℕ, zero, suc, _+_, _-_, _*_, _≤_, _<_}
 use mathlib.Core.Path.{_≡_, refl, sym, ap, _∙_}
@@ -90,6 +90,41 @@ module _ (hi n m : ℕ) where
   row-fits f lo i o h g l =
       let z : 0 + i ≡ i = omega arith in
       rw z at (fitting-at (rowList 0 0 f) 0 i (fitting f 0 0 lo o (omega arith) (omega arith)) (omega (arith, rows-many f 0 0)))
+
+-- every attribute's name and value lie within the bound
+abbrev Within : ℕ → List Attr → Type 0
+Within hi [] = Unit {0}
+Within hi (x ∷ l) = (x .name + x .nameLen ≤ hi) × (x .value + x .valueLen ≤ hi) × Within hi l
+
+within-append : (hi : ℕ) (a b : List Attr) → Within hi a → Within hi b → Within hi (a ++ b)
+within-append hi [] b h g = g
+within-append hi (x ∷ a) b h g = (h .0, h .1, within-append hi a b (h .2) g)
+
+within-tag : (l : List Attr) (lo hi : ℕ) → InOrder lo (attrSpans l) hi → Within hi l
+unfolding attrSpans
+within-tag [] lo hi i = tt
+within-tag (x ∷ l) lo hi i =
+    let v : x .value + x .valueLen ≤ hi = in-whole (attrSpans l) (x .value + x .valueLen) hi (i .1 .1) in
+    (omega (arith, i .1 .0), v, within-tag l (x .value + x .valueLen) hi (i .1 .1))
+
+within : (f : Forest) (lo hi : ℕ) → InOrder lo (spans f) hi → Within hi (attrsOf f)
+unfolding spans attrsOf
+within nil lo hi i = tt
+within (text p n f) lo hi i = within f (p + n) hi (i .1)
+within (section p n f) lo hi i = within f (p + n) hi (i .1)
+within (elem p n l c f) lo hi i =
+    let r : InOrder (p + 1 + n) (spans c ++ spans f) hi = in-rest (attrSpans l) (spans c ++ spans f) (p + 1 + n) hi (i .1) in
+    within-append hi l (attrsOf c ++ attrsOf f) (within-tag l (p + 1 + n) hi (in-first (attrSpans l) (spans c ++ spans f) (p + 1 + n) hi (i .1)))
+    (within-append hi (attrsOf c) (attrsOf f) (within c (p + 1 + n) hi (in-first (spans c) (spans f) (p + 1 + n) hi r)) (within f (p + 1 + n) hi (in-rest (spans c) (spans f) (p + 1 + n) hi r)))
+
+within-at : (none : Attr) (hi : ℕ) (l : List Attr) (j : ℕ) → Within hi l → j < length l → (getD l j none .name + getD l j none .nameLen ≤ hi) × (getD l j none .value + getD l j none .valueLen ≤ hi)
+within-at none hi [] j h g = absurd (omega arith)
+within-at none hi (x ∷ l) zero h g = (h .0, h .1)
+within-at none hi (x ∷ l) (suc j) h g = within-at none hi l j (h .2) (omega arith)
+
+pub attr-fits : (none : Attr) (f : Forest) (lo hi j : ℕ) → InOrder lo (spans f) hi → j < length (attrsOf f)
+    → (getD (attrsOf f) j none .name + getD (attrsOf f) j none .nameLen ≤ hi) × (getD (attrsOf f) j none .value + getD (attrsOf f) j none .valueLen ≤ hi)
+attr-fits none f lo hi j i h = within-at none hi (attrsOf f) j (within f lo hi i) h
 
 -- ---- in document order
 pub items-many : (f : Forest) → length (items f) ≡ size f
@@ -206,11 +241,24 @@ module _ (s t : List ℕ) (n m : ℕ) (left : t ≡ nodesOf n (meaning s n m)) w
   pub root-fits : (i : ℕ) → i < size forest → RowFits (length s) (size forest) (length (attrsOf forest)) i (getD (rowList 0 0 forest) i [])
   root-fits i h = row-fits (length s) (size forest) (length (attrsOf forest)) forest 0 i (root-placed s n m) (omega arith) (omega arith) h
 
+  pub root-room : size forest * 6 ≤ length t
+  root-room =
+      let z : List ℕ = replicate (n - size forest * 6) 0 in
+      let e : length t ≡ length (rows 0 0 forest ++ z) = ap length (left ∙ nodes-of n (meaning s n m)) in
+      omega (arith, e, length-append (rows 0 0 forest) z, length-rows forest 0 0)
+
   pub root : Stands t 0 0 forest
   root = record { tail = _; is = left ∙ nodes-of n (meaning s n m) }
 
 pub root-attrs : (s u : List ℕ) (n m : ℕ) → u ≡ attrCells m (meaning s n m) → Listed u 0 (attrsOf (treeOf (meaning s n m)))
 root-attrs s u n m left = record { tail = _; is = left ∙ attrs-of m (meaning s n m) }
+
+pub attrs-room : (s u : List ℕ) (n m : ℕ) → u ≡ attrCells m (meaning s n m) → length (attrsOf (treeOf (meaning s n m))) * 4 ≤ length u
+attrs-room s u n m left =
+    let l : List Attr = attrsOf (treeOf (meaning s n m)) in
+    let z : List ℕ = replicate (m - length l * 4) 0 in
+    let e : length u ≡ length (attrRows l ++ z) = ap length (left ∙ attrs-of m (meaning s n m)) in
+    omega (arith, e, length-append (attrRows l) z, length-attrRows l)
 
 -- ---- node by node
 -- what stands m cells after row i
@@ -282,6 +330,14 @@ on-attr u j x l y = (
 
     cell-0 : getD u (j * 4) 0 ≡ x .name
     cell-0 = let z : j * 4 + 0 ≡ j * 4 = omega arith in rw z at (cell 0 (x .name) refl)
+
+-- the i-th of them
+pub attr-at : (none : Attr) (u : List ℕ) (j i : ℕ) (l : List Attr) → Listed u j l → i < length l → AttrIs u (j + i) (getD l i none)
+attr-at none u j i [] y h = absurd (omega arith)
+attr-at none u j zero (x ∷ l) y h = let z : j + 0 ≡ j = omega arith in rw z (on-attr u j x l y .0)
+attr-at none u j (suc i) (x ∷ l) y h =
+    let z : j + suc i ≡ j + 1 + i = omega arith in
+    rw z (attr-at none u (j + 1) i l (on-attr u j x l y .1) (omega arith))
 
 -- two lists of attributes, one after the other
 pub on-attrs : (u : List ℕ) (j : ℕ) (a b : List Attr) → Listed u j (a ++ b) → Listed u j a × Listed u (j + length a) b
