@@ -1,5 +1,5 @@
 -- Sizes. Assumes nothing.
---     reduced-more, reduced-stop, reduced-end, reduced-within, reduced-trim   a decimal without zeros at its end
+--     reduced-more, reduced-stop, reduced-end, reduced-least, reduced-is   a decimal without zeros at its end
 --     size-long, size-far, size-zero, size-is   which cells are a size
 --     same-true, same-itself, bits-same         the same float, and the same bits
 --     round-finite                              a rounded fraction is no NaN
