@@ -26,6 +26,7 @@ use Rattle.scan.proofs.Runs.{run-length, run-all, run-high}
 use Rattle.numerals.specs.Numerals.{valueFrom, digitOf}
 use Rattle.numerals.proofs.Numerals.{digit-byte}
 use Rattle.decimals.proofs.Counting.{digit-bounds}
+use Rattle.decimals.proofs.Tests.{both}
 use Rattle.decimals.specs.declared.read.Count.{Count}
 use Rattle.decimals.specs.declared.read.Digits.{Digits}
 use Rattle.decimals.specs.declared.read.Decimal.the-variants.{Is, Nothing, Beyond}
@@ -274,11 +275,7 @@ abbrev pub every : List ℕ → Bool
 every [] = true
 every (b ∷ s) = digitByte b && every s
 
-both : (a b : Bool) → (a && b) ≡ true → (a ≡ true) × (b ≡ true)
-both true b e = (refl, e)
-both false b e = let z : _≡_ {A = ℕ} 0 1 = cc in absurd (omega arith)
-
-every-append : (a b : List ℕ) → every a ≡ true → every b ≡ true → every (a ++ b) ≡ true
+pub every-append : (a b : List ℕ) → every a ≡ true → every b ≡ true → every (a ++ b) ≡ true
 every-append [] b p q = q
 every-append (x ∷ a) b p q = let h = both (digitByte x) (every a) p in rw (h .0) (every-append a b (h .1) q)
 

@@ -3,28 +3,34 @@
 --     size-long, size-far, size-zero, size-is   which cells are a size
 --     same-true, same-itself, bits-same         the same float, and the same bits
 --     round-finite                              a rounded fraction is no NaN
+--     spelling-whole, spelling-parts, long-whole, long-parts   a spelling's pieces and their lengths
+--     begun-minus, begun-plain, room-lead, put-whole, room-point, put-parts   a spelling written piece by piece
+--     size-made, size-says, size-again          what a decimal makes is a size; a size is what its spelling means
+--     reduced-value                             the zeros cut off change no value
 use Prim.Native.Nat.{ℕ, zero, suc, _+_, _-_, _*_, _/_, _%_, _≤_, _<_, _^_}
 use mathlib.Core.Path.{_≡_, refl, sym, ap, _∙_}
 use mathlib.Core.Bool.{Bool, true, false, not, cond, Bool·beq, _&&_, _||_, and-false}
 use mathlib.Core.List.{List, [], _∷_, _++_, append-assoc, append-nil}
 use native.Mathlib.Omega.{arith}
 use native.Mathlib.Nat.{pow-le-pow-right}
-use lib.Dec.{eqb, ltb, lit≤}
+use lib.Dec.{eqb, leb, ltb, lit≤}
 use lib.ListN.{length, set, length-append, length-set}
 use lib.Seq.{sets, length-sets}
 use lib.IntN.{ℤ, pos, negsuc}
 use lib.Ieee.{Float, nan, inf, fin, Format, binary32, prec, emax, low, odd, units, round, isNan, ne, toBits, ofBits, fits}
 use lib.Ieee.Bits.{ofBits-toBits}
 use lib.Ieee.Compare.{differs-from-itself, nan-differs}
-use borrow.Author.Tests.{eq-eqb, ne-eqb, eqb-true, eqb-false, le-leb, lt-leb}
+use borrow.Author.Tests.{leb-true, ltb-true, ltb-false, eq-eqb, ne-eqb, eqb-true, eqb-false, le-leb, lt-leb}
 use Rattle.scan.specs.Posts.{Appended}
 use Rattle.scan.proofs.Stores.{sets-on}
 use Rattle.numerals.specs.Written.{padded, decimalWidth}
 use Rattle.numerals.proofs.Writing.{padded-length}
+use Rattle.decimals.proofs.Values.{value-zero}
+use Rattle.decimals.proofs.Tests.{both}
 use Rattle.decimals.specs.declared.read.Digits.{Digits}
 use Rattle.decimals.specs.declared.size.Size.{Size}
 use Rattle.decimals.specs.Floats.{valueIn, sameExponent, sameFloat}
-use Rattle.decimals.specs.Size.{spelled, reducedFrom, reduced, isSize, spelling}
+use Rattle.decimals.specs.Size.{spelled, reducedFrom, reduced, sized, sizeOf, isSize, spelling}
 
 pub small-power : (k : ℕ) → k ≤ 10 → 10 ^ k ≤ 10 ^ 10
 small-power k h = pow-le-pow-right (lit≤ tt) h
@@ -102,10 +108,6 @@ same-exponent (pos a) (pos b) h = ap pos (eqb-true a b h)
 same-exponent (pos a) (negsuc b) h = let z : _≡_ {A = ℕ} 0 1 = cc in absurd (omega arith)
 same-exponent (negsuc a) (pos b) h = let z : _≡_ {A = ℕ} 0 1 = cc in absurd (omega arith)
 same-exponent (negsuc a) (negsuc b) h = ap negsuc (eqb-true a b h)
-
-both : (a b : Bool) → (a && b) ≡ true → (a ≡ true) × (b ≡ true)
-both true b e = (refl, e)
-both false b e = let z : _≡_ {A = ℕ} 0 1 = cc in absurd (omega arith)
 
 pub same-true : (x y : Float) → sameFloat x y ≡ true → x ≡ y
 unfolding sameFloat
@@ -258,3 +260,66 @@ module _ (minus : Bool) (digits scale at : ℕ) (t : List ℕ) (start : ℕ) (t1
             within = omega (arith, v .within, long);
             laid = four;
           })
+
+-- ---- what a size is
+pub size-made : (d : Digits) → d .digits < 10 ^ 6 → d .scale ≤ 10 → isSize (sizeOf d) ≡ true
+unfolding sizeOf
+size-made d a b =
+    let l = reduced-is d in
+    let r = reduced d in
+    size-is (sized r) (omega (arith, l .fewer)) (omega (arith, l .nearer)) (l .trim)
+    ∙ same-itself (valueIn binary32 (r .negative) (r .digits) (r .scale)) (round-finite binary32 (r .negative) (r .digits) (10 ^ (r .scale)))
+
+-- what is known of cells that are a size
+pub record IsSize (s : Size) : Type 0 where
+  pub few : s .digits ≤ 999999
+  pub near : s .scale ≤ 10
+  pub trim : 0 < s .scale → s .digits % 10 ≡ 0 → ⊥
+  pub value-is : s .value ≡ valueIn binary32 (s .negative) (s .digits) (s .scale)
+
+pub size-says : (s : Size) → isSize s ≡ true → IsSize s
+unfolding isSize
+size-says s e =
+    let v : Bool = sameFloat (s .value) (valueIn binary32 (s .negative) (s .digits) (s .scale)) in
+    let x = both (leb (s .digits) 999999 && leb (s .scale) 10 && (eqb (s .scale) 0 || not (eqb (s .digits % 10) 0))) v e in
+    let y = both (leb (s .digits) 999999 && leb (s .scale) 10) (eqb (s .scale) 0 || not (eqb (s .digits % 10) 0)) (x .0) in
+    let z = both (leb (s .digits) 999999) (leb (s .scale) 10) (y .0) in
+    record {
+      few = leb-true (s .digits) 999999 (z .0);
+      near = leb-true (s .scale) 10 (z .1);
+      trim = trimmed (y .1);
+      value-is = same-true (s .value) (valueIn binary32 (s .negative) (s .digits) (s .scale)) (x .1);
+    }
+  where
+    trimmed : (eqb (s .scale) 0 || not (eqb (s .digits % 10) 0)) ≡ true → 0 < s .scale → s .digits % 10 ≡ 0 → ⊥
+    trimmed t h e =
+        let z : _≡_ {A = ℕ} 0 1 = cc (rw (ne-eqb (s .scale) 0 (λ w. omega arith), eq-eqb (s .digits % 10) 0 e) at t) in
+        omega arith
+
+-- a size is what its spelling means
+pub size-again : (s : Size) → isSize s ≡ true → sizeOf (spelled (s .negative) (s .digits) (s .scale)) ≡ s
+unfolding sizeOf reduced
+size-again s e =
+    let i = size-says s e in
+    let r : reducedFrom (s .negative) (s .digits) (s .scale) ≡ spelled (s .negative) (s .digits) (s .scale) = by (ltb 0 (s .scale)) refl (i .trim) in
+    ap sized r ∙ rw (← (i .value-is))
+  where
+    by : (t : Bool) → ltb 0 (s .scale) ≡ t → (0 < s .scale → s .digits % 10 ≡ 0 → ⊥) → reducedFrom (s .negative) (s .digits) (s .scale) ≡ spelled (s .negative) (s .digits) (s .scale)
+    by true t n = let h : 0 < s .scale = ltb-true 0 (s .scale) t in reduced-stop (s .negative) (s .digits) (s .scale) h (n h)
+    by false t n = reduced-end (s .negative) (s .digits) (s .scale) (ltb-false 0 (s .scale) t)
+
+-- ---- the zeros cut off change no value
+pub reduced-value : (f : Format) (minus : Bool) (digits scale : ℕ) →
+    let d = reducedFrom minus digits scale in
+    valueIn f (d .negative) (d .digits) (d .scale) ≡ valueIn f minus digits scale
+unfolding reducedFrom
+reduced-value f minus digits zero = refl
+reduced-value f minus digits (suc k) = by (eqb (digits % 10) 0) refl (reduced-value f minus (digits / 10) k)
+  where
+    by : (t : Bool) → eqb (digits % 10) 0 ≡ t
+        → valueIn f (reducedFrom minus (digits / 10) k .negative) (reducedFrom minus (digits / 10) k .digits) (reducedFrom minus (digits / 10) k .scale) ≡ valueIn f minus (digits / 10) k
+        → valueIn f (cond t (reducedFrom minus (digits / 10) k) (spelled minus digits (suc k)) .negative) (cond t (reducedFrom minus (digits / 10) k) (spelled minus digits (suc k)) .digits) (cond t (reducedFrom minus (digits / 10) k) (spelled minus digits (suc k)) .scale) ≡ valueIn f minus digits (suc k)
+    by true e r =
+        let z : digits / 10 * 10 ≡ digits = omega (arith, eqb-true (digits % 10) 0 e) in
+        r ∙ sym (value-zero f minus (digits / 10) k) ∙ rw z
+    by false e r = refl

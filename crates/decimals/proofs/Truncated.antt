@@ -22,6 +22,7 @@ use lib.Ieee.Scale.{finite}
 use mir.Syntax.{w64}
 use mir.Val.{SFits}
 use borrow.Author.Tests.{leb-true, leb-false, lt-ltb, le-ltb, eq-eqb, ne-eqb, eqb-true, eqb-false}
+use Rattle.decimals.proofs.Tests.{no}
 use Rattle.decimals.specs.Floats.{Middling}
 
 -- ---- the whole part, without its sign
@@ -33,9 +34,6 @@ abbrev pub reaches : ℕ → Float → Bool
 reaches h nan = false
 reaches h (inf s) = not s
 reaches h (fin s m e) = not s && leb (2 ^ h) (wholeOf m e)
-
-no : {X : Type 0} → true ≡ false → X
-no e = let z : _≡_ {A = ℕ} 0 1 = cc in absurd (omega arith)
 
 -- a ≤ b, as the comparisons of floats ask it, and as one of the whole part of b / d, where a is p * d
 below-or-level : (p b d : ℕ) → 0 < d → (ltb (p * d) b || eqb (p * d) b) ≡ leb p (b / d)

@@ -18,6 +18,7 @@ use lib.Ieee.Exact.{HasValue}
 use lib.Ieee.Fits.{down-pos}
 use lib.Ieee.Scale.{round-same}
 use borrow.Author.Tests.{eqb-true, ne-eqb}
+use Rattle.decimals.proofs.Tests.{both}
 use Rattle.decimals.specs.Floats.{valueIn}
 
 -- ---- the quotient of two whole numbers
@@ -55,10 +56,6 @@ is-whole (fin false m d) n e = (refl, mul-one (m * up d) ∙ eqb-true (m * up d)
 abbrev powersFrom : ℕ → List Float → Bool
 powersFrom k [] = true
 powersFrom k (x ∷ t) = isWhole x (10 ^ k) && powersFrom (suc k) t
-
-both : (a b : Bool) → (a && b) ≡ true → (a ≡ true) × (b ≡ true)
-both true b e = (refl, e)
-both false b e = let z : _≡_ {A = ℕ} 0 1 = cc in absurd (omega arith)
 
 power-at : (t : List Float) (k i : ℕ) → powersFrom k t ≡ true → i < length t → HasValue (getD t i nan) false (10 ^ (k + i)) 1
 power-at [] k i e h = absurd (omega arith)

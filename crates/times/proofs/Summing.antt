@@ -10,6 +10,7 @@ use lib.Signed.{mag, ltZ, leZ, nonNeg}
 use mir.Syntax.{w64}
 use mir.Val.{toZ}
 use borrow.Author.Tests.{ltb-true, ltb-false, leb-false, lt-ltb, le-ltb}
+use Rattle.unicode.proofs.Utf8Laws.{by-test}
 use Rattle.times.specs.declared.sums.Sum.{Sum}
 use Rattle.times.specs.Sums.{isI64, checked, signed}
 use Rattle.times.specs.Written.{millis}
@@ -53,10 +54,6 @@ module _ (a b : ℕ) where
 -- ---- the sum, by the test of what is left up to the largest, or down to the least
 false-true : {A : Type 0} → false ≡ true → A
 false-true e = absurd (let z : _≡_ {A = ℕ} 0 1 = cc in omega arith)
-
-either : {A : Type 0} (t : Bool) → (t ≡ true → A) → (t ≡ false → A) → A
-either true f g = f refl
-either false f g = g refl
 
 -- the room above a number that is not negative
 top : (n : ℕ) → n < 2 ^ 63 → pos 9223372036854775807 -ℤ pos n ≡ pos (9223372036854775807 - n)
@@ -111,11 +108,11 @@ module _ (a b x y : ℤ) (ea : x ≡ a) (eb : y ≡ b) (fa : mag a < 2 ^ 63) (fb
           by : (u v : ℤ) → mag u < 2 ^ 63 → mag v < 2 ^ 63 → leZ (pos 0) v ≡ false → ltZ u (negsuc 9223372036854775807 -ℤ v) ≡ true → 2 ^ 63 ≤ mag (u +ℤ v)
           by u (pos n) h l e t = absurd (omega (arith, leb-false 0 n e))
           by (pos m) (negsuc n) h l e t =
-              either (ltb (suc n) 9223372036854775808)
+              by-test (ltb (suc n) 9223372036854775808)
               (λ w. let g : suc n < 9223372036854775808 = ltb-true (suc n) 9223372036854775808 w in false-true (rw (shortfall (suc n) 9223372036854775808 g) at t))
               (λ w. let g : 9223372036854775808 ≤ suc n = ltb-false (suc n) 9223372036854775808 w in absurd (omega (arith, ltb-true m (suc n - 9223372036854775808) (rw (difference (suc n) 9223372036854775808 g) at t))))
           by (negsuc m) (negsuc n) h l e t =
-              either (ltb (suc n) 9223372036854775808)
+              by-test (ltb (suc n) 9223372036854775808)
               (λ w. let g : suc n < 9223372036854775808 = ltb-true (suc n) 9223372036854775808 w in omega (arith, ltb-true (9223372036854775808 - suc (suc n)) m (rw (shortfall (suc n) 9223372036854775808 g) at t)))
               (λ w. let g : 9223372036854775808 ≤ suc n = ltb-false (suc n) 9223372036854775808 w in omega arith)
 
@@ -126,7 +123,7 @@ module _ (a b x y : ℤ) (ea : x ≡ a) (eb : y ≡ b) (fa : mag a < 2 ^ 63) (fb
           by u (pos n) h l e t = absurd (omega (arith, leb-false 0 n e))
           by (pos m) (negsuc n) h l e t = omega (arith, difference-mag m (suc n) 9223372036854775807 (omega arith) (omega arith))
           by (negsuc m) (negsuc n) h l e t =
-              either (ltb (suc n) 9223372036854775808)
+              by-test (ltb (suc n) 9223372036854775808)
               (λ w. let g : suc n < 9223372036854775808 = ltb-true (suc n) 9223372036854775808 w in omega (arith, ltb-false (9223372036854775808 - suc (suc n)) m (rw (shortfall (suc n) 9223372036854775808 g) at t)))
               (λ w. let g : 9223372036854775808 ≤ suc n = ltb-false (suc n) 9223372036854775808 w in false-true (sym (rw (difference (suc n) 9223372036854775808 g) at t)))
 

@@ -44,7 +44,7 @@ fn plus(a: Sum, b: Sum) -> Sum
 fn six_chars(text: &[u8]) -> usize
     ensures { λ r. ⌜ (r ≡ min (charsLength 6 (now (text .entry))) 7) × (r ≤ 7) ⌝ }
 {
-    let mut chars = 0;
+    let mut chars: usize = 0;
     let mut i = 0;
     while i < text.len() {
         match text[i] {

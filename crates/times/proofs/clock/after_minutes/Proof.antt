@@ -1,0 +1,86 @@
+-- Seconds up to the next colon, summed, and the frames that follow them.
+use Prim.Native.Nat.{_+_}
+use mathlib.Core.Path.{_≡_, sym, ap, _∙_}
+use mathlib.Core.Logic.{inl, inr}
+use native.Mathlib.Omega.{arith}
+use lib.ListN.{take, drop}
+use mir.Syntax.{w64}
+use mir.ValLaws.{toZ-ofZ}
+use borrow.Author.Needs.{needs}
+use Rattle.scan.specs.Split.{splitAt}
+use Rattle.numerals.specs.declared.Numeral.{Numeral}
+use Rattle.times.specs.declared.offset.Time.{Time}
+use Rattle.times.specs.Expressions.{secondsOf, summed, afterSeconds}
+use Rattle.times.proofs.Parts.{first-length, rest-of, seconds-last, seconds-more, after-other}
+use Rattle.times.proofs.clock.after_minutes.Statement.{statement}
+use Rattle.times.proofs.clock.after_minutes.Tie as tie
+
+find-byte-requires : tie.Need-find-byte-requires
+find-byte-requires c κs = search needs
+
+slice-aggregate-seconds : tie.Need-slice-aggregate-seconds
+slice-aggregate-seconds c = first-length _ _ _ (c .before .find-byte .ensures)
+
+seconds-requires : tie.Need-seconds-requires
+seconds-requires c κs = search needs
+
+summed-requires : tie.Need-summed-requires
+summed-requires c κs = search needs
+
+returns : tie.Need-returns
+returns c =
+    let a = c .before .before .before .before .before .before .args in
+    c .before .summed .ensures ∙ (ap (summed (Numeral.Is (a .h)) (Numeral.Is (a .m))) (c .before .before .seconds .ensures)
+    ∙ sym (seconds-last _ _ (c .before .before .before .before .find-byte .ensures) (a .ctx) (Numeral.Is (a .h)) (Numeral.Is (a .m)) (c .if1 .taken)))
+
+enum-known-total : tie.Need-enum-known-total
+enum-known-total c = search needs
+
+add-after-seconds : tie.Need-add-after-seconds
+add-after-seconds c = search needs
+
+sub-after-seconds : tie.Need-sub-after-seconds
+sub-after-seconds c = search needs
+
+part-after-seconds-start : tie.Need-part-after-seconds-start
+part-after-seconds-start c = search needs
+
+part-after-seconds-end : tie.Need-part-after-seconds-end
+part-after-seconds-end c = search needs
+
+after-seconds-requires : tie.Need-after-seconds-requires
+after-seconds-requires c κs = search needs
+
+returns-2 : tie.Need-returns-2
+returns-2 c =
+    let a = c .before .before .before .before .before .before .before .before .before .before .before .args in
+    let total : Time.Is (c .before .before .before .total .given .0 .0) ≡ summed (Numeral.Is (a .h)) (Numeral.Is (a .m)) (secondsOf (take (c .before .before .before .before .before .before .before .before .before .find-byte .result) (a .text .now))) = sym (c .before .before .before .total .given .1) ∙ (c .before .before .before .before .before .before .summed .ensures ∙ ap (summed (Numeral.Is (a .h)) (Numeral.Is (a .m))) (c .before .before .before .before .before .before .before .seconds .ensures)) in
+    c .after-seconds .ensures
+    ∙ ((λ i. afterSeconds ((ap Time.Is (toZ-ofZ w64 _ (record { sfits = c .before .before .known-told .given .0 .1 })) ∙ total) i) (splitAt 58 (rest-of (a .text .now) (c .before .before .before .before .before .before .before .before .before .find-byte .result + 1) i)) (a .ctx))
+    ∙ sym (seconds-more _ _ (c .before .before .before .before .before .before .before .before .before .find-byte .ensures) (a .ctx) (Numeral.Is (a .h)) (Numeral.Is (a .m)) (c .before .before .before .before .before .if1 .left)))
+
+returns-3 : tie.Need-returns-3
+returns-3 c =
+    let a = c .before .before .before .before .before .before .before .args in
+    after-other (c .before .before .summed .result) (splitAt 58 (drop (c .before .before .before .before .before .find-byte .result + 1) (a .text .now))) (a .ctx)
+    (λ z e. elim (rw e at (c .match .keys2)) [ inl k ↦ omega arith | inr (inl k) ↦ omega arith | inr (inr (inl k)) ↦ omega arith | inr (inr (inr k)) ↦ omega arith ])
+    ∙ (ap (λ (t : Time). afterSeconds t (splitAt 58 (drop (c .before .before .before .before .before .find-byte .result + 1) (a .text .now))) (a .ctx)) (c .before .before .summed .ensures ∙ ap (summed (Numeral.Is (a .h)) (Numeral.Is (a .m))) (c .before .before .before .seconds .ensures))
+    ∙ sym (seconds-more _ _ (c .before .before .before .before .before .find-byte .ensures) (a .ctx) (Numeral.Is (a .h)) (Numeral.Is (a .m)) (c .before .if1 .left)))
+
+pub after-minutes-spec : {M : Type 1} → statement M
+after-minutes-spec =
+    tie.close
+    (tie.spec
+    find-byte-requires
+    slice-aggregate-seconds
+    seconds-requires
+    summed-requires
+    returns
+    enum-known-total
+    add-after-seconds
+    sub-after-seconds
+    part-after-seconds-start
+    part-after-seconds-end
+    after-seconds-requires
+    returns-2
+    returns-3)
