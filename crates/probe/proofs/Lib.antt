@@ -1,3 +1,7 @@
 -- What the proofs of several functions use.
 pub mod Rooms
 pub mod Numbers
+pub mod Cells
+pub mod Colors
+pub mod Decimals
+pub mod Times

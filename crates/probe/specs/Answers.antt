@@ -84,3 +84,9 @@ placeOf Full = none
 pub record Filled (wants : ℕ) (w t t′ : List ℕ) (r : ℕ) : Type 0 where
   pub whole : wants ≤ length t → Appended w 0 t t′ r
   pub short : length t < wants → r ≡ none
+
+-- ---- answers that fill cells
+-- Where it will do, the answer is n and the cells stand at the table's start; else it is a refusal, and the table is as it was.
+pub record Answered {A : Type 0} (will : Bool) (n : ℕ) (cells : List A) (refusal : ℕ) (t t′ : List A) (r : ℕ) : Type 0 where
+  pub is : r ≡ cond will n refusal
+  pub laid : t′ ≡ sets t 0 (cond will cells [])

@@ -1,1 +1,4 @@
 pub mod Answers
+pub mod Decimals
+pub mod Colors
+pub mod Times

@@ -1,17 +1,19 @@
 // C names for the functions that the comparison with the Rust calls. None asks anything of its
 // caller: each tests what the function below it asks.
-mod values;
+mod color;
+mod decimal;
+mod time;
 
-pub use values::probe_color;
-pub use values::probe_color_text;
-pub use values::probe_decimal;
-pub use values::probe_decimal_f64;
-pub use values::probe_format_ts;
-pub use values::probe_is_size;
-pub use values::probe_size;
-pub use values::probe_size_width;
-pub use values::probe_time;
-pub use values::probe_truncate;
+pub use color::probe_color;
+pub use color::probe_color_text;
+pub use decimal::probe_decimal;
+pub use decimal::probe_decimal_f64;
+pub use decimal::probe_is_size;
+pub use decimal::probe_size;
+pub use decimal::probe_size_width;
+pub use decimal::probe_truncate;
+pub use time::probe_format_ts;
+pub use time::probe_time;
 ghost use mathlib.Core.Path.{_≡_};
 ghost use mathlib.Core.Bool.{true, false};
 ghost use mathlib.Core.List.{[], _∷_};
