@@ -15,14 +15,12 @@
 // announces: 1 the 8 bytes of a frame rate, 2 of a tick rate, 3 of both in this order, 0 none. Where
 // a text is none of its kind no bytes are answered, and where it meets a number of document 01,
 // that number as one byte.
-ghost use mathlib.Core.Path.{_≡_};
 ghost use Prim.Native.Nat.{_+_, _^_, _≤_, _<_};
 ghost use lib.ListN.{length};
-ghost use Rattle.replay_values.specs.Counts.{lengthOf};
 use colors::Color;
 use colors::Rgba;
 use decimals::Decimal;
-use decimals::Digits;
+use decimals::Size;
 use libc::STDOUT_FILENO;
 use scan::Written;
 use times::Time;
@@ -97,11 +95,9 @@ fn agrees(line: &[u8]) -> bool {
     }
     let mut given = [0u8; 512];
     let mut told = [0u8; 512];
-    let mut made = [0u8; 512];
     let n = unhex(&line[2..gap], &mut given);
     let m = unhex(&line[gap + 1..], &mut told);
-    let k = answer(line[0], &given[..n], &mut made);
-    scan::same(&told[..m], &made[..k])
+    tells(line[0], &given[..n], &told[..m])
 }
 
 // The bytes that a field of hexadecimal digits spells, as many as fit.
@@ -139,141 +135,141 @@ fn nibble(b: u8) -> u8
     }
 }
 
-// What the libraries answer, at the start of out: how many bytes.
-fn answer(kind: u8, given: &[u8], out: &mut [u8]) -> usize
-    requires { ⌜ 512 ≤ length (now out) ⌝ }
-    ensures { λ r. ⌜ r ≤ length (now (out .entry)) ⌝ }
-{
+// Is what was told what the libraries answer?
+fn tells(kind: u8, given: &[u8], told: &[u8]) -> bool {
     match kind {
-        b'f' => f64_of(given, out),
-        b'z' => size_of(given, out),
-        b't' => time_of(given, out),
-        b'w' => length_of(times::format_ts(out, 0, signed(number(given, 0)))),
-        b'c' => color_of(given, out),
-        _ => color_text(given, out),
+        b'f' => tells_float(given, told),
+        b'z' => tells_size(given, told),
+        b't' => tells_time(given, told),
+        b'w' => tells_clock(given, told),
+        b'c' => tells_color(given, told),
+        _ => tells_color_text(given, told),
     }
 }
 
-fn length_of(w: Written) -> usize
-    ensures { λ r. ⌜ r ≡ lengthOf w ⌝ }
-{
-    match w {
-        Written::At(n) => n,
-        Written::Full => 0,
+// Is it this one byte?
+fn is_one(told: &[u8], b: u8) -> bool {
+    if told.len() == 1 {
+        return told[0] == b;
     }
+    false
+}
+
+// Is it the 8 bytes of this number?
+fn is_eight(told: &[u8], n: u64) -> bool {
+    if told.len() == 8 {
+        return number(told, 0) == n;
+    }
+    false
+}
+
+// Is it what was written at the start of a table?
+fn is_written(told: &[u8], out: &[u8], w: Written) -> bool {
+    match w {
+        Written::At(n) => is_start(told, out, n),
+        Written::Full => false,
+    }
+}
+
+fn is_start(told: &[u8], out: &[u8], n: usize) -> bool {
+    if out.len() < n {
+        return false;
+    }
+    scan::same(told, &out[..n])
 }
 
 // The byte at a place, or 0 past the end.
-fn byte(bytes: &[u8], at: usize) -> u64
-    ensures { λ r. ⌜ r < 256 ⌝ }
-{
+fn byte(bytes: &[u8], at: usize) -> u8 {
     if at < bytes.len() {
-        bytes[at] as u64
-    } else {
-        0
-    }
-}
-
-// The number of 4 bytes, and of 8.
-fn half(bytes: &[u8], at: usize) -> u64
-    requires { ⌜ at < 2 ^ 63 ⌝ }
-    ensures { λ r. ⌜ r < 2 ^ 32 ⌝ }
-{
-    let high = byte(bytes, at) * 256 + byte(bytes, at + 1);
-    let low = byte(bytes, at + 2) * 256 + byte(bytes, at + 3);
-    high * 65536 + low
-}
-
-fn number(bytes: &[u8], at: usize) -> u64
-    requires { ⌜ at + 4 < 2 ^ 63 ⌝ }
-{
-    half(bytes, at) * 0x1_0000_0000 + half(bytes, at + 4)
-}
-
-// The 4 bytes of a number at a place, and the 8 at the start.
-fn put_half(out: &mut [u8], at: usize, n: u64) -> usize
-    requires { ⌜ at + 4 ≤ length (now out) ⌝ }
-    ensures { λ r. ⌜ r ≡ at + 4 ⌝ }
-{
-    out[at] = (n / 16777216 % 256) as u8;
-    out[at + 1] = (n / 65536 % 256) as u8;
-    out[at + 2] = (n / 256 % 256) as u8;
-    out[at + 3] = (n % 256) as u8;
-    at + 4
-}
-
-fn put_number(out: &mut [u8], n: u64) -> usize
-    requires { ⌜ 8 ≤ length (now out) ⌝ }
-    ensures { λ r. ⌜ r ≡ 8 ⌝ }
-{
-    let at = put_half(out, 0, n / 0x1_0000_0000);
-    put_half(out, at, n)
-}
-
-// One byte, at the start.
-fn put_byte(out: &mut [u8], b: u8) -> usize
-    requires { ⌜ 0 < length (now out) ⌝ }
-    ensures { λ r. ⌜ r ≡ 1 ⌝ }
-{
-    out[0] = b;
-    1
-}
-
-// The i64 of a pattern of bits, and the pattern of an i64.
-fn signed(bits: u64) -> i64 {
-    if bits < 0x8000_0000_0000_0000 {
-        bits as i64
-    } else {
-        -1 - ((0xFFFF_FFFF_FFFF_FFFF - bits) as i64)
-    }
-}
-
-fn unsigned(n: i64) -> u64 {
-    if n < 0 {
-        0xFFFF_FFFF_FFFF_FFFF - ((-1 - n) as u64)
-    } else {
-        n as u64
-    }
-}
-
-fn f64_of(text: &[u8], out: &mut [u8]) -> usize
-    requires { ⌜ 512 ≤ length (now out) ⌝ }
-    ensures { λ r. ⌜ r ≤ length (now (out .entry)) ⌝ }
-{
-    match decimals::read_decimal(text, 15, 22) {
-        Decimal::Is(d) => put_number(out, f64::to_bits(decimals::to_f64(d))),
-        Decimal::Nothing => 0,
-        Decimal::Beyond => put_byte(out, 14),
-    }
-}
-
-fn size_of(text: &[u8], out: &mut [u8]) -> usize
-    requires { ⌜ 512 ≤ length (now out) ⌝ }
-    ensures { λ r. ⌜ r ≤ length (now (out .entry)) ⌝ }
-{
-    match decimals::read_decimal(text, 6, 10) {
-        Decimal::Is(d) => put_size(out, d),
-        Decimal::Nothing => 0,
-        Decimal::Beyond => put_byte(out, 14),
-    }
-}
-
-// What `is_size` does not take as a size answers no bytes.
-fn put_size(out: &mut [u8], d: Digits) -> usize
-    requires { ⌜ (512 ≤ length (now out)) × (d .digits < 10 ^ 6) × (d .scale ≤ 10) ⌝ }
-    ensures { λ r. ⌜ r ≤ length (now (out .entry)) ⌝ }
-{
-    let size = decimals::size_of(d);
-    if decimals::is_size(size) {
-        let at = put_half(out, 0, f32::to_bits(size.value) as u64);
-        return length_of(decimals::spell(out, at, size));
+        return bytes[at];
     }
     0
 }
 
+// The number of 2 bytes, of 4 and of 8.
+fn quarter(bytes: &[u8], at: usize) -> u64
+    requires { ⌜ at + 2 < 2 ^ 63 ⌝ }
+    ensures { λ r. ⌜ r < 2 ^ 16 ⌝ }
+{
+    let high = byte(bytes, at);
+    let low = byte(bytes, at + 1);
+    high as u64 * 256 + low as u64
+}
+
+fn half(bytes: &[u8], at: usize) -> u64
+    requires { ⌜ at + 4 < 2 ^ 63 ⌝ }
+    ensures { λ r. ⌜ r < 2 ^ 32 ⌝ }
+{
+    let high = quarter(bytes, at);
+    let low = quarter(bytes, at + 2);
+    high * 65536 + low
+}
+
+fn number(bytes: &[u8], at: usize) -> u64
+    requires { ⌜ at + 8 < 2 ^ 63 ⌝ }
+{
+    let high = half(bytes, at);
+    let low = half(bytes, at + 4);
+    high * 0x1_0000_0000 + low
+}
+
+// The i64 of a pattern of bits.
+fn signed(bits: u64) -> i64 {
+    if bits < 0x8000_0000_0000_0000 {
+        return bits as i64;
+    }
+    -1 - ((0xFFFF_FFFF_FFFF_FFFF - bits) as i64)
+}
+
+fn tells_float(text: &[u8], told: &[u8]) -> bool {
+    match decimals::read_decimal(text, 15, 22) {
+        Decimal::Is(d) => is_eight(told, f64::to_bits(decimals::to_f64(d))),
+        Decimal::Nothing => told.len() == 0,
+        Decimal::Beyond => is_one(told, 14),
+    }
+}
+
+fn tells_size(text: &[u8], told: &[u8]) -> bool {
+    match decimals::read_decimal(text, 6, 10) {
+        Decimal::Is(d) => is_size(told, decimals::size_of(d)),
+        Decimal::Nothing => told.len() == 0,
+        Decimal::Beyond => is_one(told, 14),
+    }
+}
+
+// What `is_size` of the library does not take as a size answers no bytes.
+fn is_size(told: &[u8], size: Size) -> bool {
+    if decimals::is_size(size) {
+        return is_value(told, size.value) && is_spelling(told, size);
+    }
+    told.len() == 0
+}
+
+// Are the first 4 bytes those of this float?
+fn is_value(told: &[u8], value: f32) -> bool {
+    if value != value {
+        return false;
+    }
+    let bits = half(told, 0) as u32;
+    f32::to_bits(value) == bits
+}
+
+// Are the bytes behind those 4 the spelling?
+fn is_spelling(told: &[u8], size: Size) -> bool {
+    if told.len() < 4 {
+        return false;
+    }
+    if 10 < size.scale {
+        return false;
+    }
+    let mut out = [0u8; 64];
+    let w = decimals::spell(&mut out, 0, size);
+    is_written(&told[4..], &out, w)
+}
+
 // The float of 8 bytes; 0 for a NaN, which no document has as a rate.
 fn rate(given: &[u8], at: usize) -> f64
-    requires { ⌜ at + 4 < 2 ^ 63 ⌝ }
+    requires { ⌜ at + 8 < 2 ^ 63 ⌝ }
 {
     let bits = number(given, at);
     if 0x7FF0_0000_0000_0000 < bits % 0x8000_0000_0000_0000 {
@@ -282,62 +278,114 @@ fn rate(given: &[u8], at: usize) -> f64
     f64::from_bits(bits)
 }
 
-fn time_of(given: &[u8], out: &mut [u8]) -> usize
-    requires { ⌜ 512 ≤ length (now out) ⌝ }
-    ensures { λ r. ⌜ r ≤ length (now (out .entry)) ⌝ }
-{
-    let rates = byte(given, 0);
-    let frames = rates % 2 == 1;
-    let ticks = 2 <= rates;
-    let second = if frames { 9 } else { 1 };
-    let start = if ticks { second + 8 } else { second };
+// The rates that the first byte announces, and the text behind them.
+fn tells_time(given: &[u8], told: &[u8]) -> bool {
+    match byte(given, 0) {
+        0 => tells_timed(given, 1, no_rates(), told),
+        1 => tells_timed(given, 9, frame_rate(rate(given, 1)), told),
+        2 => tells_timed(given, 9, tick_rate(rate(given, 1)), told),
+        _ => tells_timed(given, 17, both_rates(rate(given, 1), rate(given, 9)), told),
+    }
+}
+
+fn no_rates() -> TimingCtx {
+    TimingCtx {
+        frame_rate: 0.0,
+        has_frame_rate: false,
+        tick_rate: 0.0,
+        has_tick_rate: false,
+    }
+}
+
+fn frame_rate(frames: f64) -> TimingCtx {
+    TimingCtx {
+        frame_rate: frames,
+        has_frame_rate: true,
+        tick_rate: 0.0,
+        has_tick_rate: false,
+    }
+}
+
+fn tick_rate(ticks: f64) -> TimingCtx {
+    TimingCtx {
+        frame_rate: 0.0,
+        has_frame_rate: false,
+        tick_rate: ticks,
+        has_tick_rate: true,
+    }
+}
+
+fn both_rates(frames: f64, ticks: f64) -> TimingCtx {
+    TimingCtx {
+        frame_rate: frames,
+        has_frame_rate: true,
+        tick_rate: ticks,
+        has_tick_rate: true,
+    }
+}
+
+fn tells_timed(given: &[u8], start: usize, ctx: TimingCtx, told: &[u8]) -> bool {
     if given.len() < start {
-        return 0;
+        return false;
     }
-    let ctx = TimingCtx {
-        frame_rate: if frames { rate(given, 1) } else { 0.0 },
-        has_frame_rate: frames,
-        tick_rate: if ticks { rate(given, second) } else { 0.0 },
-        has_tick_rate: ticks,
-    };
     match times::parse_ttml_time(&given[start..], ctx) {
-        Time::Is(us) => put_number(out, unsigned(us)),
-        Time::Nothing => 0,
-        Time::Digits => put_byte(out, 14),
-        Time::Cut => put_byte(out, 15),
-        Time::Overflow => put_byte(out, 16),
+        Time::Is(us) => is_time(told, us),
+        Time::Nothing => told.len() == 0,
+        Time::Digits => is_one(told, 14),
+        Time::Cut => is_one(told, 15),
+        Time::Overflow => is_one(told, 16),
     }
 }
 
-fn color_of(text: &[u8], out: &mut [u8]) -> usize
-    requires { ⌜ 512 ≤ length (now out) ⌝ }
-    ensures { λ r. ⌜ r ≤ length (now (out .entry)) ⌝ }
-{
+// Is it the 8 bytes of this time?
+fn is_time(told: &[u8], us: i64) -> bool {
+    if told.len() == 8 {
+        return signed(number(told, 0)) == us;
+    }
+    false
+}
+
+fn tells_clock(given: &[u8], told: &[u8]) -> bool {
+    let mut out = [0u8; 64];
+    let w = times::format_ts(&mut out, 0, signed(number(given, 0)));
+    is_written(told, &out, w)
+}
+
+fn tells_color(text: &[u8], told: &[u8]) -> bool {
     match colors::parse_ttml_color_rgba(text) {
-        Color::Is(c) => {
-            out[0] = c.r;
-            out[1] = c.g;
-            out[2] = c.b;
-            out[3] = c.a;
-            4
-        }
-        Color::Nothing => 0,
-        Color::Cut => put_byte(out, 15),
+        Color::Is(c) => is_color(told, c),
+        Color::Nothing => told.len() == 0,
+        Color::Cut => is_one(told, 15),
     }
 }
 
-fn color_text(given: &[u8], out: &mut [u8]) -> usize
-    requires { ⌜ 512 ≤ length (now out) ⌝ }
-    ensures { λ r. ⌜ r ≤ length (now (out .entry)) ⌝ }
-{
+// Is it the 4 bytes of this colour?
+fn is_color(told: &[u8], c: Rgba) -> bool {
+    let bytes = [c.r, c.g, c.b, c.a];
+    scan::same(told, &bytes)
+}
+
+fn tells_color_text(given: &[u8], told: &[u8]) -> bool {
     let c = Rgba {
-        r: byte(given, 0) as u8,
-        g: byte(given, 1) as u8,
-        b: byte(given, 2) as u8,
-        a: byte(given, 3) as u8,
+        r: byte(given, 0),
+        g: byte(given, 1),
+        b: byte(given, 2),
+        a: byte(given, 3),
     };
     if given.len() == 4 {
-        return length_of(colors::append_rgba(out, 0, c));
+        return tells_rgba(told, c);
     }
-    length_of(colors::append_rgb(out, 0, c))
+    tells_rgb(told, c)
+}
+
+fn tells_rgba(told: &[u8], c: Rgba) -> bool {
+    let mut out = [0u8; 64];
+    let w = colors::append_rgba(&mut out, 0, c);
+    is_written(told, &out, w)
+}
+
+fn tells_rgb(told: &[u8], c: Rgba) -> bool {
+    let mut out = [0u8; 64];
+    let w = colors::append_rgb(&mut out, 0, c);
+    is_written(told, &out, w)
 }
