@@ -19,7 +19,7 @@ use Rattle.numerals.specs.declared.Numeral.{Numeral}
 use Rattle.numerals.specs.Numerals.{digitOf, digitsOnly, valueFrom}
 use Rattle.numerals.specs.Written.{padded, decimalWidth}
 use Rattle.numerals.proofs.Numerals.{value-append, digits-append, numeral-plain}
-use Rattle.numerals.proofs.Writing.{char-low, padded-length, padded-digits, padded-value, width-fits}
+use Rattle.numerals.proofs.Writing.{padded-byte, padded-length, padded-digits, padded-value, width-fits}
 use Rattle.times.specs.declared.sums.Sum.{Sum}
 use Rattle.times.specs.declared.offset.TimingCtx.{TimingCtx}
 use Rattle.times.specs.declared.offset.Time.{Time}
@@ -47,6 +47,10 @@ module _ (P : ℕ → Type 0) where
   every-at (b ∷ s) zero h e = e .0
   every-at (b ∷ s) (suc k) h e = every-at s k (omega arith) (e .1)
 
+  every-from : (s : List ℕ) → ((k : ℕ) → k < length s → P (getD s k 0)) → Every P s
+  every-from [] f = tt
+  every-from (b ∷ s) f = (f 0 (omega arith), every-from s (λ k h. f (suc k) (omega arith)))
+
   every-map : (Q : ℕ → Type 0) → ((b : ℕ) → P b → Q b) → (s : List ℕ) → Every P s → Every Q s
   every-map Q f [] e = tt
   every-map Q f (b ∷ s) e = (f b (e .0), every-map Q f s (e .1))
@@ -62,19 +66,13 @@ abbrev Not : ℕ → ℕ → Type 0
 Not b a = a ≡ b → ⊥
 
 padded-every : (w n : ℕ) → Every Digit (padded 10 w n)
-unfolding padded
-padded-every zero n = tt
-padded-every (suc w) n =
-    every-append Digit (padded 10 w (n / 10)) _ (padded-every w (n / 10)) (rw (char-low (n % 10) (omega arith)) (omega arith, omega arith), tt)
+padded-every w n = every-from Digit (padded 10 w n) (λ k h. padded-byte w n k (omega (arith, padded-length 10 w n)))
 
 padded-marks : (w n : ℕ) → Every Mark (padded 10 w n)
 padded-marks w n = every-map Digit Mark (λ b d. (omega arith, omega arith)) (padded 10 w n) (padded-every w n)
 
-padded-not : (b w n : ℕ) → 57 < b → Every (Not b) (padded 10 w n)
-padded-not b w n h = every-map Digit (Not b) (λ a d e. omega arith) (padded 10 w n) (padded-every w n)
-
-padded-pointless : (w n : ℕ) → Every (Not 46) (padded 10 w n)
-padded-pointless w n = every-map Digit (Not 46) (λ a d e. omega arith) (padded 10 w n) (padded-every w n)
+padded-not : (b w n : ℕ) → (Digit b → ⊥) → Every (Not b) (padded 10 w n)
+padded-not b w n h = every-map Digit (Not b) (λ a d e. h (rw e at d)) (padded 10 w n) (padded-every w n)
 
 -- ---- taken apart where the byte stands
 module _ (b : ℕ) where
@@ -168,7 +166,7 @@ unfolding secondsOf
 seconds-back n f h l =
     let c : charsLength 6 (padded 10 3 f) ≡ length (padded 10 3 f) = chars-ascii (padded 10 3 f) 6 (omega (arith, padded-length 10 3 f)) (padded-every 3 f) in
     let short = le-ltb 6 (charsLength 6 (padded 10 3 f)) (omega (arith, padded-length 10 3 f)) in
-    rw (once-here 46 (padded 10 2 n) (padded 10 3 f) (padded-pointless 2 n), whole 2 n (omega arith) (omega arith) (omega arith), short, microseconds f l)
+    rw (once-here 46 (padded 10 2 n) (padded 10 3 f) (padded-not 46 2 n (λ d. omega arith)), whole 2 n (omega arith) (omega arith) (omega arith), short, microseconds f l)
     (ap timeOf (sum-is (n * 1000000) (f * 1000) (omega arith)))
 
 -- ---- the whole clock time
@@ -202,12 +200,12 @@ module _ (t : ℕ) (fits : t * 1000 < 2 ^ 63) where
   parts : splitAt 58 text ≡ padded 10 (hoursWidth hours) hours ∷ (padded 10 2 minutes ∷ ((padded 10 2 seconds ++ (46 ∷ padded 10 3 (t % 1000))) ∷ []))
   unfolding text
   parts =
-      let d : Every (Not 58) (46 ∷ padded 10 3 (t % 1000)) = ((λ e. omega arith), padded-not 58 3 (t % 1000) (omega arith)) in
-      split-here 58 (padded 10 (hoursWidth hours) hours) _ (padded-not 58 (hoursWidth hours) hours (omega arith))
+      let d : Every (Not 58) (46 ∷ padded 10 3 (t % 1000)) = ((λ e. omega arith), padded-not 58 3 (t % 1000) (λ d. omega arith)) in
+      split-here 58 (padded 10 (hoursWidth hours) hours) _ (padded-not 58 (hoursWidth hours) hours (λ d. omega arith))
       ∙ ap (λ (ps : List (List ℕ)). padded 10 (hoursWidth hours) hours ∷ ps)
-      (split-here 58 (padded 10 2 minutes) _ (padded-not 58 2 minutes (omega arith))
+      (split-here 58 (padded 10 2 minutes) _ (padded-not 58 2 minutes (λ d. omega arith))
       ∙ ap (λ (ps : List (List ℕ)). padded 10 2 minutes ∷ ps)
-      (split-whole 58 _ (every-append (Not 58) (padded 10 2 seconds) (46 ∷ padded 10 3 (t % 1000)) (padded-not 58 2 seconds (omega arith)) d)))
+      (split-whole 58 _ (every-append (Not 58) (padded 10 2 seconds) (46 ∷ padded 10 3 (t % 1000)) (padded-not 58 2 seconds (λ d. omega arith)) d)))
 
   hours-fit : hours < 10 ^ hoursWidth hours
   unfolding hoursWidth hours

@@ -1,12 +1,13 @@
 -- Minutes up to the next colon, and what follows them.
 use Prim.Native.Nat.{_+_}
-use mathlib.Core.Path.{sym, ap, _∙_}
+use mathlib.Core.Path.{_≡_, sym, ap, _∙_}
+use lib.ListN.{take}
 use lib.IntN.{pos}
 use borrow.Author.Needs.{needs}
 use Rattle.scan.specs.Split.{splitAt}
 use Rattle.numerals.specs.declared.Numeral.{Numeral}
 use Rattle.times.specs.declared.offset.Time.{Time}
-use Rattle.times.specs.Expressions.{summed, afterMinutes}
+use Rattle.times.specs.Expressions.{integer, summed, afterMinutes}
 use Rattle.times.proofs.Parts.{first-length, rest-of, minutes-last, minutes-more, minutes-none}
 use Rattle.times.proofs.clock.after_hours.Statement.{statement}
 use Rattle.times.proofs.clock.after_hours.Tie as tie
@@ -53,8 +54,9 @@ enum-told c = search needs
 returns-2 : tie.Need-returns-2
 returns-2 c =
     let a = c .before .before .before .before .before .before .before .before .before .before .args in
+    let minutes : Numeral.Is (c .before .before .before .before .m .given .0 .0) ≡ integer (take (c .before .before .before .before .before .before .before .before .find-byte .result) (a .text .now)) = sym (c .before .before .before .before .m .given .1) ∙ c .before .before .before .before .before .before .integer .ensures in
     c .after-minutes .ensures
-    ∙ ((λ i. afterMinutes (Numeral.Is (a .h)) ((sym (c .before .before .before .before .m .given .1) ∙ c .before .before .before .before .before .before .integer .ensures) i) (splitAt 58 (rest-of (a .text .now) (c .before .before .before .before .before .before .before .before .find-byte .result + 1) i)) (a .ctx))
+    ∙ ((λ i. afterMinutes (Numeral.Is (a .h)) (minutes i) (splitAt 58 (rest-of (a .text .now) (c .before .before .before .before .before .before .before .before .find-byte .result + 1) i)) (a .ctx))
     ∙ sym (minutes-more _ _ (c .before .before .before .before .before .before .before .before .find-byte .ensures) (a .ctx) (Numeral.Is (a .h)) (c .before .before .if1 .left)))
 
 returns-3 : tie.Need-returns-3
