@@ -74,6 +74,12 @@ isWord s =
 
 -- ---- document 01, "Times and numbers"
 
+-- document 01's number for each answer; 0 where it has none
+abbrev pub numberOf : Decimal → ℕ
+numberOf (Is d) = 0
+numberOf Nothing = 0
+numberOf Beyond = 14
+
 -- "digits after leading zeros": before and behind the point together, zeros at the end counting
 unfoldable pub significant : List ℕ → ℕ
 significant [] = 0
