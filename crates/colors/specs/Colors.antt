@@ -1,4 +1,4 @@
--- Colours, from TTML 2, 10.3.8 <color>:
+-- Colours, from TTML 2, 10.3, whose forms are:
 --     <color> : "#" rrggbb | "#" rrggbbaa | "rgb" "(" r-value "," g-value "," b-value ")" | "rgba" "(" .. ")" | <named-color>
 -- and the Rust's `parse_ttml_color_rgba`. docs/DIFFERENCES.md says where the two differ. Definitions alone.
 use Prim.Native.Nat.{ℕ, _+_, _-_, _*_, _≤_}

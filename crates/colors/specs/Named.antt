@@ -1,4 +1,4 @@
--- The colour names, from TTML 2, 8.3.5 <named-color>, and the Rust's `named`, which takes `grey` besides. Definitions alone.
+-- The colour names, from TTML 2, 10.3 (the Rust's `named` cites its 10.3.5), and the Rust's `named`, which takes `grey` besides. Definitions alone.
 use Prim.Native.Nat.{ℕ}
 use mathlib.Core.Bool.{cond}
 use mathlib.Core.List.{List, [], _∷_}

@@ -1,4 +1,4 @@
--- Time expressions, from TTML 2, 12.3.1 <timeExpression>:
+-- Time expressions, from TTML 2, 12.3, of which these forms are read:
 --     <time-expression> : clock-time | offset-time
 --     clock-time        : hours ":" minutes ":" seconds ( fraction | ":" frames ( "." sub-frames )? )?
 --     offset-time       : time-count fraction? metric
