@@ -5,23 +5,11 @@ ghost use lib.ListN.{length, getD};
 ghost use Rattle.scan.specs.Posts.{Appended};
 ghost use Rattle.entities.specs.Decode.{decoded, Stepped};
 use crate::reference::Target;
-use scan::Written;
 
 // Where the next byte is read, and where the next byte is written.
 pub struct Step {
     pub from: usize,
     pub to: usize,
-}
-
-// The piece written at a place where it fits.
-fn copy(piece: &[u8], out: &mut [u8], at: usize) -> usize
-    requires { ⌜ at + length (now piece) ≤ length (now out) ⌝ }
-    ensures { λ r. ⌜ Appended (now (piece .entry)) at (now (out .entry)) (now (out .exit)) r ⌝ }
-{
-    match scan::append(out, at, piece) {
-        Written::At(next) => next,
-        Written::Full => at,
-    }
 }
 
 // What stands at an `&`, read and written: a reference's character, or the `&` itself.
@@ -54,7 +42,7 @@ pub fn decode_entities(src: &[u8], out: &mut [u8], at: usize) -> usize
     let mut to = at;
     while from < src.len() {
         let end = scan::find_byte(src, from, b'&');
-        to = copy(&src[from..end], out, to);
+        to = scan::copy(&src[from..end], out, to);
         from = end;
         if end < src.len() {
             let step = decode_reference(src, end, out, to);

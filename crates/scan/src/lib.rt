@@ -23,5 +23,6 @@ pub use table::Written;
 pub use table::append;
 pub use table::clear;
 pub use table::clear_bytes;
+pub use table::copy;
 pub use table::get;
 pub use table::put;

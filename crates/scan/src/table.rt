@@ -4,7 +4,7 @@ ghost use mathlib.Core.List.{[], _∷_};
 ghost use Prim.Native.Nat.{_+_, _-_, _≤_, _<_, _^_};
 ghost use lib.ListN.{length, getD, replicate};
 ghost use lib.Seq.{sets};
-ghost use Rattle.scan.specs.Posts.{Wrote};
+ghost use Rattle.scan.specs.Posts.{Appended, Wrote};
 
 // Where the next byte goes, or there is no room.
 pub enum Written {
@@ -62,4 +62,15 @@ pub fn append(out: &mut [u8], at: usize, piece: &[u8]) -> Written
         i += 1;
     }
     Written::At(at + i)
+}
+
+// The same where it fits.
+pub fn copy(piece: &[u8], out: &mut [u8], at: usize) -> usize
+    requires { ⌜ at + length (now piece) ≤ length (now out) ⌝ }
+    ensures { λ r. ⌜ Appended (now (piece .entry)) at (now (out .entry)) (now (out .exit)) r ⌝ }
+{
+    match append(out, at, piece) {
+        Written::At(next) => next,
+        Written::Full => at,
+    }
 }

@@ -1,8 +1,8 @@
 -- `copy` meets its contract: the piece fits, so it is written.
 use native.Mathlib.Omega.{arith}
 use borrow.Author.Needs.{needs}
-use Rattle.entities.proofs.decode.copy.Statement.{statement}
-use Rattle.entities.proofs.decode.copy.Tie as tie
+use Rattle.scan.proofs.table.copy.Statement.{statement}
+use Rattle.scan.proofs.table.copy.Tie as tie
 
 append-requires : tie.Need-append-requires
 append-requires c κs = search needs

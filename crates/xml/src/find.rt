@@ -1,0 +1,113 @@
+// What is asked of a tree in its tables.
+ghost use mathlib.Core.Path.{_≡_};
+ghost use mathlib.Core.List.{List};
+ghost use Prim.Native.Nat.{ℕ, _+_, _*_, _≤_};
+ghost use lib.ListN.{length, getD};
+ghost use Rattle.scan.specs.Names.{sameFolded};
+ghost use Rattle.derivation.specs.Strings.{stringAt};
+ghost use Rattle.tree.specs.Walks.{Stands};
+ghost use Rattle.tree.specs.Trees.{Attr, Forest, size};
+ghost use Rattle.xml.specs.Find.{Siblings, findRow, findValue, Owned, isElement, HasRow, elementRow};
+
+// The row of a node, or there is none.
+pub enum Found {
+    Row(usize),
+    Nothing,
+}
+
+// Place and length of a string.
+pub struct Place {
+    pub place: usize,
+    pub len: usize,
+}
+
+// An attribute's value, or there is no such attribute.
+pub enum Value {
+    At(Place),
+    Absent,
+}
+
+// An element: its place in the text, its name in the strings, the row after its subtree, and its attributes' rows.
+pub struct Element {
+    pub place: usize,
+    pub name_len: usize,
+    pub end: usize,
+    pub first: usize,
+    pub many: usize,
+}
+
+const ELEMENT: u32 = 2;
+
+// The row of an element.
+pub fn element_at(nodes: &[u32], k: usize) -> Element
+    requires { ⌜ k * 6 + 6 ≤ length (now nodes) ⌝ }
+    ensures { λ r. ⌜ r ≡ elementRow (now (nodes .entry)) k ⌝ }
+{
+    let at = k * 6;
+    Element {
+        place: scan::get(nodes, at + 2),
+        name_len: scan::get(nodes, at + 3),
+        end: scan::get(nodes, at + 1),
+        first: scan::get(nodes, at + 4),
+        many: scan::get(nodes, at + 5),
+    }
+}
+
+// Is node k an element of this local name?
+pub fn is_element(nodes: &[u32], strings: &[u8], k: usize, name: &[u8]) -> bool
+    requires { ⌜ HasRow (now nodes) (now strings) k ⌝ }
+    ensures { λ r. ⌜ r ≡ isElement (now (nodes .entry)) (now (strings .entry)) (now (name .entry)) k ⌝ }
+{
+    let at = k * 6;
+    if nodes[at] != ELEMENT {
+        return false;
+    }
+    let start = scan::get(nodes, at + 2) + 1;
+    let stop = start + scan::get(nodes, at + 3);
+    let local = start + scan::tag_local(&strings[start..stop]);
+    scan::eq_ignore_ascii_case(&strings[local..stop], name)
+}
+
+// The first element of this local name among the siblings in the rows from `from` up to `end`.
+pub fn find_element(nodes: &[u32], strings: &[u8], from: usize, end: usize, name: &[u8]) -> Found
+    requires { ⌜ Siblings (now nodes) (now strings) from end ⌝ }
+    ensures { λ r. ⌜ ((a : ℕ) (f : Forest) → Stands (now (nodes .entry)) from a f → from + size f ≡ end → r ≡ findRow (now (strings .entry)) (now (name .entry)) from f) ⌝ }
+{
+    let mut k = from;
+    while k < end {
+        if is_element(nodes, strings, k, name) {
+            return Found::Row(k);
+        }
+        k = scan::get(nodes, k * 6 + 1);
+    }
+    Found::Nothing
+}
+
+// Is this the name of attribute k?
+fn is_attr(attrs: &[u32], strings: &[u8], k: usize, name: &[u8]) -> bool
+    requires { ⌜ (k * 4 + 4 ≤ length (now attrs)) × (getD (now attrs) (k * 4) 0 + getD (now attrs) (k * 4 + 1) 0 ≤ length (now strings)) ⌝ }
+    ensures { λ r. ⌜ r ≡ sameFolded (stringAt (now (strings .entry)) (getD (now (attrs .entry)) (k * 4) 0) (getD (now (attrs .entry)) (k * 4 + 1) 0)) (now (name .entry)) ⌝ }
+{
+    let start = scan::get(attrs, k * 4);
+    let stop = start + scan::get(attrs, k * 4 + 1);
+    scan::eq_ignore_ascii_case(&strings[start..stop], name)
+}
+
+// The value of the first attribute of this name among the `many` from row `first` on.
+pub fn attr(attrs: &[u32], strings: &[u8], first: usize, many: usize, name: &[u8]) -> Value
+    requires { ⌜ ((l : List Attr) × Owned (now attrs) (now strings) first many l) ⌝ }
+    ensures { λ r. ⌜ ((l : List Attr) → Owned (now (attrs .entry)) (now (strings .entry)) first many l → r ≡ findValue (now (strings .entry)) (now (name .entry)) l) ⌝ }
+{
+    let end = first + many;
+    let mut k = first;
+    while k < end {
+        if is_attr(attrs, strings, k, name) {
+            return Value::At(Place {
+                place: scan::get(attrs, k * 4 + 2),
+                len: scan::get(attrs, k * 4 + 3),
+            });
+        }
+        k += 1;
+    }
+    Value::Absent
+}

@@ -1,0 +1,77 @@
+// Entities: a pass over the rows of nodes and one over those of attributes write each string at its
+// place, and set the lengths of texts and values to what they have then.
+ghost use mathlib.Core.Path.{_≡_};
+ghost use mathlib.Core.List.{[], _∷_};
+ghost use Prim.Native.Nat.{ℕ, _+_, _*_, _<_};
+ghost use lib.ListN.{length};
+ghost use lib.Seq.{sets};
+ghost use Rattle.xml.specs.Passes.{NodeReady, nodePlace, nodeBytes, nodesRead, nodeStringsRead, AttrReady, valueBytes, attrsRead, attrWritten, attrStringsRead};
+
+const TEXT: u32 = 1;
+
+const ELEMENT: u32 = 2;
+
+// The string of node k: an element's name, a text with its entities read, a section.
+fn read_node(src: &[u8], nodes: &mut [u32], strings: &mut [u8], k: usize)
+    requires { ⌜ NodeReady (now src) (now nodes) (now strings) k ⌝ }
+    ensures { λ _. ⌜ now (nodes .exit) ≡ sets (now (nodes .entry)) (k * 6 + 3) (length (nodeBytes (now (src .entry)) (now (nodes .entry)) k) ∷ []) ⌝ }
+    ensures { λ _. ⌜ now (strings .exit) ≡ sets (now (strings .entry)) (nodePlace (now (nodes .entry)) k) (nodeBytes (now (src .entry)) (now (nodes .entry)) k) ⌝ }
+{
+    let at = k * 6;
+    let kind = nodes[at];
+    let mut start = scan::get(nodes, at + 2);
+    let len = scan::get(nodes, at + 3);
+    if kind == ELEMENT {
+        start += 1;
+    }
+    let stop = start + len;
+    let mut end = start;
+    if kind == TEXT {
+        end = entities::decode_entities(&src[start..stop], strings, start);
+    } else {
+        end = scan::copy(&src[start..stop], strings, start);
+    }
+    scan::put(nodes, at + 3, end - start);
+}
+
+// The strings of the first count nodes.
+pub fn read_nodes(src: &[u8], nodes: &mut [u32], strings: &mut [u8], count: usize)
+    requires { ⌜ ((k : ℕ) → k < count → NodeReady (now src) (now nodes) (now strings) k) ⌝ }
+    ensures { λ _. ⌜ now (nodes .exit) ≡ nodesRead (now (src .entry)) (now (nodes .entry)) count ⌝ }
+    ensures { λ _. ⌜ now (strings .exit) ≡ nodeStringsRead (now (src .entry)) (now (nodes .entry)) (now (strings .entry)) count ⌝ }
+{
+    let mut k = 0;
+    while k < count {
+        read_node(src, nodes, strings, k);
+        k += 1;
+    }
+}
+
+// The name of attribute k, and its value with its entities read.
+fn read_attr(src: &[u8], attrs: &mut [u32], strings: &mut [u8], k: usize)
+    requires { ⌜ AttrReady (now src) (now attrs) (now strings) k ⌝ }
+    ensures { λ _. ⌜ now (attrs .exit) ≡ sets (now (attrs .entry)) (k * 4 + 3) (length (valueBytes (now (src .entry)) (now (attrs .entry)) k) ∷ []) ⌝ }
+    ensures { λ _. ⌜ now (strings .exit) ≡ attrWritten (now (src .entry)) (now (attrs .entry)) (now (strings .entry)) k ⌝ }
+{
+    let at = k * 4;
+    let name = scan::get(attrs, at);
+    let name_end = name + scan::get(attrs, at + 1);
+    scan::copy(&src[name..name_end], strings, name);
+    let value = scan::get(attrs, at + 2);
+    let value_end = value + scan::get(attrs, at + 3);
+    let end = entities::decode_entities(&src[value..value_end], strings, value);
+    scan::put(attrs, at + 3, end - value);
+}
+
+// The strings of the first count attributes.
+pub fn read_attrs(src: &[u8], attrs: &mut [u32], strings: &mut [u8], count: usize)
+    requires { ⌜ ((k : ℕ) → k < count → AttrReady (now src) (now attrs) (now strings) k) ⌝ }
+    ensures { λ _. ⌜ now (attrs .exit) ≡ attrsRead (now (src .entry)) (now (attrs .entry)) count ⌝ }
+    ensures { λ _. ⌜ now (strings .exit) ≡ attrStringsRead (now (src .entry)) (now (attrs .entry)) (now (strings .entry)) count ⌝ }
+{
+    let mut k = 0;
+    while k < count {
+        read_attr(src, attrs, strings, k);
+        k += 1;
+    }
+}
