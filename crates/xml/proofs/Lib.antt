@@ -1,1 +1,4 @@
 -- What the proofs of several functions use.
+pub mod PassLaws
+pub mod Lays
+pub mod PassForests

@@ -1,0 +1,143 @@
+-- `read_node` meets its contract: the row's place and kind tell what is written and where.
+use Prim.Native.Nat.{_+_, _-_}
+use mathlib.Core.Path.{_≡_, refl, ap, _∙_}
+use mathlib.Core.Logic.{⊎-elim}
+use native.Mathlib.Omega.{arith}
+use lib.ListN.{length, length-take, length-drop}
+use lib.Seq.{length-sets}
+use Rattle.scan.specs.Posts.{Appended}
+use Rattle.xml.specs.Passes.{nodePlace, nodeBytes}
+use Rattle.xml.proofs.PassLaws.{place-element, place-other, wrote-text, wrote-other, node-short}
+use borrow.Author.Needs.{needs}
+use Rattle.xml.proofs.strings.read_node.Statement.{statement}
+use Rattle.xml.proofs.strings.read_node.Tie as tie
+use Rattle.xml.proofs.strings.read_node.Reads as reads
+use Rattle.xml.proofs.strings.read_node.Lts as lts
+use Rattle.entities.proofs.decode_entities.Reads as decode-entities-reads
+use Rattle.scan.proofs.copy.Reads as copy-reads
+use Rattle.scan.proofs.get.Reads as get-reads
+use Rattle.scan.proofs.put.Reads as put-reads
+
+mul-at : tie.Need-mul-at
+mul-at c = search needs
+
+mul-kind : tie.Need-mul-kind
+mul-kind c = search needs
+
+slice-read-kind : tie.Need-slice-read-kind
+slice-read-kind c = search needs
+
+add-get : tie.Need-add-get
+add-get c = search needs
+
+get-requires : tie.Need-get-requires
+get-requires c κs = search needs
+
+add-get-2 : tie.Need-add-get-2
+add-get-2 c = search needs
+
+get-requires-2 : tie.Need-get-requires-2
+get-requires-2 c κs = search needs
+
+-- where the string begins
+abbrev Joined1 : Type 0
+Joined1 = lts.Joined1 (get-reads.Asked, get-reads.Learnt, decode-entities-reads.Asked, decode-entities-reads.Learnt, copy-reads.Asked, copy-reads.Learnt, put-reads.Asked, put-reads.Learnt) reads.Pre reads.Post
+
+start-is : (c : Joined1) → c .if1 .start ≡ nodePlace (c .before .before .before .before .before .before .before .before .before .args .nodes .now) (c .before .before .before .before .before .before .before .before .before .args .k)
+start-is c = ⊎-elim (λ w. place-element _ _ _ _ (w .0 .taken) (c .before .before .before .get .ensures) (w .1)) (λ w. place-other _ _ _ _ (w .0 .left) (c .before .before .before .get .ensures) (w .1)) (c .if1 .came)
+
+add-start : tie.Need-add-start
+add-start c =
+    let t = c .before .before .before .before .before .before .before .before .before .args .nodes .now in
+    let k = c .before .before .before .before .before .before .before .before .before .args .k in
+    let w : c .before .before .before .get .result + 1 ≡ nodePlace t k = place-element t k _ _ (c .if1 .taken) (c .before .before .before .get .ensures) refl in
+    omega arith
+
+add-stop : tie.Need-add-stop
+add-stop c = let w = start-is (c .before) in omega arith
+
+sub-decode-entities : tie.Need-sub-decode-entities
+sub-decode-entities c = search needs
+
+part-decode-entities-start : tie.Need-part-decode-entities-start
+part-decode-entities-start c = search needs
+
+part-decode-entities-end : tie.Need-part-decode-entities-end
+part-decode-entities-end c = let w = start-is (c .before .before) in omega arith
+
+decode-entities-requires : tie.Need-decode-entities-requires
+decode-entities-requires c κs = let w = start-is (c .before .before .before .before) in simp (length-take, length-drop) (omega arith)
+
+sub-copy : tie.Need-sub-copy
+sub-copy c = search needs
+
+part-copy-start : tie.Need-part-copy-start
+part-copy-start c = search needs
+
+part-copy-end : tie.Need-part-copy-end
+part-copy-end c = let w = start-is (c .before .before) in omega arith
+
+copy-requires : tie.Need-copy-requires
+copy-requires c κs = let w = start-is (c .before .before .before .before) in simp (length-take, length-drop) (omega arith)
+
+-- what is written
+abbrev Joined2 : Type 0
+Joined2 = lts.Joined2 (get-reads.Asked, get-reads.Learnt, decode-entities-reads.Asked, decode-entities-reads.Learnt, copy-reads.Asked, copy-reads.Learnt, put-reads.Asked, put-reads.Learnt) reads.Pre reads.Post
+
+laid-is : (c : Joined2) → Appended (nodeBytes (c .before .before .before .before .before .before .before .before .before .before .before .args .src .now) (c .before .before .before .before .before .before .before .before .before .before .before .args .nodes .now) (c .before .before .before .before .before .before .before .before .before .before .before .args .k)) (nodePlace (c .before .before .before .before .before .before .before .before .before .before .before .args .nodes .now) (c .before .before .before .before .before .before .before .before .before .before .before .args .k)) (c .before .before .before .before .before .before .before .before .before .before .before .args .strings .now) (c .if2 .strings) (c .if2 .end)
+laid-is c =
+    ⊎-elim (λ w. rw (w .6, w .7) (wrote-text _ _ _ _ _ _ _ _ (start-is (c .before .before)) (c .before .before .before .get2 .ensures) (w .0 .taken) (w .3 .ensures)))
+    (λ w. rw (w .6, w .7) (wrote-other _ _ _ _ _ _ _ _ (start-is (c .before .before)) (c .before .before .before .get2 .ensures) (w .0 .left) (w .3 .ensures))) (c .if2 .came)
+
+add-put : tie.Need-add-put
+add-put c = search needs
+
+sub-put : tie.Need-sub-put
+sub-put c = omega (arith, start-is (c .before .before .before .before), laid-is (c .before .before) .next)
+
+put-requires : tie.Need-put-requires
+put-requires c κs =
+    let d = c .before .before .before .before .before .before .before .before .before .before .before .before .before in
+    omega (arith, start-is (c .before .before .before .before), laid-is (c .before .before) .next, node-short (d .args .src .now) (d .args .nodes .now) (d .args .k), d .pre)
+
+same-length : tie.Need-same-length
+same-length c = search needs
+
+same-length-2 : tie.Need-same-length-2
+same-length-2 c = ap length (laid-is (c .before .before .before .before .before) .laid) ∙ simp length-sets
+
+returns : tie.Need-returns
+returns c =
+    let d = c .before .before .before .before .before .before .before .before .before .before .before .before .before .before .before .before in
+    let l = laid-is (c .before .before .before .before .before) in
+    let e : c .before .before .before .before .before .if2 .end - c .before .before .before .before .before .before .before .if1 .start ≡ length (nodeBytes (d .args .src .now) (d .args .nodes .now) (d .args .k))
+    = omega (arith, start-is (c .before .before .before .before .before .before .before), l .next) in
+    (rw e at (c .before .before .put .ensures), l .laid)
+
+pub read-node-spec : {M : Type 1} → statement M
+read-node-spec =
+    tie.close
+    (tie.spec
+    mul-at
+    mul-kind
+    slice-read-kind
+    add-get
+    get-requires
+    add-get-2
+    get-requires-2
+    add-start
+    add-stop
+    sub-decode-entities
+    part-decode-entities-start
+    part-decode-entities-end
+    decode-entities-requires
+    sub-copy
+    part-copy-start
+    part-copy-end
+    copy-requires
+    add-put
+    sub-put
+    put-requires
+    same-length
+    same-length-2
+    returns)
