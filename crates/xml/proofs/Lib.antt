@@ -2,3 +2,4 @@
 pub mod PassLaws
 pub mod Lays
 pub mod PassForests
+pub mod Parsing

@@ -1,5 +1,7 @@
 -- The two passes over the rows that a forest has in the tables. Assumes nothing.
 --     size-read, attrs-read, length-attrs-read    the forest with its entities read has the same nodes and attributes
+--     string-long                                 a string within the text is as long as it says
+--     text-bytes, section-bytes, element-bytes    what is written for a row of each kind, and where
 --     pass-forest, pass-strings                   the pass over a forest's rows
 --     pass-attrs, pass-attr-strings               the pass over attributes' rows
 --     nodes-pass, attrs-pass, strings-pass        the same of whole tables
@@ -92,15 +94,15 @@ attr-row-set u j a b c x ea eb ec =
 module _ (s t : List ℕ) where
   -- what is written for each kind
   module _ (k end p n first many : ℕ) where
-    text-bytes : RowIs t k 1 end p n first many → (nodePlace t k ≡ p) × (nodeBytes s t k ≡ decoded (stringAt s p n))
+    pub text-bytes : RowIs t k 1 end p n first many → (nodePlace t k ≡ p) × (nodeBytes s t k ≡ decoded (stringAt s p n))
     unfolding nodeBytes nodePlace
     text-bytes r = (rw (r .kind-is, r .place-is), rw (r .kind-is, r .place-is, r .len-is))
 
-    section-bytes : RowIs t k 3 end p n first many → (nodePlace t k ≡ p) × (nodeBytes s t k ≡ stringAt s p n)
+    pub section-bytes : RowIs t k 3 end p n first many → (nodePlace t k ≡ p) × (nodeBytes s t k ≡ stringAt s p n)
     unfolding nodeBytes nodePlace
     section-bytes r = (rw (r .kind-is, r .place-is), rw (r .kind-is, r .place-is, r .len-is))
 
-    element-bytes : RowIs t k 2 end p n first many → (nodePlace t k ≡ p + 1) × (nodeBytes s t k ≡ stringAt s (p + 1) n)
+    pub element-bytes : RowIs t k 2 end p n first many → (nodePlace t k ≡ p + 1) × (nodeBytes s t k ≡ stringAt s (p + 1) n)
     unfolding nodeBytes nodePlace
     element-bytes r = (rw (r .kind-is, r .place-is), rw (r .kind-is, r .place-is, r .len-is))
 
