@@ -3,3 +3,4 @@ pub mod PassLaws
 pub mod Lays
 pub mod PassForests
 pub mod Parsing
+pub mod Shown
