@@ -1,1 +1,13 @@
+pub mod Attributes
 pub mod Cases
+pub mod RunLaws
+pub mod StartTags
+pub mod SearchLaws
+pub mod Prologs
+pub mod Joining
+pub mod Rows
+pub mod Nodes
+pub mod NodeKinds
+pub mod Contents
+pub mod Agree
+pub mod Theorem
