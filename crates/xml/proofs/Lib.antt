@@ -4,3 +4,5 @@ pub mod Lays
 pub mod PassForests
 pub mod Parsing
 pub mod Shown
+pub mod Tables
+pub mod Theorem

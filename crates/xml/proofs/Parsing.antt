@@ -1,5 +1,6 @@
 -- The whole text: what the passes ask of the tables that the tree reader leaves, and what they leave. Assumes nothing.
 --     raw-small, raw-enough          which case of `raw` holds
+--     short-text                     a text that has a tree is no longer than the limit
 --     nodes-stand-ready, attrs-stand-ready   every row that was read can be passed
 --     Left, left-small, left-refused, left-tree   the four promises of `parse_xml` at once
 use Prim.Native.Nat.{ℕ, zero, suc, _+_, _-_, _*_, _≤_, _<_}
@@ -42,7 +43,7 @@ tree-bad o i j x q e w =
     omega arith
 
 -- a text that has a tree is no longer than the limit
-short-text : (s : List ℕ) (n m i j : ℕ) → Tree i j ≡ answerOf (meaning s n m) → length s ≤ 65536
+pub short-text : (s : List ℕ) (n m i j : ℕ) → Tree i j ≡ answerOf (meaning s n m) → length s ≤ 65536
 short-text s n m i j e = by (ltb n 49152) (ltb m 32768) (ltb 65536 (length s)) refl refl refl
   where
     by : (a b c : Bool) → ltb n 49152 ≡ a → ltb m 32768 ≡ b → ltb 65536 (length s) ≡ c → length s ≤ 65536

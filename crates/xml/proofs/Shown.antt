@@ -10,34 +10,29 @@ use lib.ListN.{length, getD, set, take, drop, replicate, length-replicate}
 use lib.Seq.{sets, length-sets, take-set-le, take-add, drop-at, length-take-le}
 use Rattle.scan.proofs.Stores.{sets-part}
 use Rattle.entities.specs.Decode.{decoded}
-use Rattle.entities.proofs.Decoding.{decoded-short}
 use Rattle.tree.specs.Trees.{Attr, Forest, nil, text, section, elem, Span, attrSpans, spans, InOrder}
 use Rattle.tree.proofs.Places.{in-lower, in-append, in-whole, in-first, in-rest}
 use Rattle.grammar.specs.Tree as tree
 use Rattle.grammar.specs.Demand.{decodeAttrs, decodeTree, decodeForest}
 use Rattle.derivation.specs.Strings.{stringAt, attrIn, attrsIn, treeIn}
 use Rattle.xml.specs.Reading.{Placed, attrStrings, strings, lay, readAttrs, readForest}
-use Rattle.xml.proofs.PassLaws.{string-short}
 use Rattle.xml.proofs.PassForests.{string-long}
-use Rattle.xml.proofs.Lays.{Split, in-split}
+use Rattle.xml.proofs.Lays.{Split, in-split, read-short, Ordered, ordered-whole, strings-ordered}
 
 -- ---- the strings stay in order
 module _ (s : List ℕ) where
-  read-short : (p n : ℕ) → length (decoded (stringAt s p n)) ≤ n
-  read-short p n = omega (arith, decoded-short (stringAt s p n), string-short s p n)
-
   order-attrs : (l : List Attr) (lo hi : ℕ) → InOrder lo (attrSpans l) hi → InOrder lo (attrSpans (readAttrs s l)) hi
   unfolding attrSpans readAttrs
   order-attrs [] lo hi i = i
   order-attrs (x ∷ l) lo hi i =
       let d : ℕ = length (decoded (stringAt s (x .value) (x .valueLen))) in
-      (i .0, (i .1 .0, in-lower (attrSpans (readAttrs s l)) (x .value + d) (x .value + x .valueLen) hi (omega (arith, read-short (x .value) (x .valueLen))) (order-attrs l (x .value + x .valueLen) hi (i .1 .1))))
+      (i .0, (i .1 .0, in-lower (attrSpans (readAttrs s l)) (x .value + d) (x .value + x .valueLen) hi (omega (arith, read-short s (x .value) (x .valueLen))) (order-attrs l (x .value + x .valueLen) hi (i .1 .1))))
 
   pub order-read : (f : Forest) (lo hi : ℕ) → InOrder lo (spans f) hi → InOrder lo (spans (readForest s f)) hi
   unfolding spans readForest
   order-read nil lo hi i = i
   order-read (text p n f) lo hi i =
-      (i .0, in-lower (spans (readForest s f)) (p + length (decoded (stringAt s p n))) (p + n) hi (omega (arith, read-short p n)) (order-read f (p + n) hi (i .1)))
+      (i .0, in-lower (spans (readForest s f)) (p + length (decoded (stringAt s p n))) (p + n) hi (omega (arith, read-short s p n)) (order-read f (p + n) hi (i .1)))
   order-read (section p n f) lo hi i = (i .0, order-read f (p + n) hi (i .1))
   order-read (elem p n l c f) lo hi i =
       let a : Split (p + 1 + n) (attrSpans l) (spans c ++ spans f) hi = in-split (attrSpans l) (spans c ++ spans f) (p + 1 + n) hi (i .1) in
@@ -46,48 +41,6 @@ module _ (s : List ℕ) where
         in-append (attrSpans (readAttrs s l)) (spans (readForest s c) ++ spans (readForest s f)) (p + 1 + n) (a .mid) hi (order-attrs l (p + 1 + n) (a .mid) (a .first))
             (in-append (spans (readForest s c)) (spans (readForest s f)) (a .mid) (b .mid) hi (order-read c (a .mid) (b .mid) (b .first)) (order-read f (b .mid) hi (b .rest))),
       )
-
--- ---- placed strings in order
-abbrev Ordered : ℕ → List Placed → ℕ → Type 0
-Ordered lo [] hi = lo ≤ hi
-Ordered lo (x ∷ l) hi = (lo ≤ x .place) × Ordered (x .place + length (x .bytes)) l hi
-
-ordered-lower : (l : List Placed) (lo m hi : ℕ) → lo ≤ m → Ordered m l hi → Ordered lo l hi
-ordered-lower [] lo m hi h o = omega arith
-ordered-lower (x ∷ l) lo m hi h o = (omega (arith, o .0), o .1)
-
-ordered-append : (a b : List Placed) (lo m hi : ℕ) → Ordered lo a m → Ordered m b hi → Ordered lo (a ++ b) hi
-ordered-append [] b lo m hi o u = ordered-lower b lo m hi o u
-ordered-append (x ∷ a) b lo m hi o u = (o .0, ordered-append a b (x .place + length (x .bytes)) m hi (o .1) u)
-
-ordered-whole : (l : List Placed) (lo hi : ℕ) → Ordered lo l hi → lo ≤ hi
-ordered-whole [] lo hi o = o
-ordered-whole (x ∷ l) lo hi o = omega (arith, o .0, ordered-whole l (x .place + length (x .bytes)) hi (o .1))
-
--- a string, and those after it
-ordered-one : (p n lo hi : ℕ) (w : List ℕ) (l : List Placed) → lo ≤ p → length w ≤ n → Ordered (p + n) l hi → Ordered lo (record { place = p; bytes = w } ∷ l) hi
-ordered-one p n lo hi w l h g o = (h, ordered-lower l (p + length w) (p + n) hi (omega arith) o)
-
-module _ (s : List ℕ) where
-  attrs-ordered : (l : List Attr) (lo hi : ℕ) → InOrder lo (attrSpans l) hi → Ordered lo (attrStrings s l) hi
-  unfolding attrSpans attrStrings
-  attrs-ordered [] lo hi i = i
-  attrs-ordered (x ∷ l) lo hi i =
-      let v : List ℕ = decoded (stringAt s (x .value) (x .valueLen)) in
-      ordered-one (x .name) (x .nameLen) lo hi (stringAt s (x .name) (x .nameLen)) (record { place = x .value; bytes = v } ∷ attrStrings s l) (i .0) (string-short s (x .name) (x .nameLen))
-      (ordered-one (x .value) (x .valueLen) (x .name + x .nameLen) hi v (attrStrings s l) (i .1 .0) (read-short s (x .value) (x .valueLen)) (attrs-ordered l (x .value + x .valueLen) hi (i .1 .1)))
-
-  strings-ordered : (f : Forest) (lo hi : ℕ) → InOrder lo (spans f) hi → Ordered lo (strings s f) hi
-  unfolding spans strings
-  strings-ordered nil lo hi i = i
-  strings-ordered (text p n f) lo hi i = ordered-one p n lo hi (decoded (stringAt s p n)) (strings s f) (i .0) (read-short s p n) (strings-ordered f (p + n) hi (i .1))
-  strings-ordered (section p n f) lo hi i = ordered-one p n lo hi (stringAt s p n) (strings s f) (i .0) (string-short s p n) (strings-ordered f (p + n) hi (i .1))
-  strings-ordered (elem p n l c f) lo hi i =
-      let a : Split (p + 1 + n) (attrSpans l) (spans c ++ spans f) hi = in-split (attrSpans l) (spans c ++ spans f) (p + 1 + n) hi (i .1) in
-      let b : Split (a .mid) (spans c) (spans f) hi = in-split (spans c) (spans f) (a .mid) hi (a .rest) in
-      ordered-one (p + 1) n lo hi (stringAt s (p + 1) n) (attrStrings s l ++ (strings s c ++ strings s f)) (i .0) (string-short s (p + 1) n)
-      (ordered-append (attrStrings s l) (strings s c ++ strings s f) (p + 1 + n) (a .mid) hi (attrs-ordered l (p + 1 + n) (a .mid) (a .first))
-      (ordered-append (strings s c) (strings s f) (a .mid) (b .mid) hi (strings-ordered c (a .mid) (b .mid) (b .first)) (strings-ordered f (b .mid) hi (b .rest))))
 
 -- ---- every string stands at its place
 take-sets : (w z : List ℕ) (m q : ℕ) → m ≤ q → take m (sets z q w) ≡ take m z

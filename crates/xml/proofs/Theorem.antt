@@ -1,0 +1,147 @@
+-- The theorem of the crate: of every text within the limits 1 to 3, what `parse_xml` leaves shows the tree that the grammar derives, with its
+-- entities read; or it refuses with the first number that the text meets. Assumes nothing.
+--     Room                           the text and the three tables meet none of the numbers 1 to 3
+--     parsed, parsed-is              what the tables show is what the grammar's reader answers
+--     takes-exactly, gives-that-tree, refuses-exactly   the demand
+--     small-strings, small-nodes, small-attrs, too-long, not-utf8   the numbers 1 to 3, in this order
+--     answers-tree, answers-refused  the program's answer tells which it is
+--     left-shows                     the tree that the tables show is that of `parsed`
+use Prim.Native.Nat.{ℕ, _≤_, _<_}
+use mathlib.Core.Path.{_≡_, refl, sym, ap, ap₂, _∙_}
+use mathlib.Core.Logic.{_↔_}
+use mathlib.Core.List.{List}
+use native.Mathlib.Omega.{arith}
+use lib.ListN.{length}
+use Rattle.entities.specs.Decode.{decoded}
+use Rattle.tree.specs.Trees as placed
+use Rattle.tree.specs.Trees.{spans, InOrder}
+use Rattle.tree.specs.Read.{Out, got, nothing, bad, meaning, answerOf}
+use Rattle.tree.specs.declared.answers.Answer.the-variants.{Tree, Refused}
+use Rattle.tree.specs.declared.answers.Refusal.{Refusal}
+use Rattle.tree.specs.Walks.{treeOf}
+use Rattle.unicode.specs.Utf8.{utf8End}
+use Rattle.tree.specs.Posts.{Fits}
+use Rattle.tree.proofs.Places.{meaning-placed}
+use Rattle.tree.proofs.Whole as whole
+use Rattle.grammar.specs.Tree.{Forest}
+use Rattle.grammar.specs.Demand.{Result, tree, refused, Derives, decodeForest}
+use Rattle.grammar.specs.Refusals.{FirstMet}
+use Rattle.grammar.specs.Counted.{decodeResult, treeReader}
+use Rattle.grammar.proofs.Theorem as grammar
+use Rattle.derivation.specs.Strings.{treeIn, resultIn}
+use Rattle.derivation.proofs.Agree.{agree}
+use Rattle.xml.specs.Reading.{raw, readOut, stringsOf}
+use Rattle.xml.proofs.Parsing.{raw-small, raw-enough}
+use Rattle.xml.proofs.Shown.{tree-shown}
+
+-- the text s and tables of n, m and z cells meet none of the numbers 1 to 3
+pub record Room (s : List ℕ) (n m z : ℕ) : Type 0 where
+  pub fits : Fits s n m
+  pub enough : 65536 ≤ z
+
+-- what the table of strings and the placed forest show: a tree, or a number and its place
+unfoldable pub parsed : List ℕ → ℕ → ℕ → ℕ → Result
+parsed s n m z = resultIn (stringsOf z s (raw s n m z)) (readOut s (raw s n m z))
+
+-- the same, of a reader's answer
+shows : (s : List ℕ) (z : ℕ) → length s ≤ z → (o : Out) → ((f : placed.Forest) (q k a : ℕ) → o ≡ got f q k a → InOrder 0 (spans f) (length s))
+    → resultIn (stringsOf z s o) (readOut s o) ≡ decodeResult decoded (resultIn s o)
+unfolding resultIn stringsOf readOut decodeForest
+shows s z h (got f q k a) i = ap tree (tree-shown s f 0 z (i f q k a refl) h)
+shows s z h (nothing q) i = refl
+shows s z h (bad n p) i = refl
+
+-- ---- a tree or a refusal, in each of the three
+module _ (s : List ℕ) (z : ℕ) where
+  there : (o : Out) (i j : ℕ) → answerOf o ≡ Tree i j → (g : Forest) × (resultIn (stringsOf z s o) (readOut s o) ≡ tree g)
+  unfolding answerOf resultIn readOut
+  there (got f q k a) i j e = (_, refl)
+  there (nothing q) i j e = (_, refl)
+  there (bad n p) i j e = let d : _≡_ {A = ℕ} 0 1 = cc in absurd (omega arith)
+
+  back : (o : Out) (g : Forest) → resultIn (stringsOf z s o) (readOut s o) ≡ tree g → (i : ℕ) × (j : ℕ) × (answerOf o ≡ Tree i j)
+  unfolding answerOf resultIn readOut
+  back (got f q k a) g e = (_, _, refl)
+  back (nothing q) g e = (_, _, refl)
+  back (bad n p) g e = let d : _≡_ {A = ℕ} 0 1 = cc in absurd (omega arith)
+
+  refused-there : (o : Out) (i p : ℕ) → answerOf o ≡ Refused (record { number = i; place = p }) → resultIn (stringsOf z s o) (readOut s o) ≡ refused i p
+  unfolding answerOf resultIn readOut
+  refused-there (got f q k a) i p e = let d : _≡_ {A = ℕ} 0 1 = cc in absurd (omega arith)
+  refused-there (nothing q) i p e = let d : _≡_ {A = ℕ} 0 1 = cc in absurd (omega arith)
+  refused-there (bad n r) i p e =
+      let w : _≡_ {A = Refusal} (record { number = n; place = r }) (record { number = i; place = p }) = cc in
+      ap₂ refused (ap (λ (x : Refusal). x .number) w) (ap (λ (x : Refusal). x .place) w)
+
+  refused-back : (o : Out) (i p : ℕ) → resultIn (stringsOf z s o) (readOut s o) ≡ refused i p → answerOf o ≡ Refused (record { number = i; place = p })
+  unfolding answerOf resultIn readOut
+  refused-back (got f q k a) i p e = let d : _≡_ {A = ℕ} 0 1 = cc in absurd (omega arith)
+  refused-back (nothing q) i p e = let d : _≡_ {A = ℕ} 0 1 = cc in absurd (omega arith)
+  refused-back (bad n r) i p e =
+      let a : n ≡ i = cc in
+      let b : r ≡ p = cc in
+      rw (a, b)
+
+tree-of : (w : List ℕ) (o : Out) (g : Forest) → resultIn w o ≡ tree g → treeIn w (treeOf o) ≡ g
+unfolding resultIn treeOf treeIn
+tree-of w (got f q k a) g e = cc
+tree-of w (nothing q) g e = cc
+tree-of w (bad n p) g e = let d : _≡_ {A = ℕ} 0 1 = cc in absurd (omega arith)
+
+module _ (s : List ℕ) (n m z : ℕ) where
+  pub parsed-is : Room s n m z → parsed s n m z ≡ treeReader decoded s
+  unfolding parsed treeReader
+  parsed-is h =
+      rw (raw-enough s n m z (h .enough)) (shows s z (omega (arith, h .fits .short, h .enough)) (meaning s n m) (λ f q k a. meaning-placed s n m f q k a) ∙ ap (decodeResult decoded) (agree s n m (h .fits)))
+
+  -- it is taken exactly when the grammar derives a tree for it within the limits
+  pub takes-exactly : Room s n m z → ((g : Forest) × (parsed s n m z ≡ tree g)) ↔ ((f : Forest) × Derives s f)
+  takes-exactly h =
+      let e = parsed-is h in
+      let t = grammar.takes-exactly decoded s in
+      ((λ x. t .0 (x .0, sym e ∙ x .1)), (λ x. let y = t .1 x in (y .0, e ∙ y .1)))
+
+  -- the tree given is that tree with its entities read
+  pub gives-that-tree : Room s n m z → (f g : Forest) → Derives s f → parsed s n m z ≡ tree g → g ≡ decodeForest decoded f
+  gives-that-tree h f g d e = grammar.gives-that-tree decoded s f g d (sym (parsed-is h) ∙ e)
+
+  -- the number answered is the first that is met
+  pub refuses-exactly : Room s n m z → (i p : ℕ) → (parsed s n m z ≡ refused i p) ↔ FirstMet 64 8192 8192 s i p
+  refuses-exactly h i p =
+      let e = parsed-is h in
+      let r = grammar.refuses-exactly decoded s i p (h .fits .short) in
+      ((λ x. r .0 (sym e ∙ x)), (λ x. e ∙ r .1 x))
+
+  -- ---- numbers 1 to 3
+  turned-away : (i p : ℕ) → raw s n m z ≡ bad i p → parsed s n m z ≡ refused i p
+  unfolding parsed resultIn readOut
+  turned-away i p e = rw e
+
+  pub small-strings : z < 65536 → parsed s n m z ≡ refused 1 0
+  small-strings h = turned-away 1 0 (raw-small s n m z h)
+
+  module _ (enough : 65536 ≤ z) where
+    pub small-nodes : n < 49152 → parsed s n m z ≡ refused 1 0
+    small-nodes h = turned-away 1 0 (raw-enough s n m z enough ∙ whole.no-nodes s n m h)
+
+    pub small-attrs : 49152 ≤ n → m < 32768 → parsed s n m z ≡ refused 1 0
+    small-attrs h g = turned-away 1 0 (raw-enough s n m z enough ∙ whole.no-attrs s n m h g)
+
+    pub too-long : 49152 ≤ n → 32768 ≤ m → 65536 < length s → parsed s n m z ≡ refused 2 0
+    too-long h g l = turned-away 2 0 (raw-enough s n m z enough ∙ whole.too-long s n m h g l)
+
+    pub not-utf8 : 49152 ≤ n → 32768 ≤ m → length s ≤ 65536 → utf8End s < length s → parsed s n m z ≡ refused 3 (utf8End s)
+    not-utf8 h g l b = turned-away 3 (utf8End s) (raw-enough s n m z enough ∙ whole.not-utf8 s n m (utf8End s) h g l refl b)
+
+  -- ---- the answer
+  pub answers-tree : ((i : ℕ) × (j : ℕ) × (answerOf (raw s n m z) ≡ Tree i j)) ↔ ((g : Forest) × (parsed s n m z ≡ tree g))
+  unfolding parsed
+  answers-tree = ((λ x. there s z (raw s n m z) (x .0) (x .1) (x .2)), (λ x. back s z (raw s n m z) (x .0) (x .1)))
+
+  pub answers-refused : (i p : ℕ) → (answerOf (raw s n m z) ≡ Refused (record { number = i; place = p })) ↔ (parsed s n m z ≡ refused i p)
+  unfolding parsed
+  answers-refused i p = (refused-there s z (raw s n m z) i p, refused-back s z (raw s n m z) i p)
+
+  pub left-shows : (w : List ℕ) (g : Forest) → w ≡ stringsOf z s (raw s n m z) → parsed s n m z ≡ tree g → treeIn w (treeOf (readOut s (raw s n m z))) ≡ g
+  unfolding parsed
+  left-shows w g e x = rw e (tree-of (stringsOf z s (raw s n m z)) (readOut s (raw s n m z)) g x)
