@@ -61,8 +61,10 @@ module _ (s : List ℕ) where
   attrs-ordered [] lo hi i = i
   attrs-ordered (x ∷ l) lo hi i =
       let v : List ℕ = decoded (stringAt s (x .value) (x .valueLen)) in
-      ordered-one (x .name) (x .nameLen) lo hi (stringAt s (x .name) (x .nameLen)) (record { place = x .value; bytes = v } ∷ attrStrings s l) (i .0) (string-short s (x .name) (x .nameLen))
-      (ordered-one (x .value) (x .valueLen) (x .name + x .nameLen) hi v (attrStrings s l) (i .1 .0) (read-short s (x .value) (x .valueLen)) (attrs-ordered l (x .value + x .valueLen) hi (i .1 .1)))
+      ordered-one (x .name) (x .nameLen) lo hi (stringAt s (x .name) (x .nameLen)) (record { place = x .value; bytes = v } ∷ attrStrings s l) (i .0)
+      (string-short s (x .name) (x .nameLen))
+      (ordered-one (x .value) (x .valueLen) (x .name + x .nameLen) hi v (attrStrings s l) (i .1 .0) (read-short s (x .value) (x .valueLen))
+      (attrs-ordered l (x .value + x .valueLen) hi (i .1 .1)))
 
   pub strings-ordered : (f : Forest) (lo hi : ℕ) → InOrder lo (spans f) hi → Ordered lo (strings s f) hi
   unfolding spans strings
@@ -142,7 +144,8 @@ module _ (s : List ℕ) where
       let u : List Placed = attrStrings s (attrsOf c) in
       let v : List Placed = attrStrings s (attrsOf f) in
       rw (attr-strings-append l (attrsOf c ++ attrsOf f), attr-strings-append (attrsOf c) (attrsOf f))
-      (ordered-lower (attrStrings s l ++ (u ++ v)) lo (p + 1 + n) hi (omega (arith, i .0)) (ordered-append (attrStrings s l) (u ++ v) (p + 1 + n) (a .mid) hi (attrs-ordered s l (p + 1 + n) (a .mid) (a .first))
+      (ordered-lower (attrStrings s l ++ (u ++ v)) lo (p + 1 + n) hi (omega (arith, i .0))
+      (ordered-append (attrStrings s l) (u ++ v) (p + 1 + n) (a .mid) hi (attrs-ordered s l (p + 1 + n) (a .mid) (a .first))
       (ordered-append u v (a .mid) (b .mid) hi (own-ordered c (a .mid) (b .mid) (b .first)) (own-ordered f (b .mid) hi (b .rest)))))
 
   -- ---- all nodes' strings and then all attributes', or in document order
@@ -168,6 +171,8 @@ module _ (s : List ℕ) where
       let a : Split (p + 1 + n) (attrSpans l) (spans c ++ spans f) hi = in-split (attrSpans l) (spans c ++ spans f) (p + 1 + n) hi (i .1) in
       let b : Split (a .mid) (spans c) (spans f) hi = in-split (spans c) (spans f) (a .mid) hi (a .rest) in
       rw (attr-strings-append l (attrsOf c ++ attrsOf f), attr-strings-append (attrsOf c) (attrsOf f))
-      (regroup (sets z (p + 1) (stringAt s (p + 1) n)) (nodeStrings s c) (nodeStrings s f) (attrStrings s l) (attrStrings s (attrsOf c)) (attrStrings s (attrsOf f)) (strings s c) (strings s f) (p + 1 + n) (a .mid) (b .mid) hi
-      (nodes-ordered c (a .mid) (b .mid) (b .first)) (nodes-ordered f (b .mid) hi (b .rest)) (attrs-ordered s l (p + 1 + n) (a .mid) (a .first)) (own-ordered c (a .mid) (b .mid) (b .first))
+      (regroup (sets z (p + 1) (stringAt s (p + 1) n)) (nodeStrings s c) (nodeStrings s f) (attrStrings s l) (attrStrings s (attrsOf c)) (attrStrings s (attrsOf f))
+      (strings s c) (strings s f) (p + 1 + n) (a .mid) (b .mid) hi
+      (nodes-ordered c (a .mid) (b .mid) (b .first)) (nodes-ordered f (b .mid) hi (b .rest))
+      (attrs-ordered s l (p + 1 + n) (a .mid) (a .first)) (own-ordered c (a .mid) (b .mid) (b .first))
       (gathered c (a .mid) (b .mid) (b .first)) (gathered f (b .mid) hi (b .rest)))

@@ -4,9 +4,9 @@
 --     nodes-stand-ready, attrs-stand-ready   every row that was read can be passed
 --     Left, left-small, left-refused, left-tree   the four promises of `parse_xml` at once
 use Prim.Native.Nat.{ℕ, zero, suc, _+_, _-_, _*_, _≤_, _<_}
-use mathlib.Core.Path.{_≡_, refl, sym, ap, _∙_}
+use mathlib.Core.Path.{_≡_, refl, _∙_}
 use mathlib.Core.Bool.{Bool, true, false}
-use mathlib.Core.List.{List, [], _∷_, _++_}
+use mathlib.Core.List.{List, [], _++_}
 use native.Mathlib.Omega.{arith}
 use lib.ListN.{length, getD, replicate}
 use lib.Dec.{ltb}
@@ -14,13 +14,13 @@ use borrow.Author.Tests.{lt-ltb, le-ltb, ltb-true, ltb-false}
 use Rattle.tree.specs.declared.answers.Answer.{Answer}
 use Rattle.tree.specs.declared.answers.Answer.the-variants.{Tree, Refused}
 use Rattle.tree.specs.declared.answers.Refusal.{Refusal}
-use Rattle.tree.specs.Trees.{Attr, Forest, nil, text, section, elem, size, attrsOf, rows, attrRows, attrSpans, spans, InOrder}
+use Rattle.tree.specs.Trees.{Attr, Forest, nil, text, section, elem, size, attrsOf, attrSpans, spans, InOrder}
 use Rattle.tree.specs.Read.{Out, got, nothing, bad, meaning, answerOf, nodesOf, attrCells}
-use Rattle.tree.specs.Walks.{treeOf, Stands, RowIs, Listed, AttrIs}
+use Rattle.tree.specs.Walks.{treeOf, Stands, AttrIs}
 use Rattle.tree.proofs.Whole.{no-nodes, no-attrs, too-long}
 use Rattle.tree.proofs.Places.{in-whole, in-first, in-rest, meaning-placed}
 use Rattle.tree.proofs.Walks.{on-text, on-section, on-elem, root, root-placed, root-room, root-attrs, attrs-room, attr-at, attr-fits}
-use Rattle.xml.specs.Reading.{readForest, readAttrs, strings, lay, raw, readOut, stringsOf}
+use Rattle.xml.specs.Reading.{raw, readOut, stringsOf}
 use Rattle.xml.specs.Passes.{nodePlace, nodesRead, nodeStringsRead, NodeReady, attrsRead, attrStringsRead, AttrReady}
 use Rattle.xml.proofs.PassForests.{text-bytes, section-bytes, element-bytes, size-read, attrs-read, length-attrs-read, nodes-pass, attrs-pass, strings-pass}
 
@@ -137,7 +137,8 @@ abbrev pub Left : List ℕ → ℕ → ℕ → ℕ → Out → Answer → List �
 Left s n m z o r t u w = (r ≡ answerOf o) × ((t ≡ nodesOf n (readOut s o)) × ((u ≡ attrCells m (readOut s o)) × (w ≡ stringsOf z s o)))
 
 module _ (s : List ℕ) (n m z : ℕ) where
-  pub left-small : (t u w : List ℕ) → z < 65536 → t ≡ replicate n 0 → u ≡ replicate m 0 → w ≡ replicate z 0 → Left s n m z (raw s n m z) (Refused (record { number = 1; place = 0 })) t u w
+  pub left-small : (t u w : List ℕ) → z < 65536 → t ≡ replicate n 0 → u ≡ replicate m 0 → w ≡ replicate z 0
+      → Left s n m z (raw s n m z) (Refused (record { number = 1; place = 0 })) t u w
   unfolding answerOf nodesOf attrCells readOut stringsOf
   left-small t u w h a b c = rw (raw-small s n m z h) (refl, (a, (b, c)))
 
@@ -147,8 +148,8 @@ module _ (s : List ℕ) (n m z : ℕ) where
   refused-out (nothing q) r t u w e x y v = let d : _≡_ {A = ℕ} 0 1 = cc in absurd (omega arith)
   refused-out (bad i q) r t u w e x y v = (e, (x, (y, v)))
 
-  pub left-refused : (r : Refusal) (t u w : List ℕ) → 65536 ≤ z → Refused r ≡ answerOf (meaning s n m) → t ≡ nodesOf n (meaning s n m) → u ≡ attrCells m (meaning s n m) → w ≡ replicate z 0
-      → Left s n m z (raw s n m z) (Refused r) t u w
+  pub left-refused : (r : Refusal) (t u w : List ℕ) → 65536 ≤ z → Refused r ≡ answerOf (meaning s n m) → t ≡ nodesOf n (meaning s n m) → u ≡ attrCells m (meaning s n m)
+      → w ≡ replicate z 0 → Left s n m z (raw s n m z) (Refused r) t u w
   left-refused r t u w h e x y v = rw (raw-enough s n m z h) (refused-out (meaning s n m) r t u w e x y v)
 
   module _ (i j : ℕ) (t t′ u u′ y w : List ℕ) where

@@ -21,7 +21,7 @@ use Rattle.tree.proofs.Forests.{length-rows}
 use Rattle.tree.proofs.Places.{in-whole, in-first, in-rest}
 use Rattle.tree.proofs.Walks.{on-text, on-section, on-elem, on-attr}
 use Rattle.derivation.specs.Strings.{stringAt}
-use Rattle.xml.specs.Reading.{Placed, attrStrings, strings, lay, readAttrs, readForest}
+use Rattle.xml.specs.Reading.{attrStrings, strings, lay, readAttrs, readForest}
 use Rattle.xml.specs.Passes.{nodePlace, nodeBytes, nodesRead, nodeStringsRead, valueBytes, attrsRead, attrWritten, attrStringsRead}
 use Rattle.xml.proofs.PassLaws.{nodes-after, attrs-after}
 use Rattle.xml.proofs.Lays.{lay-append, nodeStrings, gathered}
@@ -120,12 +120,14 @@ module _ (s t : List ℕ) where
     string-read z q w e = rw (add-one k, e .0, e .1)
 
   -- a row, and the rows after it
-  rows-on : (k m kind end p n first many : ℕ) (w : List ℕ) → nodesRead s t (k + 1) ≡ sets (nodesRead s t k) (k * 6) (row kind end p n first many) → nodesRead s t m ≡ sets (nodesRead s t (k + 1)) ((k + 1) * 6) w
+  rows-on : (k m kind end p n first many : ℕ) (w : List ℕ) → nodesRead s t (k + 1) ≡ sets (nodesRead s t k) (k * 6) (row kind end p n first many)
+      → nodesRead s t m ≡ sets (nodesRead s t (k + 1)) ((k + 1) * 6) w
       → nodesRead s t m ≡ sets (nodesRead s t k) (k * 6) (row kind end p n first many ++ w)
   unfolding row
   rows-on k m kind end p n first many w e f = sets-on (row kind end p n first many) w (nodesRead s t k) (nodesRead s t (k + 1)) (nodesRead s t m) (k * 6) ((k + 1) * 6) e f (omega arith)
 
-  pub pass-forest : (f : Forest) (k a lo : ℕ) → Stands t k a f → InOrder lo (spans f) (length s) → nodesRead s t (k + size f) ≡ sets (nodesRead s t k) (k * 6) (rows k a (readForest s f))
+  pub pass-forest : (f : Forest) (k a lo : ℕ) → Stands t k a f → InOrder lo (spans f) (length s)
+      → nodesRead s t (k + size f) ≡ sets (nodesRead s t k) (k * 6) (rows k a (readForest s f))
   unfolding size rows spans readForest
   pass-forest nil k a lo st i = let z : k + 0 ≡ k = omega arith in rw z
   pass-forest (text p n f) k a lo st i =
@@ -152,7 +154,8 @@ module _ (s t : List ℕ) where
       let x : nodesRead s t e ≡ sets (nodesRead s t (k + 1)) ((k + 1) * 6) q = pass-forest c (k + 1) b (p + 1 + n) (o .1) (in-first (spans c) (spans f) (p + 1 + n) (length s) g) in
       let y : nodesRead s t (e + size f) ≡ sets (nodesRead s t e) (e * 6) r = pass-forest f e d (p + 1 + n) (o .2) (in-rest (spans c) (spans f) (p + 1 + n) (length s) g) in
       let v : nodesRead s t (e + size f) ≡ sets (nodesRead s t (k + 1)) ((k + 1) * 6) (q ++ r)
-      = sets-on q r (nodesRead s t (k + 1)) (nodesRead s t e) (nodesRead s t (e + size f)) ((k + 1) * 6) (e * 6) x y (omega (arith, length-rows (readForest s c) (k + 1) b, size-read s c)) in
+      = sets-on q r (nodesRead s t (k + 1)) (nodesRead s t e) (nodesRead s t (e + size f)) ((k + 1) * 6) (e * 6) x y
+      (omega (arith, length-rows (readForest s c) (k + 1) b, size-read s c)) in
       rw (z, size-read s c, length-attrs-read s l, many-read s c) (rows-on k (e + size f) 2 e p n a (length l) (q ++ r)
       (rw w at (row-read k e p n a (length l) 2 (stringAt s (p + 1) n) (o .0) (element-bytes k e p n a (length l) (o .0) .1))) v)
 
@@ -171,9 +174,11 @@ module _ (s t : List ℕ) where
       let o = on-elem t k a p n l c f st in
       let e : k + (1 + size c + size f) ≡ k + 1 + size c + size f = omega arith in
       let y : List ℕ = sets (nodeStringsRead s t z k) (p + 1) (stringAt s (p + 1) n) in
-      let w : nodeStringsRead s t z (k + 1) ≡ y = string-read k (k + 1 + size c) p n a (length l) z (p + 1) (stringAt s (p + 1) n) (element-bytes k (k + 1 + size c) p n a (length l) (o .0)) in
+      let w : nodeStringsRead s t z (k + 1) ≡ y
+      = string-read k (k + 1 + size c) p n a (length l) z (p + 1) (stringAt s (p + 1) n) (element-bytes k (k + 1 + size c) p n a (length l) (o .0)) in
       rw e (pass-strings z f (k + 1 + size c) (a + length l + length (attrsOf c)) (o .2)
-      ∙ (ap (λ (x : List ℕ). lay x (nodeStrings s f)) (pass-strings z c (k + 1) (a + length l) (o .1) ∙ ap (λ (x : List ℕ). lay x (nodeStrings s c)) w) ∙ sym (lay-append (nodeStrings s c) (nodeStrings s f) y)))
+      ∙ (ap (λ (x : List ℕ). lay x (nodeStrings s f)) (pass-strings z c (k + 1) (a + length l) (o .1) ∙ ap (λ (x : List ℕ). lay x (nodeStrings s c)) w)
+      ∙ sym (lay-append (nodeStrings s c) (nodeStrings s f) y)))
 
 -- ---- attributes
 module _ (s u : List ℕ) where
@@ -197,7 +202,8 @@ module _ (s u : List ℕ) where
       let o = on-attr u j x l y in
       let z : j + suc (length l) ≡ j + 1 + length l = omega arith in
       let r : List ℕ = x .name ∷ x .nameLen ∷ x .value ∷ length (decoded (stringAt s (x .value) (x .valueLen))) ∷ [] in
-      rw z (sets-on r (attrRows (readAttrs s l)) (attrsRead s u j) (attrsRead s u (j + 1)) (attrsRead s u (j + 1 + length l)) (j * 4) ((j + 1) * 4) (attr-read j x (o .0)) (pass-attrs l (j + 1) (o .1)) (omega arith))
+      rw z (sets-on r (attrRows (readAttrs s l)) (attrsRead s u j) (attrsRead s u (j + 1)) (attrsRead s u (j + 1 + length l)) (j * 4) ((j + 1) * 4)
+      (attr-read j x (o .0)) (pass-attrs l (j + 1) (o .1)) (omega arith))
 
   attr-string-read : (z : List ℕ) (j : ℕ) (x : Attr) → AttrIs u j x
       → attrStringsRead s u z (j + 1) ≡ sets (sets (attrStringsRead s u z j) (x .name) (stringAt s (x .name) (x .nameLen))) (x .value) (decoded (stringAt s (x .value) (x .valueLen)))
@@ -225,14 +231,16 @@ unfolding nodesRead
 nodes-pass s t tail f lo e i =
     let z : 0 + size f ≡ size f = omega arith in
     let w : List ℕ = rows 0 0 (readForest s f) in
-    (rw z at (pass-forest s t f 0 0 lo (record { tail = tail; is = e }) i)) ∙ sets-first w (rows 0 0 f) tail t e (omega (arith, length-rows (readForest s f) 0 0, length-rows f 0 0, size-read s f))
+    (rw z at (pass-forest s t f 0 0 lo (record { tail = tail; is = e }) i))
+    ∙ sets-first w (rows 0 0 f) tail t e (omega (arith, length-rows (readForest s f) 0 0, length-rows f 0 0, size-read s f))
 
 pub attrs-pass : (s u tail : List ℕ) (l : List Attr) → u ≡ attrRows l ++ tail → attrsRead s u (length l) ≡ attrRows (readAttrs s l) ++ tail
 unfolding attrsRead
 attrs-pass s u tail l e =
     let z : 0 + length l ≡ length l = omega arith in
     let w : List ℕ = attrRows (readAttrs s l) in
-    (rw z at (pass-attrs s u l 0 (record { tail = tail; is = e }))) ∙ sets-first w (attrRows l) tail u e (omega (arith, length-attrRows (readAttrs s l), length-attrRows l, length-attrs-read s l))
+    (rw z at (pass-attrs s u l 0 (record { tail = tail; is = e })))
+    ∙ sets-first w (attrRows l) tail u e (omega (arith, length-attrRows (readAttrs s l), length-attrRows l, length-attrs-read s l))
 
 pub strings-pass : (s t u z tail tail′ : List ℕ) (f : Forest) (lo hi : ℕ) → t ≡ rows 0 0 f ++ tail → u ≡ attrRows (attrsOf f) ++ tail′ → InOrder lo (spans f) hi
     → attrStringsRead s u (nodeStringsRead s t z (size f)) (length (attrsOf f)) ≡ lay z (strings s f)
@@ -241,4 +249,5 @@ strings-pass s t u z tail tail′ f lo hi e w i =
     let a : 0 + size f ≡ size f = omega arith in
     let b : 0 + length (attrsOf f) ≡ length (attrsOf f) = omega arith in
     let n : nodeStringsRead s t z (size f) ≡ lay z (nodeStrings s f) = rw a at (pass-strings s t z f 0 0 (record { tail = tail; is = e })) in
-    (rw b at (pass-attr-strings s u (nodeStringsRead s t z (size f)) (attrsOf f) 0 (record { tail = tail′; is = w }))) ∙ (ap (λ (x : List ℕ). lay x (attrStrings s (attrsOf f))) n ∙ gathered s f lo hi i z)
+    (rw b at (pass-attr-strings s u (nodeStringsRead s t z (size f)) (attrsOf f) 0 (record { tail = tail′; is = w })))
+    ∙ (ap (λ (x : List ℕ). lay x (attrStrings s (attrsOf f))) n ∙ gathered s f lo hi i z)

@@ -3,16 +3,16 @@
 --     string-short, node-short, value-short                 what is written is no longer than what stands in the text
 --     nodes-room, node-strings-room, nodes-after, nodes-ready, nodes-next, node-strings-next           the pass over nodes
 --     value-long, attr-wrote, attrs-room, attr-strings-room, attrs-after, attrs-ready, attrs-next, attr-strings-next           the pass over attributes
-use Prim.Native.Nat.{ℕ, zero, suc, _+_, _-_, _*_, _≤_, _<_}
-use mathlib.Core.Path.{_≡_, refl, sym, ap, _∙_}
+use Prim.Native.Nat.{ℕ, zero, suc, _+_, _-_, _*_, _≤_}
+use mathlib.Core.Path.{_≡_, refl, ap, _∙_}
 use mathlib.Core.Bool.{Bool, true, false}
-use mathlib.Core.List.{List, [], _∷_, _++_}
+use mathlib.Core.List.{List, [], _∷_}
 use native.Mathlib.Omega.{arith}
-use lib.ListN.{length, getD, take, drop, length-take, length-drop}
+use lib.ListN.{length, getD, take, drop, length-take}
 use lib.Seq.{sets, length-sets}
 use lib.Dec.{eqb}
-use borrow.Author.Tests.{ne-eqb, eq-eqb}
-use mathlib.Core.Logic.{inl, inr}
+use borrow.Author.Tests.{ne-eqb}
+use mathlib.Core.Logic.{inr}
 use native.Mathlib.Numerals.{add-one}
 use Rattle.scan.specs.Posts.{Appended}
 use Rattle.scan.proofs.Stores.{sets-other}
@@ -102,7 +102,8 @@ module _ (s t : List ℕ) where
           fits = rw (e, node-place-after k, nodes-after k (k * 6 + 3) (omega arith)) (r .fits);
         }
 
-    pub node-strings-next : (k : ℕ) (t′ z′ z″ : List ℕ) → t′ ≡ nodesRead s t k → z′ ≡ nodeStringsRead s t z k → z″ ≡ sets z′ (nodePlace t′ k) (nodeBytes s t′ k) → z″ ≡ nodeStringsRead s t z (k + 1)
+    pub node-strings-next : (k : ℕ) (t′ z′ z″ : List ℕ) → t′ ≡ nodesRead s t k → z′ ≡ nodeStringsRead s t z k → z″ ≡ sets z′ (nodePlace t′ k) (nodeBytes s t′ k)
+        → z″ ≡ nodeStringsRead s t z (k + 1)
     unfolding nodeStringsRead
     node-strings-next k t′ z′ z″ e w x = x ∙ rw (e, w, node-place-after k, node-bytes-after k, add-one k)
 
@@ -111,7 +112,8 @@ value-is : (s u : List ℕ) (k p n : ℕ) → p ≡ getD u (k * 4 + 2) 0 → n �
 unfolding valueBytes stringAt
 value-is s u k p n e w = rw (e, w)
 
-pub value-long : (s u : List ℕ) (k p n q : ℕ) → p ≡ getD u (k * 4 + 2) 0 → n ≡ getD u (k * 4 + 3) 0 → q ≡ p + length (decoded (take (p + n - p) (drop p s))) → q - p ≡ length (valueBytes s u k)
+pub value-long : (s u : List ℕ) (k p n q : ℕ) → p ≡ getD u (k * 4 + 2) 0 → n ≡ getD u (k * 4 + 3) 0 → q ≡ p + length (decoded (take (p + n - p) (drop p s)))
+    → q - p ≡ length (valueBytes s u k)
 value-long s u k p n q e w x = let y : length (decoded (take (p + n - p) (drop p s))) ≡ length (valueBytes s u k) = ap length (value-is s u k p n e w) in omega arith
 
 pub attr-wrote : (s u z z′ z″ : List ℕ) (k a n p m : ℕ) → a ≡ getD u (k * 4) 0 → n ≡ getD u (k * 4 + 1) 0 → p ≡ getD u (k * 4 + 2) 0 → m ≡ getD u (k * 4 + 3) 0

@@ -10,7 +10,7 @@ use lib.ListN.{length, getD, set, take, drop, replicate, length-replicate}
 use lib.Seq.{sets, length-sets, take-set-le, take-add, drop-at, length-take-le}
 use Rattle.scan.proofs.Stores.{sets-part}
 use Rattle.entities.specs.Decode.{decoded}
-use Rattle.tree.specs.Trees.{Attr, Forest, nil, text, section, elem, Span, attrSpans, spans, InOrder}
+use Rattle.tree.specs.Trees.{Attr, Forest, nil, text, section, elem, attrSpans, spans, InOrder}
 use Rattle.tree.proofs.Places.{in-lower, in-append, in-whole, in-first, in-rest}
 use Rattle.grammar.specs.Tree as tree
 use Rattle.grammar.specs.Demand.{decodeAttrs, decodeTree, decodeForest}
@@ -25,8 +25,14 @@ module _ (s : List ℕ) where
   unfolding attrSpans readAttrs
   order-attrs [] lo hi i = i
   order-attrs (x ∷ l) lo hi i =
-      let d : ℕ = length (decoded (stringAt s (x .value) (x .valueLen))) in
-      (i .0, (i .1 .0, in-lower (attrSpans (readAttrs s l)) (x .value + d) (x .value + x .valueLen) hi (omega (arith, read-short s (x .value) (x .valueLen))) (order-attrs l (x .value + x .valueLen) hi (i .1 .1))))
+      let d : ℕ = length (decoded (stringAt s (x .value) (x .valueLen))) in (
+        i .0,
+        (
+          i .1 .0,
+          in-lower (attrSpans (readAttrs s l)) (x .value + d) (x .value + x .valueLen) hi (omega (arith, read-short s (x .value) (x .valueLen)))
+              (order-attrs l (x .value + x .valueLen) hi (i .1 .1)),
+        ),
+      )
 
   pub order-read : (f : Forest) (lo hi : ℕ) → InOrder lo (spans f) hi → InOrder lo (spans (readForest s f)) hi
   unfolding spans readForest
@@ -84,7 +90,8 @@ lay-stands (x ∷ l) z lo hi o h =
       lay-stands l y (x .place + length (x .bytes)) hi (o .1) (omega arith),
     )
 
-at-places-at : (none : Placed) (z : List ℕ) (l : List Placed) (i : ℕ) → AtPlaces z l → i < length l → stringAt z (getD l i none .place) (length (getD l i none .bytes)) ≡ getD l i none .bytes
+at-places-at : (none : Placed) (z : List ℕ) (l : List Placed) (i : ℕ) → AtPlaces z l → i < length l
+    → stringAt z (getD l i none .place) (length (getD l i none .bytes)) ≡ getD l i none .bytes
 at-places-at none z [] i a h = absurd (omega arith)
 at-places-at none z (x ∷ l) zero a h = a .0
 at-places-at none z (x ∷ l) (suc i) a h = at-places-at none z l i (a .1) (omega arith)

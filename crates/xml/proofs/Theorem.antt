@@ -92,7 +92,8 @@ module _ (s : List ℕ) (n m z : ℕ) where
   pub parsed-is : Room s n m z → parsed s n m z ≡ treeReader decoded s
   unfolding parsed treeReader
   parsed-is h =
-      rw (raw-enough s n m z (h .enough)) (shows s z (omega (arith, h .fits .short, h .enough)) (meaning s n m) (λ f q k a. meaning-placed s n m f q k a) ∙ ap (decodeResult decoded) (agree s n m (h .fits)))
+      rw (raw-enough s n m z (h .enough)) (shows s z (omega (arith, h .fits .short, h .enough)) (meaning s n m) (λ f q k a. meaning-placed s n m f q k a)
+      ∙ ap (decodeResult decoded) (agree s n m (h .fits)))
 
   -- it is taken exactly when the grammar derives a tree for it within the limits
   pub takes-exactly : Room s n m z → ((g : Forest) × (parsed s n m z ≡ tree g)) ↔ ((f : Forest) × Derives s f)

@@ -28,9 +28,14 @@ same-length-3 c = search needs
 
 returns : tie.Need-returns
 returns c =
-    let a = c .before .before .before .before .before .before .before .before .before .before .before .before .before .before .before .before .before .args in
-    let k = c .before .before .before .before .before .before .before .before .before .before .before .clear-bytes .kept .0 in
-    left-small (a .text .now) (length (a .nodes .now)) (length (a .attrs .now)) (length (a .strings .now)) _ _ _ (omega (arith, k, c .before .before .before .before .before .before .before .before .if1 .taken)) (c .before .before .before .before .before .before .clear .ensures) (c .before .before .clear2 .ensures) (c .before .before .before .before .before .before .before .before .before .before .before .clear-bytes .ensures)
+    let u = c .before .before in
+    let t = u .before .before .before .before in
+    let i = t .before .before in
+    let b = i .before .before .before in
+    let d = b .before .before .before .before .before .before in
+    let a = d .args in
+    left-small (a .text .now) (length (a .nodes .now)) (length (a .attrs .now)) (length (a .strings .now)) _ _ _
+    (omega (arith, b .clear-bytes .kept .0, i .if1 .taken)) (t .clear .ensures) (u .clear2 .ensures) (b .clear-bytes .ensures)
 
 read-tree-requires : tie.Need-read-tree-requires
 read-tree-requires c κs = search needs
@@ -43,19 +48,27 @@ enum-known-n c = search needs
 
 read-nodes-requires : tie.Need-read-nodes-requires
 read-nodes-requires c κs =
-    let a = c .before .before .before .before .before .before .before .before .before .before .before .before .before .before .before .before .before .before .before .before .before .args in
-    let r = c .before .before .before .before .before .before .before .before .before .read-tree .ensures in
-    let e = sym (c .before .before .before .n .given .1) ∙ r .0 in
-    let b : 65536 ≤ length (a .strings .now) = omega (arith, c .before .before .before .before .before .before .before .before .before .before .before .before .before .before .before .clear-bytes .kept .0, c .before .before .before .before .before .before .before .before .before .before .before .before .if1 .left) in
-    nodes-stand-ready (a .text .now) _ (length (a .nodes .now)) (length (a .attrs .now)) _ _ (c .before .before .before .before .before .before .before .before .before .before .before .before .if1 .left) e _ (r .1 .0)
+    let n = c .before .before .before in
+    let t = n .before .before .before .before .before .before in
+    let i = t .before .before .before in
+    let d = i .before .before .before .before .before .before .before .before .before in
+    let a = d .args in
+    let e = sym (n .n .given .1) ∙ t .read-tree .ensures .0 in
+    nodes-stand-ready (a .text .now) _ (length (a .nodes .now)) (length (a .attrs .now)) _ _ (i .if1 .left) e _ (t .read-tree .ensures .1 .0)
 
 read-attrs-requires : tie.Need-read-attrs-requires
 read-attrs-requires c κs =
-    let a = c .before .before .before .before .before .before .before .before .before .before .before .before .before .before .before .before .before .before .before .before .before .before .before .before .before .before .before .before .args in
-    let r = c .before .before .before .before .before .before .before .before .before .before .before .before .before .before .before .before .read-tree .ensures in
-    let e = sym (c .before .before .before .before .before .before .before .before .before .before .n .given .1) ∙ r .0 in
-    let b : 65536 ≤ length (a .strings .now) = omega (arith, c .before .before .before .before .before .before .before .before .before .before .before .before .before .before .before .before .before .before .before .before .before .before .clear-bytes .kept .0, c .before .before .before .before .before .before .before .before .before .before .before .before .before .before .before .before .before .before .before .if1 .left) in
-    attrs-stand-ready (a .text .now) _ (length (a .nodes .now)) (length (a .attrs .now)) _ _ (omega (arith, b, c .before .before .before .before .before .before .before .before .before .before .before .before .before .before .before .before .before .before .before .before .before .before .clear-bytes .kept .0, c .before .before .before .before .before .before .read-nodes .kept)) e _ (r .1 .1)
+    let x = c .before .before .before .before .before .before in
+    let n = x .before .before .before .before in
+    let t = n .before .before .before .before .before .before in
+    let i = t .before .before .before in
+    let b = i .before .before .before in
+    let d = b .before .before .before .before .before .before in
+    let a = d .args in
+    let e = sym (n .n .given .1) ∙ t .read-tree .ensures .0 in
+    let h : 65536 ≤ length (a .strings .now) = omega (arith, b .clear-bytes .kept .0, i .if1 .left) in
+    attrs-stand-ready (a .text .now) _ (length (a .nodes .now)) (length (a .attrs .now)) _ _
+    (omega (arith, h, b .clear-bytes .kept .0, x .read-nodes .kept)) e _ (t .read-tree .ensures .1 .1)
 
 same-length-4 : tie.Need-same-length-4
 same-length-4 c = search needs
@@ -68,11 +81,16 @@ same-length-6 c = search needs
 
 returns-2 : tie.Need-returns-2
 returns-2 c =
-    let a = c .before .before .before .before .before .before .before .before .before .before .before .before .before .before .before .before .before .before .before .args in
-    let r = c .before .before .before .before .before .before .before .read-tree .ensures in
-    let e = sym (c .before .r .given .1) ∙ r .0 in
-    let b : 65536 ≤ length (a .strings .now) = omega (arith, c .before .before .before .before .before .before .before .before .before .before .before .before .before .clear-bytes .kept .0, c .before .before .before .before .before .before .before .before .before .before .if1 .left) in
-    left-refused (a .text .now) (length (a .nodes .now)) (length (a .attrs .now)) (length (a .strings .now)) _ _ _ _ b e (r .1 .0) (r .1 .1) (c .before .before .before .before .before .before .before .before .before .before .before .before .before .clear-bytes .ensures)
+    let r = c .before in
+    let t = r .before .before .before .before .before .before in
+    let i = t .before .before .before in
+    let b = i .before .before .before in
+    let d = b .before .before .before .before .before .before in
+    let a = d .args in
+    let e = sym (r .r .given .1) ∙ t .read-tree .ensures .0 in
+    let h : 65536 ≤ length (a .strings .now) = omega (arith, b .clear-bytes .kept .0, i .if1 .left) in
+    left-refused (a .text .now) (length (a .nodes .now)) (length (a .attrs .now)) (length (a .strings .now)) _ _ _ _ h e
+    (t .read-tree .ensures .1 .0) (t .read-tree .ensures .1 .1) (b .clear-bytes .ensures)
 
 same-length-7 : tie.Need-same-length-7
 same-length-7 c = search needs
@@ -85,13 +103,20 @@ same-length-9 c = search needs
 
 returns-3 : tie.Need-returns-3
 returns-3 c =
-    let a = c .before .before .before .before .before .before .before .before .before .before .before .before .before .before .before .before .before .before .before .before .before .before .before .before .before .before .before .before .before .before .before .before .before .args in
-    let r = c .before .before .before .before .before .before .before .before .before .before .before .before .before .before .before .before .before .before .before .before .before .read-tree .ensures in
-    let e = sym (c .before .before .before .before .before .before .before .before .before .before .before .before .before .before .before .n .given .1) ∙ r .0 in
-    let b : 65536 ≤ length (a .strings .now) = omega (arith, c .before .before .before .before .before .before .before .before .before .before .before .before .before .before .before .before .before .before .before .before .before .before .before .before .before .before .before .clear-bytes .kept .0, c .before .before .before .before .before .before .before .before .before .before .before .before .before .before .before .before .before .before .before .before .before .before .before .before .if1 .left) in
-    let x = c .before .before .before .before .before .before .before .before .before .before .before .read-nodes .ensures in
-    let y = c .before .before .before .before .read-attrs .ensures in
-    left-tree (a .text .now) (length (a .nodes .now)) (length (a .attrs .now)) (length (a .strings .now)) _ _ _ _ _ _ _ _ _ b e (r .1 .0) (r .1 .1) (c .before .before .before .before .before .before .before .before .before .before .before .before .before .before .before .before .before .before .before .before .before .before .before .before .before .before .before .clear-bytes .ensures) (x .0) (x .1) (y .0) (y .1)
+    let y = c .before .before .before .before in
+    let x = y .before .before .before .before .before .before .before in
+    let n = x .before .before .before .before in
+    let t = n .before .before .before .before .before .before in
+    let i = t .before .before .before in
+    let b = i .before .before .before in
+    let d = b .before .before .before .before .before .before in
+    let a = d .args in
+    let e = sym (n .n .given .1) ∙ t .read-tree .ensures .0 in
+    let h : 65536 ≤ length (a .strings .now) = omega (arith, b .clear-bytes .kept .0, i .if1 .left) in
+    let v = x .read-nodes .ensures in
+    let w = y .read-attrs .ensures in
+    left-tree (a .text .now) (length (a .nodes .now)) (length (a .attrs .now)) (length (a .strings .now)) _ _ _ _ _ _ _ _ _ h e
+    (t .read-tree .ensures .1 .0) (t .read-tree .ensures .1 .1) (b .clear-bytes .ensures) (v .0) (v .1) (w .0) (w .1)
 
 pub parse-xml-spec : {M : Type 1} → statement M
 parse-xml-spec =

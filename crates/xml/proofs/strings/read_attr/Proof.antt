@@ -67,11 +67,12 @@ sub-put c = search needs
 
 put-requires : tie.Need-put-requires
 put-requires c κs =
-    let d = c .before .before .before .before .before .before .before .before .before .before .before .before .before .before .before .before .before .before .before .before .before .before in
-    let r = c .before .before .before .decode-entities .ensures in
-    let g = c .before .before .before .before .before .before .before .before .get3 .ensures in
-    let h = c .before .before .before .before .before .before .get4 .ensures in
-    (omega (arith, d .pre), omega (arith, d .pre, value-long _ (d .args .attrs .now) (d .args .k) _ _ _ g h (r .next), value-short (d .args .src .now) (d .args .attrs .now) (d .args .k)))
+    let r = c .before .before .before in
+    let h = r .before .before .before in
+    let g = h .before .before in
+    let d = g .before .before .before .before .before .before .before .before .before .before .before .before .before .before in
+    let e = value-long _ (d .args .attrs .now) (d .args .k) _ _ _ (g .get3 .ensures) (h .get4 .ensures) (r .decode-entities .ensures .next) in
+    (omega (arith, d .pre), omega (arith, d .pre, e, value-short (d .args .src .now) (d .args .attrs .now) (d .args .k)))
 
 same-length : tie.Need-same-length
 same-length c = search needs
@@ -81,11 +82,17 @@ same-length-2 c = search needs
 
 returns : tie.Need-returns
 returns c =
-    let d = c .before .before .before .before .before .before .before .before .before .before .before .before .before .before .before .before .before .before .before .before .before .before .before .before .before in
-    let r = c .before .before .before .before .before .before .decode-entities .ensures in
-    let g = c .before .before .before .before .before .before .before .before .before .before .before .get3 .ensures in
-    let h = c .before .before .before .before .before .before .before .before .before .get4 .ensures in
-    (rw (value-long (d .args .src .now) (d .args .attrs .now) (d .args .k) _ _ _ g h (r .next)) at (c .before .before .put .ensures), attr-wrote _ _ _ _ _ _ _ _ _ _ (c .before .before .before .before .before .before .before .before .before .before .before .before .before .before .before .before .before .before .before .before .get .ensures) (c .before .before .before .before .before .before .before .before .before .before .before .before .before .before .before .before .before .before .get2 .ensures) g h (c .before .before .before .before .before .before .before .before .before .before .before .before .before .before .before .copy .ensures .laid) (r .laid))
+    let p = c .before .before in
+    let r = p .before .before .before .before in
+    let h = r .before .before .before in
+    let g = h .before .before in
+    let y = g .before .before .before .before in
+    let m = y .before .before .before in
+    let n = m .before .before in
+    let d = n .before .before .before .before .before in
+    let w = r .decode-entities .ensures in
+    let e = value-long (d .args .src .now) (d .args .attrs .now) (d .args .k) _ _ _ (g .get3 .ensures) (h .get4 .ensures) (w .next) in
+    (rw e at (p .put .ensures), attr-wrote _ _ _ _ _ _ _ _ _ _ (n .get .ensures) (m .get2 .ensures) (g .get3 .ensures) (h .get4 .ensures) (y .copy .ensures .laid) (w .laid))
 
 pub read-attr-spec : {M : Type 1} → statement M
 read-attr-spec =

@@ -20,7 +20,10 @@ unfolding attrsRead attrStringsRead
 loop-holds c = (omega arith, refl, refl)
 
 read-attr-requires : tie.Need-read-attr-requires Inv-loop μ-loop
-read-attr-requires c κs = attrs-ready _ _ _ _ _ _ (c .before .before .before .loop .inv .1) (c .before .before .before .loop .inv .2) (c .before .before .before .before .before .before .before .pre _ (c .before .before .loop-test .taken))
+read-attr-requires c κs =
+    let l = c .before .before .before in
+    let d = l .before .before .before .before in
+    attrs-ready _ _ _ _ _ _ (l .loop .inv .1) (l .loop .inv .2) (d .pre _ (c .before .before .loop-test .taken))
 
 add-k : tie.Need-add-k Inv-loop μ-loop
 add-k c = search needs

@@ -41,10 +41,14 @@ get-requires-2 c κs = search needs
 
 -- where the string begins
 abbrev Joined1 : Type 0
-Joined1 = lts.Joined1 (get-reads.Asked, get-reads.Learnt, decode-entities-reads.Asked, decode-entities-reads.Learnt, copy-reads.Asked, copy-reads.Learnt, put-reads.Asked, put-reads.Learnt) reads.Pre reads.Post
+Joined1 =
+    lts.Joined1 (get-reads.Asked, get-reads.Learnt, decode-entities-reads.Asked, decode-entities-reads.Learnt, copy-reads.Asked, copy-reads.Learnt, put-reads.Asked, put-reads.Learnt)
+    reads.Pre reads.Post
 
-start-is : (c : Joined1) → c .if1 .start ≡ nodePlace (c .before .before .before .before .before .before .before .before .before .args .nodes .now) (c .before .before .before .before .before .before .before .before .before .args .k)
-start-is c = ⊎-elim (λ w. place-element _ _ _ _ (w .0 .taken) (c .before .before .before .get .ensures) (w .1)) (λ w. place-other _ _ _ _ (w .0 .left) (c .before .before .before .get .ensures) (w .1)) (c .if1 .came)
+start-is : (c : Joined1) → let d = c .before .before .before .before .before .before .before .before .before in c .if1 .start ≡ nodePlace (d .args .nodes .now) (d .args .k)
+start-is c =
+    let e = c .before .before .before .get .ensures in
+    ⊎-elim (λ w. place-element _ _ _ _ (w .0 .taken) e (w .1)) (λ w. place-other _ _ _ _ (w .0 .left) e (w .1)) (c .if1 .came)
 
 add-start : tie.Need-add-start
 add-start c =
@@ -82,12 +86,18 @@ copy-requires c κs = let w = start-is (c .before .before .before .before) in si
 
 -- what is written
 abbrev Joined2 : Type 0
-Joined2 = lts.Joined2 (get-reads.Asked, get-reads.Learnt, decode-entities-reads.Asked, decode-entities-reads.Learnt, copy-reads.Asked, copy-reads.Learnt, put-reads.Asked, put-reads.Learnt) reads.Pre reads.Post
+Joined2 =
+    lts.Joined2 (get-reads.Asked, get-reads.Learnt, decode-entities-reads.Asked, decode-entities-reads.Learnt, copy-reads.Asked, copy-reads.Learnt, put-reads.Asked, put-reads.Learnt)
+    reads.Pre reads.Post
 
-laid-is : (c : Joined2) → Appended (nodeBytes (c .before .before .before .before .before .before .before .before .before .before .before .args .src .now) (c .before .before .before .before .before .before .before .before .before .before .before .args .nodes .now) (c .before .before .before .before .before .before .before .before .before .before .before .args .k)) (nodePlace (c .before .before .before .before .before .before .before .before .before .before .before .args .nodes .now) (c .before .before .before .before .before .before .before .before .before .before .before .args .k)) (c .before .before .before .before .before .before .before .before .before .before .before .args .strings .now) (c .if2 .strings) (c .if2 .end)
+laid-is : (c : Joined2)
+    → let a = c .before .before .before .before .before .before .before .before .before .before .before .args in
+    Appended (nodeBytes (a .src .now) (a .nodes .now) (a .k)) (nodePlace (a .nodes .now) (a .k)) (a .strings .now) (c .if2 .strings) (c .if2 .end)
 laid-is c =
-    ⊎-elim (λ w. rw (w .6, w .7) (wrote-text _ _ _ _ _ _ _ _ (start-is (c .before .before)) (c .before .before .before .get2 .ensures) (w .0 .taken) (w .3 .ensures)))
-    (λ w. rw (w .6, w .7) (wrote-other _ _ _ _ _ _ _ _ (start-is (c .before .before)) (c .before .before .before .get2 .ensures) (w .0 .left) (w .3 .ensures))) (c .if2 .came)
+    let p = start-is (c .before .before) in
+    let n = c .before .before .before .get2 .ensures in
+    ⊎-elim (λ w. rw (w .6, w .7) (wrote-text _ _ _ _ _ _ _ _ p n (w .0 .taken) (w .3 .ensures)))
+    (λ w. rw (w .6, w .7) (wrote-other _ _ _ _ _ _ _ _ p n (w .0 .left) (w .3 .ensures))) (c .if2 .came)
 
 add-put : tie.Need-add-put
 add-put c = search needs
@@ -108,10 +118,11 @@ same-length-2 c = ap length (laid-is (c .before .before .before .before .before)
 
 returns : tie.Need-returns
 returns c =
-    let d = c .before .before .before .before .before .before .before .before .before .before .before .before .before .before .before .before in
-    let l = laid-is (c .before .before .before .before .before) in
-    let e : c .before .before .before .before .before .if2 .end - c .before .before .before .before .before .before .before .if1 .start ≡ length (nodeBytes (d .args .src .now) (d .args .nodes .now) (d .args .k))
-    = omega (arith, start-is (c .before .before .before .before .before .before .before), l .next) in
+    let j = c .before .before .before .before .before in
+    let i = j .before .before in
+    let a = i .before .before .before .before .before .before .before .before .before .args in
+    let l = laid-is j in
+    let e : j .if2 .end - i .if1 .start ≡ length (nodeBytes (a .src .now) (a .nodes .now) (a .k)) = omega (arith, start-is i, l .next) in
     (rw e at (c .before .before .put .ensures), l .laid)
 
 pub read-node-spec : {M : Type 1} → statement M

@@ -20,7 +20,10 @@ unfolding nodesRead nodeStringsRead
 loop-holds c = (omega arith, refl, refl)
 
 read-node-requires : tie.Need-read-node-requires Inv-loop μ-loop
-read-node-requires c κs = nodes-ready _ _ _ _ _ _ (c .before .before .before .loop .inv .1) (c .before .before .before .loop .inv .2) (c .before .before .before .before .before .before .before .pre _ (c .before .before .loop-test .taken))
+read-node-requires c κs =
+    let l = c .before .before .before in
+    let d = l .before .before .before .before in
+    nodes-ready _ _ _ _ _ _ (l .loop .inv .1) (l .loop .inv .2) (d .pre _ (c .before .before .loop-test .taken))
 
 add-k : tie.Need-add-k Inv-loop μ-loop
 add-k c = search needs
