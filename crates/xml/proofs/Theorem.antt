@@ -1,6 +1,5 @@
 -- The theorem of the crate: of every text within the limits 1 to 3, what `parse_xml` leaves shows the tree that the grammar derives, with its
 -- entities read; or it refuses with the first number that the text meets. Assumes nothing.
---     Room                           the text and the three tables meet none of the numbers 1 to 3
 --     parsed, parsed-is              what the tables show is what the grammar's reader answers
 --     takes-exactly, gives-that-tree, refuses-exactly   the demand
 --     small-strings, small-nodes, small-attrs, too-long, not-utf8   the numbers 1 to 3, in this order
@@ -34,13 +33,8 @@ use Rattle.xml.specs.Reading.{raw, readOut, stringsOf}
 use Rattle.xml.proofs.Parsing.{raw-small, raw-enough}
 use Rattle.xml.proofs.Shown.{tree-shown}
 
--- the text s and tables of n, m and z cells meet none of the numbers 1 to 3
-pub record Room (s : List ℕ) (n m z : ℕ) : Type 0 where
-  pub fits : Fits s n m
-  pub enough : 65536 ≤ z
-
 -- what the table of strings and the placed forest show: a tree, or a number and its place
-unfoldable pub parsed : List ℕ → ℕ → ℕ → ℕ → Result
+abbrev pub parsed : List ℕ → ℕ → ℕ → ℕ → Result
 parsed s n m z = resultIn (stringsOf z s (raw s n m z)) (readOut s (raw s n m z))
 
 -- the same, of a reader's answer
@@ -89,33 +83,33 @@ tree-of w (nothing q) g e = cc
 tree-of w (bad n p) g e = let d : _≡_ {A = ℕ} 0 1 = cc in absurd (omega arith)
 
 module _ (s : List ℕ) (n m z : ℕ) where
-  pub parsed-is : Room s n m z → parsed s n m z ≡ treeReader decoded s
-  unfolding parsed treeReader
-  parsed-is h =
-      rw (raw-enough s n m z (h .enough)) (shows s z (omega (arith, h .fits .short, h .enough)) (meaning s n m) (λ f q k a. meaning-placed s n m f q k a)
-      ∙ ap (decodeResult decoded) (agree s n m (h .fits)))
+  -- ---- within the limits 1 to 3
+  module _ (fits : Fits s n m) (enough : 65536 ≤ z) where
+    pub parsed-is : parsed s n m z ≡ treeReader decoded s
+    unfolding treeReader
+    parsed-is =
+        rw (raw-enough s n m z enough)
+        (shows s z (omega (arith, fits .short)) (meaning s n m) (λ f q k a. meaning-placed s n m f q k a) ∙ ap (decodeResult decoded) (agree s n m fits))
 
-  -- it is taken exactly when the grammar derives a tree for it within the limits
-  pub takes-exactly : Room s n m z → ((g : Forest) × (parsed s n m z ≡ tree g)) ↔ ((f : Forest) × Derives s f)
-  takes-exactly h =
-      let e = parsed-is h in
-      let t = grammar.takes-exactly decoded s in
-      ((λ x. t .0 (x .0, sym e ∙ x .1)), (λ x. let y = t .1 x in (y .0, e ∙ y .1)))
+    -- it is taken exactly when the grammar derives a tree for it within the limits
+    pub takes-exactly : ((g : Forest) × (parsed s n m z ≡ tree g)) ↔ ((f : Forest) × Derives s f)
+    takes-exactly =
+        let t = grammar.takes-exactly decoded s in
+        ((λ x. t .0 (x .0, sym parsed-is ∙ x .1)), (λ x. let y = t .1 x in (y .0, parsed-is ∙ y .1)))
 
-  -- the tree given is that tree with its entities read
-  pub gives-that-tree : Room s n m z → (f g : Forest) → Derives s f → parsed s n m z ≡ tree g → g ≡ decodeForest decoded f
-  gives-that-tree h f g d e = grammar.gives-that-tree decoded s f g d (sym (parsed-is h) ∙ e)
+    -- the tree given is that tree with its entities read
+    pub gives-that-tree : (f g : Forest) → Derives s f → parsed s n m z ≡ tree g → g ≡ decodeForest decoded f
+    gives-that-tree f g d e = grammar.gives-that-tree decoded s f g d (sym parsed-is ∙ e)
 
-  -- the number answered is the first that is met
-  pub refuses-exactly : Room s n m z → (i p : ℕ) → (parsed s n m z ≡ refused i p) ↔ FirstMet 64 8192 8192 s i p
-  refuses-exactly h i p =
-      let e = parsed-is h in
-      let r = grammar.refuses-exactly decoded s i p (h .fits .short) in
-      ((λ x. r .0 (sym e ∙ x)), (λ x. e ∙ r .1 x))
+    -- the number answered is the first that is met
+    pub refuses-exactly : (i p : ℕ) → (parsed s n m z ≡ refused i p) ↔ FirstMet 64 8192 8192 s i p
+    refuses-exactly i p =
+        let r = grammar.refuses-exactly decoded s i p (fits .short) in
+        ((λ x. r .0 (sym parsed-is ∙ x)), (λ x. parsed-is ∙ r .1 x))
 
   -- ---- numbers 1 to 3
   turned-away : (i p : ℕ) → raw s n m z ≡ bad i p → parsed s n m z ≡ refused i p
-  unfolding parsed resultIn readOut
+  unfolding resultIn readOut
   turned-away i p e = rw e
 
   pub small-strings : z < 65536 → parsed s n m z ≡ refused 1 0
@@ -136,13 +130,10 @@ module _ (s : List ℕ) (n m z : ℕ) where
 
   -- ---- the answer
   pub answers-tree : ((i : ℕ) × (j : ℕ) × (answerOf (raw s n m z) ≡ Tree i j)) ↔ ((g : Forest) × (parsed s n m z ≡ tree g))
-  unfolding parsed
   answers-tree = ((λ x. there s z (raw s n m z) (x .0) (x .1) (x .2)), (λ x. back s z (raw s n m z) (x .0) (x .1)))
 
   pub answers-refused : (i p : ℕ) → (answerOf (raw s n m z) ≡ Refused (record { number = i; place = p })) ↔ (parsed s n m z ≡ refused i p)
-  unfolding parsed
   answers-refused i p = (refused-there s z (raw s n m z) i p, refused-back s z (raw s n m z) i p)
 
   pub left-shows : (w : List ℕ) (g : Forest) → w ≡ stringsOf z s (raw s n m z) → parsed s n m z ≡ tree g → treeIn w (treeOf (readOut s (raw s n m z))) ≡ g
-  unfolding parsed
   left-shows w g e x = rw e (tree-of (stringsOf z s (raw s n m z)) (readOut s (raw s n m z)) g x)
