@@ -38,7 +38,7 @@ module _ (t z name : List ℕ) (k b : ℕ) where
   later : (g : Forest) → Stands t k b g → 0 < size g → Later t z name k g
   unfolding size findRow
   later nil s h = absurd (omega arith)
-  later (text p n g) s h = 
+  later (text p n g) s h =
       let r : RowIs t k 1 (k + 1) p n 0 0 × Stands t (k + 1) b g = on-text t k b p n g s in
       let e : getD t (k * 6 + 1) 0 ≡ k + 1 = r .0 .end-is in
       record {
@@ -51,7 +51,7 @@ module _ (t z name : List ℕ) (k b : ℕ) where
         here = λ w. absurd (true≢false (sym w ∙ is-element-text z name s));
         passed = λ w. rw e;
       }
-  later (section p n g) s h = 
+  later (section p n g) s h =
       let r : RowIs t k 3 (k + 1) p n 0 0 × Stands t (k + 1) b g = on-section t k b p n g s in
       let e : getD t (k * 6 + 1) 0 ≡ k + 1 = r .0 .end-is in
       record {
@@ -64,7 +64,7 @@ module _ (t z name : List ℕ) (k b : ℕ) where
         here = λ w. absurd (true≢false (sym w ∙ is-element-section z name s));
         passed = λ w. rw e;
       }
-  later (elem p n l c g) s h = 
+  later (elem p n l c g) s h =
       let r : RowIs t k 2 (k + 1 + size c) p n b (length l) × Stands t (k + 1) (b + length l) c × Stands t (k + 1 + size c) (b + length l + length (attrsOf c)) g = on-elem t k b p n l c g s in
       let e : getD t (k * 6 + 1) 0 ≡ k + 1 + size c = r .0 .end-is in
       let j : isElement t z name k ≡ named name (stringAt z (p + 1) n) = is-element-elem z name s in
@@ -129,13 +129,17 @@ drop-take (suc r) zero l h = absurd (omega arith)
 drop-take (suc r) (suc m) [] h = sym (take-nil (suc m - suc r))
 drop-take (suc r) (suc m) (x ∷ l) h = let z : suc m - suc r ≡ m - r = omega arith in rw z (drop-take r m l (omega arith))
 
--- the bytes that `is_element` compares, where the local part of the name of n bytes at p starts at r
-pub local-part : (z : List ℕ) (p n r : ℕ) (w : List ℕ) → PartFrom (stringAt z p n) r w → take (p + n - (p + r)) (drop (p + r) z) ≡ w
-unfolding stringAt
-local-part z p n r w x =
-    let h : r ≤ p + n - p = omega (arith, x .within, length-take (p + n - p) (drop p z)) in
-    let v : p + n - p - r ≡ p + n - (p + r) = omega arith in
-    sym (rw (← (drop-drop r p z), ← v) (drop-take r (p + n - p) (drop p z) h)) ∙ x .is
+-- the local part of the name of n bytes at p starts at r: it is within the name, and what `is_element` compares
+module _ (z : List ℕ) (p n r : ℕ) (w : List ℕ) (x : PartFrom (stringAt z p n) r w) where
+  pub local-within : r ≤ n
+  unfolding stringAt
+  local-within = omega (arith, x .within, length-take (p + n - p) (drop p z))
+
+  pub local-part : take (p + n - (p + r)) (drop (p + r) z) ≡ w
+  unfolding stringAt
+  local-part =
+      let v : p + n - p - r ≡ p + n - (p + r) = omega arith in
+      sym (rw (← (drop-drop r p z), ← v) (drop-take r (p + n - p) (drop p z) (omega (arith, local-within)))) ∙ x .is
 
 -- ---- attributes
 -- the first of n attributes from row k on
@@ -168,3 +172,33 @@ pub record RestAttrs (u z name : List ℕ) (k e : ℕ) (l : List Attr) : Type 0 
   pub attrs : List Attr
   pub owned : Owned u z k (e - k) attrs
   pub is : findValue z name l ≡ findValue z name attrs
+
+pub attrs-start : {u z name : List ℕ} {i n : ℕ} {l : List Attr} → Owned u z i n l → RestAttrs u z name i (i + n) l
+attrs-start {n = n} {l = l} y = record { attrs = l; owned = record { listed = y .listed; count = omega (arith, y .count); within = y .within }; is = refl }
+
+-- the end of the attributes is a place too
+pub end-fits : (u z : List ℕ) (k n hi : ℕ) (l : List Attr) → Owned u z k n l → k < hi → length u < hi → k + n < hi
+end-fits u z k n hi [] y h w = omega (arith, y .count)
+end-fits u z k n hi (x ∷ l) y h w = omega (arith, y .count, first-of u z [] k n (x ∷ l) y (omega (arith, y .count)) .room)
+
+module _ {u z name : List ℕ} {k e : ℕ} {l : List Attr} (x : RestAttrs u z name k e l) where
+  pub attrs-first : k < e → FirstOf u z name k (e - k) (x .attrs)
+  attrs-first h = first-of u z name k (e - k) (x .attrs) (x .owned) (omega arith)
+
+  pub attrs-here : k < e → sameFolded (stringAt z (getD u (k * 4) 0) (getD u (k * 4 + 1) 0)) name ≡ true
+      → At (record { place = getD u (k * 4 + 2) 0; len = getD u (k * 4 + 3) 0 }) ≡ findValue z name l
+  attrs-here h w = sym (x .is ∙ attrs-first h .here w)
+
+  pub attrs-next : k < e → sameFolded (stringAt z (getD u (k * 4) 0) (getD u (k * 4 + 1) 0)) name ≡ false → RestAttrs u z name (k + 1) e l
+  attrs-next h w =
+      let y : FirstOf u z name k (e - k) (x .attrs) = attrs-first h in
+      let v : e - k - 1 ≡ e - (k + 1) = omega arith in
+      record { attrs = y .others; owned = rw v at (y .owned); is = x .is ∙ y .passed w }
+
+  pub attrs-out : e ≤ k → Absent ≡ findValue z name l
+  unfolding findValue
+  attrs-out h = by (x .attrs) (x .is) (omega (arith, x .owned .count))
+    where
+      by : (g : List Attr) → findValue z name l ≡ findValue z name g → length g ≡ 0 → Absent ≡ findValue z name l
+      by [] w j = sym w
+      by (y ∷ g) w j = absurd (omega arith)

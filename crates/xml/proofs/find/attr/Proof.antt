@@ -1,71 +1,61 @@
+-- `attr` meets its contract. The loop's invariant: the search of the attributes goes on with those from k on. The measure is what is left of them.
+use Prim.Native.Nat.{_-_}
+use mathlib.Core.Path.{sym, _∙_}
+use mathlib.Core.List.{List}
+use native.Mathlib.Omega.{arith}
+use Rattle.tree.specs.Trees.{Attr}
+use Rattle.xml.specs.Find.{Owned}
+use Rattle.xml.proofs.FindSteps.{RestAttrs, attrs-start, end-fits, attrs-first, attrs-here, attrs-next, attrs-out}
 use Rattle.xml.proofs.find.attr.Statement.{statement}
 use Rattle.xml.proofs.find.attr.Tie as tie
-use Rattle.xml.proofs.find.attr.Reads as reads
-use Rattle.xml.proofs.find.attr.Lts as lts
-use Rattle.scan.proofs.get.Reads as get-reads
-use Rattle.xml.proofs.find.is_attr.Reads as is-attr-reads
 
 abbrev Inv-loop : tie.InvT-loop
-Inv-loop attrs strings first many name end k₀ k = ?
+Inv-loop attrs strings first many name end k₀ k = (l : List Attr) → Owned attrs strings first many l → RestAttrs attrs strings name k end l
 
 abbrev μ-loop : tie.MeasureT-loop
-μ-loop attrs strings first many name end k₀ k = ?
+μ-loop attrs strings first many name end k₀ k = end - k
 
--- src/find.rt:101:15
 add-end : tie.Need-add-end Inv-loop μ-loop
-add-end c = ?
+add-end c = record { fits = end-fits (c .before .before .before .args .attrs .now) (c .before .before .before .args .strings .now) (c .before .before .before .args .first) (c .before .before .before .args .many) _ (c .before .before .before .pre .0) (c .before .before .before .pre .1) (omega arith) (omega arith) }
 
--- src/find.rt:103:5
 loop-holds : tie.Need-loop-holds Inv-loop μ-loop
-loop-holds c = ?
+loop-holds c = λ l y. attrs-start y
 
--- src/find.rt:104:12
 is-attr-requires : tie.Need-is-attr-requires Inv-loop μ-loop
-is-attr-requires c κs = ?
+is-attr-requires c κs = (omega (arith, attrs-first (c .before .loop .inv (c .before .before .before .before .before .pre .0) (c .before .before .before .before .before .pre .1)) (c .loop-test .taken) .room), attrs-first (c .before .loop .inv (c .before .before .before .before .before .pre .0) (c .before .before .before .before .before .pre .1)) (c .loop-test .taken) .fits)
 
--- src/find.rt:106:41
 mul-get : tie.Need-mul-get Inv-loop μ-loop
-mul-get c = ?
+mul-get c = omega (arith, attrs-first (c .before .before .before .loop .inv (c .before .before .before .before .before .before .before .pre .0) (c .before .before .before .before .before .before .before .pre .1)) (c .before .before .loop-test .taken) .room)
 
--- src/find.rt:106:41
 add-get : tie.Need-add-get Inv-loop μ-loop
-add-get c = ?
+add-get c = omega (arith, attrs-first (c .before .before .before .loop .inv (c .before .before .before .before .before .before .before .pre .0) (c .before .before .before .before .before .before .before .pre .1)) (c .before .before .loop-test .taken) .room)
 
--- src/find.rt:106:24
 get-requires : tie.Need-get-requires Inv-loop μ-loop
-get-requires c κs = ?
+get-requires c κs = omega (arith, attrs-first (c .before .before .before .loop .inv (c .before .before .before .before .before .before .before .pre .0) (c .before .before .before .before .before .before .before .pre .1)) (c .before .before .loop-test .taken) .room)
 
--- src/find.rt:107:39
 mul-get-2 : tie.Need-mul-get-2 Inv-loop μ-loop
-mul-get-2 c = ?
+mul-get-2 c = omega (arith, attrs-first (c .before .before .before .before .loop .inv (c .before .before .before .before .before .before .before .before .pre .0) (c .before .before .before .before .before .before .before .before .pre .1)) (c .before .before .before .loop-test .taken) .room)
 
--- src/find.rt:107:39
 add-get-2 : tie.Need-add-get-2 Inv-loop μ-loop
-add-get-2 c = ?
+add-get-2 c = omega (arith, attrs-first (c .before .before .before .before .loop .inv (c .before .before .before .before .before .before .before .before .pre .0) (c .before .before .before .before .before .before .before .before .pre .1)) (c .before .before .before .loop-test .taken) .room)
 
--- src/find.rt:107:22
 get-requires-2 : tie.Need-get-requires-2 Inv-loop μ-loop
-get-requires-2 c κs = ?
+get-requires-2 c κs = omega (arith, attrs-first (c .before .before .before .before .loop .inv (c .before .before .before .before .before .before .before .before .pre .0) (c .before .before .before .before .before .before .before .before .pre .1)) (c .before .before .before .loop-test .taken) .room)
 
--- src/find.rt:105:13
 returns : tie.Need-returns Inv-loop μ-loop
-returns c = ?
+returns c = λ l y. rw (c .before .get .ensures, c .get2 .ensures) (attrs-here (c .before .before .before .before .before .loop .inv l y) (c .before .before .before .before .loop-test .taken) (sym (c .before .before .before .is-attr .ensures) ∙ c .before .before .if1 .taken))
 
--- src/find.rt:110:9
 add-k : tie.Need-add-k Inv-loop μ-loop
-add-k c = ?
+add-k c = omega (arith, attrs-first (c .before .before .before .loop .inv (c .before .before .before .before .before .before .before .pre .0) (c .before .before .before .before .before .before .before .pre .1)) (c .before .before .loop-test .taken) .room)
 
--- src/find.rt:103:5
 loop-less : tie.Need-loop-less Inv-loop μ-loop
-loop-less c = ?
+loop-less c = omega arith
 
--- src/find.rt:103:5
 loop-again : tie.Need-loop-again Inv-loop μ-loop
-loop-again c = ?
+loop-again c = λ l y. attrs-next (c .before .before .before .loop .inv l y) (c .before .before .loop-test .taken) (sym (c .before .is-attr .ensures) ∙ c .if1 .left)
 
--- src/find.rt:97:1
 returns-2 : tie.Need-returns-2 Inv-loop μ-loop
-returns-2 c = ?
+returns-2 c = λ l y. attrs-out (c .before .loop .inv l y) (c .loop-test .left)
 
 pub attr-spec : {M : Type 1} → statement M
 attr-spec =

@@ -1,51 +1,48 @@
+-- `find_element` meets its contract. The loop's invariant: rows k up to the end are siblings, and the search of any forest that stands there goes on
+-- with the siblings from k on. The measure is what is left of the rows.
+use Prim.Native.Nat.{ℕ, _+_, _-_}
+use mathlib.Core.Path.{_≡_, refl, sym, _∙_}
+use native.Mathlib.Omega.{arith}
+use Rattle.tree.specs.Trees.{Forest, size}
+use Rattle.tree.specs.Walks.{Stands}
+use Rattle.xml.specs.Find.{Siblings}
+use Rattle.xml.proofs.FindLaws.{has-row}
+use Rattle.xml.proofs.FindSteps.{Rest, rest-here, rest-next, rest-out, onward}
 use Rattle.xml.proofs.find.find_element.Statement.{statement}
 use Rattle.xml.proofs.find.find_element.Tie as tie
-use Rattle.xml.proofs.find.find_element.Reads as reads
-use Rattle.xml.proofs.find.find_element.Lts as lts
-use Rattle.scan.proofs.get.Reads as get-reads
-use Rattle.xml.proofs.find.is_element.Reads as is-element-reads
 
 abbrev Inv-loop : tie.InvT-loop
-Inv-loop nodes strings from end name k₀ k = ?
+Inv-loop nodes strings from end name k₀ k = Siblings nodes strings k end × ((a : ℕ) (f : Forest) → Stands nodes from a f → from + size f ≡ end → Rest nodes strings name from k end f)
 
 abbrev μ-loop : tie.MeasureT-loop
-μ-loop nodes strings from end name k₀ k = ?
+μ-loop nodes strings from end name k₀ k = end - k
 
--- src/find.rt:77:5
 loop-holds : tie.Need-loop-holds Inv-loop μ-loop
-loop-holds c = ?
+loop-holds c = (c .before .before .before .pre, λ a f s e. record { first = a; forest = f; stands = s; end = e; is = refl })
 
--- src/find.rt:78:12
 is-element-requires : tie.Need-is-element-requires Inv-loop μ-loop
-is-element-requires c κs = ?
+is-element-requires c κs = has-row (c .before .loop .inv .0) (c .loop-test .taken)
 
--- src/find.rt:79:13
 returns : tie.Need-returns Inv-loop μ-loop
-returns c = ?
+returns c = λ a f s e. rest-here (c .before .before .before .loop .inv .1 a f s e) (c .before .before .loop-test .taken) (sym (c .before .is-element .ensures) ∙ c .if1 .taken)
 
--- src/find.rt:81:30
 mul-get : tie.Need-mul-get Inv-loop μ-loop
-mul-get c = ?
+mul-get c = omega (arith, has-row (c .before .before .before .loop .inv .0) (c .before .before .loop-test .taken) .row)
 
--- src/find.rt:81:30
 add-get : tie.Need-add-get Inv-loop μ-loop
-add-get c = ?
+add-get c = omega (arith, has-row (c .before .before .before .loop .inv .0) (c .before .before .loop-test .taken) .row)
 
--- src/find.rt:81:9
 get-requires : tie.Need-get-requires Inv-loop μ-loop
-get-requires c κs = ?
+get-requires c κs = omega (arith, has-row (c .before .before .before .loop .inv .0) (c .before .before .loop-test .taken) .row)
 
--- src/find.rt:77:5
 loop-less : tie.Need-loop-less Inv-loop μ-loop
-loop-less c = ?
+loop-less c = omega (arith, c .get .ensures, onward (c .before .before .before .before .loop .inv .0) (c .before .before .before .loop-test .taken) .after, onward (c .before .before .before .before .loop .inv .0) (c .before .before .before .loop-test .taken) .within)
 
--- src/find.rt:77:5
 loop-again : tie.Need-loop-again Inv-loop μ-loop
-loop-again c = ?
+loop-again c = rw (c .get .ensures) (onward (c .before .before .before .before .loop .inv .0) (c .before .before .before .loop-test .taken) .siblings, λ a f s e. rest-next (c .before .before .before .before .loop .inv .1 a f s e) (c .before .before .before .loop-test .taken) (sym (c .before .before .is-element .ensures) ∙ c .before .if1 .left))
 
--- src/find.rt:72:1
 returns-2 : tie.Need-returns-2 Inv-loop μ-loop
-returns-2 c = ?
+returns-2 c = λ a f s e. rest-out (c .before .loop .inv .1 a f s e) (c .loop-test .left)
 
 pub find-element-spec : {M : Type 1} → statement M
 find-element-spec =
