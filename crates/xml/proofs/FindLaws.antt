@@ -4,9 +4,9 @@
 --     is-element-text, is-element-section, is-element-elem   what `isElement` says of a row
 --     find-nothing, find-found                        what `findRow` says of the tree
 --     value-shown, value-absent, absent-value, value-at      what `findValue` says of the attributes
-use Prim.Native.Nat.{ℕ, _+_, _*_, _≤_, _<_}
+use Prim.Native.Nat.{ℕ, _+_, _≤_, _<_}
 use mathlib.Core.Path.{_≡_, refl, sym, ap, _∙_}
-use mathlib.Core.Bool.{Bool, true, false, cond}
+use mathlib.Core.Bool.{true, false}
 use mathlib.Core.List.{List, [], _∷_, _++_, append-assoc}
 use native.Mathlib.Omega.{arith}
 use lib.ListN.{length}
@@ -18,12 +18,12 @@ use Rattle.tree.proofs.Tags.{attrRows-append}
 use Rattle.tree.proofs.Places.{in-whole, in-first, in-rest}
 use Rattle.tree.proofs.Walks.{on-text, on-section, on-elem, on-attrs, room, placed-text, placed-section, placed-elem}
 use Rattle.derivation.specs.Strings.{stringAt, attrIn, attrsIn, treeIn}
-use Rattle.xml.specs.declared.find.Found.{Found}
 use Rattle.xml.specs.declared.find.Found.the-variants.{Row, Nothing}
 use Rattle.xml.specs.declared.find.Place.{Place}
 use Rattle.xml.specs.declared.find.Value.{Value}
 use Rattle.xml.specs.declared.find.Value.the-variants.{At, Absent}
-use Rattle.xml.specs.Find.{named, findElement, found, absent, FoundValue, value, no-value, attrValue, Holds, Siblings, findRow, findValue, WithinAttrs, Owned, isElement, HasRow, elementRow, TextRow, ElementRow, FoundAt}
+use Rattle.xml.specs.Find.{named, findElement, absent, FoundValue, value, no-value, attrValue}
+use Rattle.xml.specs.Find.{Holds, Siblings, findRow, findValue, WithinAttrs, Owned, isElement, HasRow, elementRow, TextAt, ElementAt, FoundAt}
 
 -- ---- the rows of what the tables hold
 within-attrs : (l : List Attr) (lo hi : ℕ) → InOrder lo (attrSpans l) hi → WithinAttrs hi l
@@ -44,29 +44,22 @@ unfolding elementRow
 element-cells r = rw (r .place-is, r .len-is, r .end-is, r .first-is, r .many-is)
 
 module _ {t u z : List ℕ} {i a p n : ℕ} where
-  pub holds-text : {f : Forest} → Holds t u z i a (text p n f) → TextRow t u z 1 i a p n f
-  unfolding attrsOf size
-  holds-text {f} h =
-      let s : RowIs t i 1 (i + 1) p n 0 0 × Stands t (i + 1) a f = on-text t i a p n f (h .stands) in
-      let o : (h .lo ≤ p) × InOrder (p + n) (spans f) (length z) = placed-text (h .lo) (length z) p n f (h .placed) in
-      record {
-        row = s .0;
-        room = omega (arith, room t i a (text p n f) (h .stands) (omega arith));
-        within = in-whole (spans f) (p + n) (length z) (o .1);
-        later = record { stands = s .1; listed = h .listed; lo = p + n; placed = o .1 };
-      }
+  text-row : (kind : ℕ) (f g : Forest) → Holds t u z i a f → RowIs t i kind (i + 1) p n 0 0 × Stands t (i + 1) a g → InOrder (p + n) (spans g) (length z)
+      → 0 < size f → attrsOf f ≡ attrsOf g → TextAt t u z kind i a p n g
+  text-row kind f g h s o w e = record {
+    row = s .0;
+    room = omega (arith, room t i a f (h .stands) w);
+    within = in-whole (spans g) (p + n) (length z) o;
+    later = record { stands = s .1; listed = rw e at (h .listed); lo = p + n; placed = o };
+  }
 
-  pub holds-section : {f : Forest} → Holds t u z i a (section p n f) → TextRow t u z 3 i a p n f
+  pub holds-text : {f : Forest} → Holds t u z i a (text p n f) → TextAt t u z 1 i a p n f
   unfolding attrsOf size
-  holds-section {f} h =
-      let s : RowIs t i 3 (i + 1) p n 0 0 × Stands t (i + 1) a f = on-section t i a p n f (h .stands) in
-      let o : (h .lo ≤ p) × InOrder (p + n) (spans f) (length z) = placed-section (h .lo) (length z) p n f (h .placed) in
-      record {
-        row = s .0;
-        room = omega (arith, room t i a (section p n f) (h .stands) (omega arith));
-        within = in-whole (spans f) (p + n) (length z) (o .1);
-        later = record { stands = s .1; listed = h .listed; lo = p + n; placed = o .1 };
-      }
+  holds-text {f} h = text-row 1 (text p n f) f h (on-text t i a p n f (h .stands)) (placed-text (h .lo) (length z) p n f (h .placed) .1) (omega arith) refl
+
+  pub holds-section : {f : Forest} → Holds t u z i a (section p n f) → TextAt t u z 3 i a p n f
+  unfolding attrsOf size
+  holds-section {f} h = text-row 3 (section p n f) f h (on-section t i a p n f (h .stands)) (placed-section (h .lo) (length z) p n f (h .placed) .1) (omega arith) refl
 
   module _ {l : List Attr} {c f : Forest} where
     pub owned-of : Holds t u z i a (elem p n l c f) → Owned u z a (length l) l
@@ -79,7 +72,7 @@ module _ {t u z : List ℕ} {i a p n : ℕ} where
           within = within-attrs l (p + 1 + n) (length z) (in-first (attrSpans l) (spans c ++ spans f) (p + 1 + n) (length z) o);
         }
 
-    pub holds-elem : Holds t u z i a (elem p n l c f) → ElementRow t u z i a p n l c f
+    pub holds-elem : Holds t u z i a (elem p n l c f) → ElementAt t u z i a p n l c f
     unfolding attrsOf size
     holds-elem h =
         let s : RowIs t i 2 (i + 1 + size c) p n a (length l) × Stands t (i + 1) (a + length l) c × Stands t (i + 1 + size c) (a + length l + length (attrsOf c)) f
@@ -106,7 +99,6 @@ module _ {t u z : List ℕ} {i a p n : ℕ} where
     unfolding rows row attrsOf attrRows spans
     holds-alone h =
         let d : ℕ = a + length l + length (attrsOf c) in
-        let q : List ℕ = rows (i + 1) (a + length l) c in
         let r : List ℕ = rows (i + 1 + size c) d f in
         let lo : ℕ = p + 1 + n in
         record {
@@ -184,9 +176,8 @@ find-found nil h e = never (sym e)
 find-found (text p n f) h e = found-later (omega arith) (omega arith) refl (find-found f (holds-text h .later) e)
 find-found (section p n f) h e = found-later (omega arith) (omega arith) refl (find-found f (holds-section h .later) e)
 find-found {t} {u} {z} {name} {i} {a} {k} (elem p n l c f) h e =
-    let q : Bool = named name (stringAt z (p + 1) n) in
     let r : findRow z name (i + 1 + size c) f ≡ Row k → FoundAt t u z name (i + 1 + size c) f k = find-found f (holds-elem h .later) in
-    by-test q here (λ w. found-later (omega arith) (omega arith) (rw w) (r (rw w at e)))
+    by-test (named name (stringAt z (p + 1) n)) here (λ w. found-later (omega arith) (omega arith) (rw w) (r (rw w at e)))
   where
     here : named name (stringAt z (p + 1) n) ≡ true → FoundAt t u z name i (elem p n l c f) k
     here w =

@@ -1,7 +1,9 @@
--- One round of the two searches. Assumes nothing.
---     Rest, rest-start, rest-here, rest-next, rest-out         of `find_element`, over the siblings from row k up to e
---     RestAttrs, rest-attrs-start, ..                           of `attr`, over the attributes from row k up to e
---     local-part                                               of `is_element`
+-- One round of the searches. Assumes nothing.
+--     onward                                             the row after the first of some siblings
+--     Rest, rest-here, rest-next, rest-out               `find_element` goes on with the siblings from row k on
+--     local-within, local-part                           the part of a name that `is_element` compares
+--     RestAttrs, attrs-start, attrs-here, attrs-next, attrs-out   `attr` goes on with the attributes from row k on
+--     attr-row, end-fits                                 their rows are within the table
 use Prim.Native.Nat.{ℕ, zero, suc, _+_, _-_, _*_, _≤_, _<_}
 use mathlib.Core.Path.{_≡_, refl, sym, ap, _∙_}
 use mathlib.Core.Bool.{true, false, true≢false}
@@ -10,7 +12,7 @@ use native.Mathlib.Omega.{arith}
 use native.Mathlib.Nat.{sub-zero}
 use lib.ListN.{length, getD, take, drop, length-append, length-take, length-drop}
 use lib.Seq.{take-nil, drop-drop}
-use Rattle.scan.specs.Names.{sameFolded, PartFrom, afterLastColon}
+use Rattle.scan.specs.Names.{sameFolded, PartFrom}
 use Rattle.tree.specs.Trees.{Attr, Forest, nil, text, section, elem, size, attrsOf, attrRows, attrSpans, spans, InOrder}
 use Rattle.tree.specs.Walks.{Stands, Listed, RowIs, AttrIs}
 use Rattle.tree.proofs.Tags.{length-attrRows}
@@ -19,7 +21,7 @@ use Rattle.tree.proofs.Walks.{on-text, on-section, on-elem, on-attr, placed-tex
 use Rattle.derivation.specs.Strings.{stringAt}
 use Rattle.xml.specs.declared.find.Found.the-variants.{Row, Nothing}
 use Rattle.xml.specs.declared.find.Value.the-variants.{At, Absent}
-use Rattle.xml.specs.Find.{named, Siblings, findRow, findValue, WithinAttrs, Owned, isElement}
+use Rattle.xml.specs.Find.{named, Siblings, findRow, findValue, Owned, isElement}
 use Rattle.xml.proofs.FindLaws.{is-element-text, is-element-section, is-element-elem}
 
 -- ---- siblings
@@ -35,49 +37,62 @@ record Later (t z name : List ℕ) (k : ℕ) (g : Forest) : Type 0 where
   pub passed : isElement t z name k ≡ false → findRow z name k g ≡ findRow z name (getD t (k * 6 + 1) 0) forest
 
 module _ (t z name : List ℕ) (k b : ℕ) where
+  -- a text or a section
+  passing : (kind p n : ℕ) (f g : Forest) → RowIs t k kind (k + 1) p n 0 0 → Stands t (k + 1) b g → 1 + size g ≡ size f
+      → ((lo hi : ℕ) → InOrder lo (spans f) hi → (lo ≤ p) × InOrder (p + n) (spans g) hi)
+      → isElement t z name k ≡ false → findRow z name k f ≡ findRow z name (k + 1) g → Later t z name k f
+  passing kind p n f g r s e o j w = record {
+    first = b;
+    forest = g;
+    stands = rw (r .end-is) s;
+    after = omega (arith, r .end-is);
+    end = omega (arith, r .end-is);
+    placed = λ lo hi i. (p + n, o lo hi i .1);
+    here = λ v. absurd (true≢false (sym v ∙ j));
+    passed = λ v. rw (r .end-is) w;
+  }
+
   later : (g : Forest) → Stands t k b g → 0 < size g → Later t z name k g
   unfolding size findRow
   later nil s h = absurd (omega arith)
   later (text p n g) s h =
       let r : RowIs t k 1 (k + 1) p n 0 0 × Stands t (k + 1) b g = on-text t k b p n g s in
-      let e : getD t (k * 6 + 1) 0 ≡ k + 1 = r .0 .end-is in
-      record {
-        first = b;
-        forest = g;
-        stands = rw e (r .1);
-        after = omega arith;
-        end = omega arith;
-        placed = λ lo hi o. (p + n, placed-text lo hi p n g o .1);
-        here = λ w. absurd (true≢false (sym w ∙ is-element-text z name s));
-        passed = λ w. rw e;
-      }
+      passing 1 p n (text p n g) g (r .0) (r .1) refl (λ lo hi i. placed-text lo hi p n g i) (is-element-text z name s) refl
   later (section p n g) s h =
       let r : RowIs t k 3 (k + 1) p n 0 0 × Stands t (k + 1) b g = on-section t k b p n g s in
-      let e : getD t (k * 6 + 1) 0 ≡ k + 1 = r .0 .end-is in
-      record {
-        first = b;
-        forest = g;
-        stands = rw e (r .1);
-        after = omega arith;
-        end = omega arith;
-        placed = λ lo hi o. (p + n, placed-section lo hi p n g o .1);
-        here = λ w. absurd (true≢false (sym w ∙ is-element-section z name s));
-        passed = λ w. rw e;
-      }
+      passing 3 p n (section p n g) g (r .0) (r .1) refl (λ lo hi i. placed-section lo hi p n g i) (is-element-section z name s) refl
   later (elem p n l c g) s h =
-      let r : RowIs t k 2 (k + 1 + size c) p n b (length l) × Stands t (k + 1) (b + length l) c × Stands t (k + 1 + size c) (b + length l + length (attrsOf c)) g = on-elem t k b p n l c g s in
+      let d : ℕ = b + length l + length (attrsOf c) in
+      let lo : ℕ = p + 1 + n in
+      let r : RowIs t k 2 (k + 1 + size c) p n b (length l) × Stands t (k + 1) (b + length l) c × Stands t (k + 1 + size c) d g = on-elem t k b p n l c g s in
       let e : getD t (k * 6 + 1) 0 ≡ k + 1 + size c = r .0 .end-is in
       let j : isElement t z name k ≡ named name (stringAt z (p + 1) n) = is-element-elem z name s in
       record {
-        first = b + length l + length (attrsOf c);
+        first = d;
         forest = g;
         stands = rw e (r .2);
         after = omega arith;
         end = omega arith;
-        placed = λ lo hi o. (p + 1 + n, in-rest (spans c) (spans g) (p + 1 + n) hi (in-rest (attrSpans l) (spans c ++ spans g) (p + 1 + n) hi (placed-elem lo hi p n l c g o .1)));
+        placed = λ at hi o. (lo, in-rest (spans c) (spans g) lo hi (in-rest (attrSpans l) (spans c ++ spans g) lo hi (placed-elem at hi p n l c g o .1)));
         here = λ w. rw (sym j ∙ w);
         passed = λ w. rw (sym j ∙ w, e);
       }
+
+-- the row after the first of them
+pub record Onward (t z : List ℕ) (k e : ℕ) : Type 0 where
+  pub after : k < getD t (k * 6 + 1) 0
+  pub within : getD t (k * 6 + 1) 0 ≤ e
+  pub siblings : Siblings t z (getD t (k * 6 + 1) 0) e
+
+pub onward : {t z : List ℕ} {k e : ℕ} → Siblings t z k e → k < e → Onward t z k e
+onward {t} {z} {k} {e} x h =
+    let y : Later t z [] k (x .forest) = later t z [] k (x .first) (x .forest) (x .stands) (omega (arith, x .end)) in
+    let o : (lo : ℕ) × InOrder lo (spans (y .forest)) (length z) = y .placed (x .lo) (length z) (x .placed) in
+    record {
+      after = y .after;
+      within = omega (arith, y .end, x .end);
+      siblings = record { first = y .first; forest = y .forest; stands = y .stands; lo = o .0; placed = o .1; end = y .end ∙ x .end };
+    }
 
 -- the search of f from row i up to e goes on with the siblings from row k on
 pub record Rest (t z name : List ℕ) (i k e : ℕ) (f : Forest) : Type 0 where
@@ -106,22 +121,6 @@ module _ {t z name : List ℕ} {i k e : ℕ} {f : Forest} where
       by (section p n g) w j = absurd (omega arith)
       by (elem p n l c g) w j = absurd (omega arith)
 
--- the row after the first of them
-pub record Onward (t z : List ℕ) (k e : ℕ) : Type 0 where
-  pub after : k < getD t (k * 6 + 1) 0
-  pub within : getD t (k * 6 + 1) 0 ≤ e
-  pub siblings : Siblings t z (getD t (k * 6 + 1) 0) e
-
-pub onward : {t z : List ℕ} {k e : ℕ} → Siblings t z k e → k < e → Onward t z k e
-onward {t} {z} {k} {e} x h =
-    let y : Later t z [] k (x .forest) = later t z [] k (x .first) (x .forest) (x .stands) (omega (arith, x .end)) in
-    let o : (lo : ℕ) × InOrder lo (spans (y .forest)) (length z) = y .placed (x .lo) (length z) (x .placed) in
-    record {
-      after = y .after;
-      within = omega (arith, y .end, x .end);
-      siblings = record { first = y .first; forest = y .forest; stands = y .stands; lo = o .0; placed = o .1; end = y .end ∙ x .end };
-    }
-
 -- ---- the local name
 drop-take : (r m : ℕ) (l : List ℕ) → r ≤ m → drop r (take m l) ≡ take (m - r) (drop r l)
 drop-take zero m l h = rw (sub-zero m)
@@ -143,7 +142,7 @@ module _ (z : List ℕ) (p n r : ℕ) (w : List ℕ) (x : PartFrom (stringAt z p
 
 -- ---- attributes
 -- the first of n attributes from row k on
-pub record FirstOf (u z name : List ℕ) (k n : ℕ) (l : List Attr) : Type 0 where
+record FirstOf (u z name : List ℕ) (k n : ℕ) (l : List Attr) : Type 0 where
   pub others : List Attr
   pub room : (k + n) * 4 ≤ length u
   pub fits : getD u (k * 4) 0 + getD u (k * 4 + 1) 0 ≤ length z
@@ -152,7 +151,7 @@ pub record FirstOf (u z name : List ℕ) (k n : ℕ) (l : List Attr) : Type 0 wh
       → findValue z name l ≡ At (record { place = getD u (k * 4 + 2) 0; len = getD u (k * 4 + 3) 0 })
   pub passed : sameFolded (stringAt z (getD u (k * 4) 0) (getD u (k * 4 + 1) 0)) name ≡ false → findValue z name l ≡ findValue z name others
 
-pub first-of : (u z name : List ℕ) (k n : ℕ) (l : List Attr) → Owned u z k n l → 0 < n → FirstOf u z name k n l
+first-of : (u z name : List ℕ) (k n : ℕ) (l : List Attr) → Owned u z k n l → 0 < n → FirstOf u z name k n l
 unfolding findValue
 first-of u z name k n [] y h = absurd (omega (arith, y .count))
 first-of u z name k n (x ∷ l) y h =
@@ -176,13 +175,8 @@ pub record RestAttrs (u z name : List ℕ) (k e : ℕ) (l : List Attr) : Type 0 
 pub attrs-start : {u z name : List ℕ} {i n : ℕ} {l : List Attr} → Owned u z i n l → RestAttrs u z name i (i + n) l
 attrs-start {n = n} {l = l} y = record { attrs = l; owned = record { listed = y .listed; count = omega (arith, y .count); within = y .within }; is = refl }
 
--- the end of the attributes is a place too
-pub end-fits : (u z : List ℕ) (k n hi : ℕ) (l : List Attr) → Owned u z k n l → k < hi → length u < hi → k + n < hi
-end-fits u z k n hi [] y h w = omega (arith, y .count)
-end-fits u z k n hi (x ∷ l) y h w = omega (arith, y .count, first-of u z [] k n (x ∷ l) y (omega (arith, y .count)) .room)
-
 module _ {u z name : List ℕ} {k e : ℕ} {l : List Attr} (x : RestAttrs u z name k e l) where
-  pub attrs-first : k < e → FirstOf u z name k (e - k) (x .attrs)
+  attrs-first : k < e → FirstOf u z name k (e - k) (x .attrs)
   attrs-first h = first-of u z name k (e - k) (x .attrs) (x .owned) (omega arith)
 
   pub attrs-here : k < e → sameFolded (stringAt z (getD u (k * 4) 0) (getD u (k * 4 + 1) 0)) name ≡ true
@@ -202,3 +196,18 @@ module _ {u z name : List ℕ} {k e : ℕ} {l : List Attr} (x : RestAttrs u z na
       by : (g : List Attr) → findValue z name l ≡ findValue z name g → length g ≡ 0 → Absent ≡ findValue z name l
       by [] w j = sym w
       by (y ∷ g) w j = absurd (omega arith)
+
+-- ---- their rows
+module _ {u z : List ℕ} {i n : ℕ} (own : (l : List Attr) × Owned u z i n l) where
+  -- row k, while attributes are left
+  pub attr-row : {name : List ℕ} {k e : ℕ} → ((l : List Attr) → Owned u z i n l → RestAttrs u z name k e l) → k < e
+      → (k * 4 + 4 ≤ length u) × (getD u (k * 4) 0 + getD u (k * 4 + 1) 0 ≤ length z)
+  attr-row x h = let y = attrs-first (x (own .0) (own .1)) h in (omega (arith, y .room), y .fits)
+
+  -- the end of the attributes is a place too
+  pub end-fits : (hi : ℕ) → i < hi → length u < hi → i + n < hi
+  end-fits hi h w = by (own .0) (own .1)
+    where
+      by : (l : List Attr) → Owned u z i n l → i + n < hi
+      by [] y = omega (arith, y .count)
+      by (x ∷ l) y = omega (arith, y .count, first-of u z [] i n (x ∷ l) y (omega (arith, y .count)) .room)

@@ -1,3 +1,4 @@
 -- What the proofs of several functions use.
 pub mod FindLaws
-mod FindSteps
+pub mod FindSteps
+pub mod FindExamples

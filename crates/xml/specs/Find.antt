@@ -102,14 +102,14 @@ elementRow t k = record {
 
 -- ---- what callers of the searches know
 -- row i is a text (kind 1) or a section (kind 3), with its later siblings
-pub record TextRow (t u z : List ℕ) (kind i a p n : ℕ) (f : Forest) : Type 0 where
+pub record TextAt (t u z : List ℕ) (kind i a p n : ℕ) (f : Forest) : Type 0 where
   pub row : RowIs t i kind (i + 1) p n 0 0
   pub room : i * 6 + 6 ≤ length t
   pub within : p + n ≤ length z
   pub later : Holds t u z (i + 1) a f
 
 -- row i is an element, with its attributes, its content and its later siblings
-pub record ElementRow (t u z : List ℕ) (i a p n : ℕ) (l : List Attr) (c f : Forest) : Type 0 where
+pub record ElementAt (t u z : List ℕ) (i a p n : ℕ) (l : List Attr) (c f : Forest) : Type 0 where
   pub row : RowIs t i 2 (i + 1 + size c) p n a (length l)
   pub cells : elementRow t i ≡ record { place = p; «name_len» = n; end = i + 1 + size c; first = a; many = length l }
   pub room : i * 6 + 6 ≤ length t
@@ -127,7 +127,7 @@ pub record FoundAt (t u z name : List ℕ) (i : ℕ) (f : Forest) (k : ℕ) : Ty
   pub attrs : List Attr
   pub content : Forest
   pub holds : Holds t u z k first (elem place len attrs content nil)
-  pub at : ElementRow t u z k first place len attrs content nil
+  pub at : ElementAt t u z k first place len attrs content nil
   pub after : i ≤ k
   pub before : k + 1 + size content ≤ i + size f
   pub matches : named name (stringAt z (place + 1) len) ≡ true

@@ -36,10 +36,17 @@ get-requires : tie.Need-get-requires Inv-loop μ-loop
 get-requires c κs = omega (arith, has-row (c .before .before .before .loop .inv .0) (c .before .before .loop-test .taken) .row)
 
 loop-less : tie.Need-loop-less Inv-loop μ-loop
-loop-less c = omega (arith, c .get .ensures, onward (c .before .before .before .before .loop .inv .0) (c .before .before .before .loop-test .taken) .after, onward (c .before .before .before .before .loop .inv .0) (c .before .before .before .loop-test .taken) .within)
+loop-less c =
+    let o = onward (c .before .before .before .before .loop .inv .0) (c .before .before .before .loop-test .taken) in
+    omega (arith, o .after, o .within)
 
 loop-again : tie.Need-loop-again Inv-loop μ-loop
-loop-again c = rw (c .get .ensures) (onward (c .before .before .before .before .loop .inv .0) (c .before .before .before .loop-test .taken) .siblings, λ a f s e. rest-next (c .before .before .before .before .loop .inv .1 a f s e) (c .before .before .before .loop-test .taken) (sym (c .before .before .is-element .ensures) ∙ c .before .if1 .left))
+loop-again c =
+    let e = sym (c .before .before .is-element .ensures) ∙ c .before .if1 .left in
+    rw (c .get .ensures) (
+      onward (c .before .before .before .before .loop .inv .0) (c .before .before .before .loop-test .taken) .siblings,
+      λ a f s w. rest-next (c .before .before .before .before .loop .inv .1 a f s w) (c .before .before .before .loop-test .taken) e,
+    )
 
 returns-2 : tie.Need-returns-2 Inv-loop μ-loop
 returns-2 c = λ a f s e. rest-out (c .before .loop .inv .1 a f s e) (c .loop-test .left)

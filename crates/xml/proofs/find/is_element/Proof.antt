@@ -30,7 +30,7 @@ get-requires : tie.Need-get-requires
 get-requires c κs = search needs
 
 add-start : tie.Need-add-start
-add-start c = omega (arith, c .before .before .before .before .before .before .pre .within (c .before .if1 .left), c .get .ensures)
+add-start c = omega (arith, c .before .before .before .before .before .before .pre .within (c .before .if1 .left))
 
 add-get-2 : tie.Need-add-get-2
 add-get-2 c = search needs
@@ -39,7 +39,7 @@ get-requires-2 : tie.Need-get-requires-2
 get-requires-2 c κs = search needs
 
 add-stop : tie.Need-add-stop
-add-stop c = omega (arith, c .before .before .before .before .before .before .before .pre .within (c .before .before .if1 .left), c .before .get .ensures, c .get2 .ensures)
+add-stop c = omega (arith, c .before .before .before .before .before .before .before .pre .within (c .before .before .if1 .left))
 
 sub-tag-local : tie.Need-sub-tag-local
 sub-tag-local c = search needs
@@ -48,14 +48,21 @@ part-tag-local-start : tie.Need-part-tag-local-start
 part-tag-local-start c = search needs
 
 part-tag-local-end : tie.Need-part-tag-local-end
-part-tag-local-end c = omega (arith, c .before .before .before .before .before .before .before .pre .within (c .before .before .if1 .left), c .before .get .ensures, c .get2 .ensures)
+part-tag-local-end c = omega (arith, c .before .before .before .before .before .before .before .pre .within (c .before .before .if1 .left))
 
 tag-local-requires : tie.Need-tag-local-requires
 tag-local-requires c κs = search needs
 
 add-local : tie.Need-add-local
 unfolding stringAt
-add-local c = omega (arith, c .before .before .before .before .before .before .before .before .before .pre .within (c .before .before .before .before .if1 .left), c .before .before .before .get .ensures, c .before .before .get2 .ensures, local-within (c .before .before .before .before .before .before .before .before .before .args .strings .now) (c .before .before .before .get .result + 1) (c .before .before .get2 .result) (c .tag-local .result) _ (c .tag-local .ensures))
+add-local c =
+    let w = c .before .before .before .before .before .before .before .before .before .pre .within (c .before .before .before .before .if1 .left) in
+    let l =
+    local-within
+    (c .before .before .before .before .before .before .before .before .before .args .strings .now)
+    (c .before .before .before .get .result + 1) (c .before .before .get2 .result) (c .tag-local .result) _ (c .tag-local .ensures)
+    in
+    omega arith
 
 sub-eq-ignore-ascii-case : tie.Need-sub-eq-ignore-ascii-case
 sub-eq-ignore-ascii-case c = search needs
@@ -65,14 +72,28 @@ part-eq-ignore-ascii-case-start c = search needs
 
 part-eq-ignore-ascii-case-end : tie.Need-part-eq-ignore-ascii-case-end
 unfolding stringAt
-part-eq-ignore-ascii-case-end c = omega (arith, c .before .before .before .before .before .before .before .before .before .pre .within (c .before .before .before .before .if1 .left), c .before .before .before .get .ensures, c .before .before .get2 .ensures, local-within (c .before .before .before .before .before .before .before .before .before .args .strings .now) (c .before .before .before .get .result + 1) (c .before .before .get2 .result) (c .tag-local .result) _ (c .tag-local .ensures))
+part-eq-ignore-ascii-case-end c =
+    let w = c .before .before .before .before .before .before .before .before .before .pre .within (c .before .before .before .before .if1 .left) in
+    let l =
+    local-within
+    (c .before .before .before .before .before .before .before .before .before .args .strings .now)
+    (c .before .before .before .get .result + 1) (c .before .before .get2 .result) (c .tag-local .result) _ (c .tag-local .ensures)
+    in
+    omega arith
 
 eq-ignore-ascii-case-requires : tie.Need-eq-ignore-ascii-case-requires
 eq-ignore-ascii-case-requires c κs = search needs
 
 returns-2 : tie.Need-returns-2
 unfolding isElement named stringAt
-returns-2 c = rw (eq-eqb _ 2 (c .before .before .before .before .before .before .if1 .left), ← (c .before .before .before .before .before .get .ensures), ← (c .before .before .before .before .get2 .ensures)) (c .eq-ignore-ascii-case .ensures ∙ rw (local-part (c .before .before .before .before .before .before .before .before .before .before .before .args .strings .now) (c .before .before .before .before .before .get .result + 1) (c .before .before .before .before .get2 .result) (c .before .before .tag-local .result) _ (c .before .before .tag-local .ensures)))
+returns-2 c =
+    let e = eq-eqb _ 2 (c .before .before .before .before .before .before .if1 .left) in
+    let l =
+    local-part
+    (c .before .before .before .before .before .before .before .before .before .before .before .args .strings .now)
+    (c .before .before .before .before .before .get .result + 1) (c .before .before .before .before .get2 .result) (c .before .before .tag-local .result) _ (c .before .before .tag-local .ensures)
+    in
+    rw (e, ← (c .before .before .before .before .before .get .ensures), ← (c .before .before .before .before .get2 .ensures)) (c .eq-ignore-ascii-case .ensures ∙ rw l)
 
 pub is-element-spec : {M : Type 1} → statement M
 is-element-spec =
