@@ -6,3 +6,6 @@ pub mod Parsing
 pub mod Shown
 pub mod Tables
 pub mod Theorem
+pub mod FindLaws
+pub mod FindSteps
+pub mod FindExamples

@@ -2,15 +2,15 @@
 -- Names are compared without regard to ASCII case (the Rust's `find_element` and `attr`).
 use Prim.Native.Nat.{ℕ, _+_, _*_, _≤_}
 use mathlib.Core.Path.{_≡_}
-use mathlib.Core.Bool.{Bool, cond, _&&_, false}
+use mathlib.Core.Bool.{Bool, true, false, cond}
 use mathlib.Core.List.{List, [], _∷_}
 use lib.ListN.{length, getD}
 use lib.Dec.{eqb}
 use Rattle.scan.specs.Names.{sameFolded, afterLastColon}
 use Rattle.tree.specs.Trees.{Attr, Forest, nil, text, section, elem, size, attrsOf, spans, InOrder}
-use Rattle.tree.specs.Walks.{Stands, Listed}
+use Rattle.tree.specs.Walks.{Stands, Listed, RowIs}
 use Rattle.grammar.specs.Tree as tree
-use Rattle.derivation.specs.Strings.{stringAt}
+use Rattle.derivation.specs.Strings.{stringAt, attrsIn, treeIn}
 use Rattle.xml.specs.declared.find.Found.{Found}
 use Rattle.xml.specs.declared.find.Found.the-variants.{Row, Nothing}
 use Rattle.xml.specs.declared.find.Element.{Element}
@@ -99,3 +99,36 @@ elementRow t k = record {
   first = getD t (k * 6 + 4) 0;
   many = getD t (k * 6 + 5) 0;
 }
+
+-- ---- what callers of the searches know
+-- row i is a text (kind 1) or a section (kind 3), with its later siblings
+pub record TextAt (t u z : List ℕ) (kind i a p n : ℕ) (f : Forest) : Type 0 where
+  pub row : RowIs t i kind (i + 1) p n 0 0
+  pub room : i * 6 + 6 ≤ length t
+  pub within : p + n ≤ length z
+  pub later : Holds t u z (i + 1) a f
+
+-- row i is an element, with its attributes, its content and its later siblings
+pub record ElementAt (t u z : List ℕ) (i a p n : ℕ) (l : List Attr) (c f : Forest) : Type 0 where
+  pub row : RowIs t i 2 (i + 1 + size c) p n a (length l)
+  pub cells : elementRow t i ≡ record { place = p; «name_len» = n; end = i + 1 + size c; first = a; many = length l }
+  pub room : i * 6 + 6 ≤ length t
+  pub within : p + 1 + n ≤ length z
+  pub owned : Owned u z a (length l) l
+  pub inside : Holds t u z (i + 1) (a + length l) c
+  pub siblings : Siblings t z (i + 1) (i + 1 + size c)
+  pub later : Holds t u z (i + 1 + size c) (a + length l + length (attrsOf c)) f
+
+-- row k is the first element of that name in the forest f that stands from row i on
+pub record FoundAt (t u z name : List ℕ) (i : ℕ) (f : Forest) (k : ℕ) : Type 0 where
+  pub place : ℕ
+  pub len : ℕ
+  pub first : ℕ
+  pub attrs : List Attr
+  pub content : Forest
+  pub holds : Holds t u z k first (elem place len attrs content nil)
+  pub at : ElementAt t u z k first place len attrs content nil
+  pub after : i ≤ k
+  pub before : k + 1 + size content ≤ i + size f
+  pub matches : named name (stringAt z (place + 1) len) ≡ true
+  pub is : findElement name (treeIn z f) ≡ found (stringAt z (place + 1) len) (attrsIn z attrs) (treeIn z content)
