@@ -3,10 +3,10 @@
 --     every-at, every-as, distinct-at, apart-at       a test over a list of names, at each entry
 --     number-hit, number-miss, number-none  a search that has come to the entry i
 --     number-back, number-there, number-nowhere   what a number says of the name, and the name of the number
---     in-hit, in-miss, in-none, in-there, in-back   the same of bytes that are looked for
+--     in-there, in-back                     the same of bytes that are looked for
 use Prim.Native.Nat.{ℕ, zero, suc, _+_, _≤_, _<_}
 use mathlib.Core.Path.{_≡_, refl, sym, ap, _∙_}
-use mathlib.Core.Bool.{Bool, true, false, cond, not, _&&_, _||_, false≢true, true≢false}
+use mathlib.Core.Bool.{Bool, true, false, not, _&&_, _||_, false≢true, true≢false}
 use mathlib.Core.List.{List, [], _∷_, _++_}
 use native.Mathlib.Omega.{arith}
 use native.Mathlib.Nat.{add-zero, add-suc, suc-add, zero-add}
@@ -15,7 +15,7 @@ use lib.ListN.{length, getD, drop, drop-of-length-le}
 use lib.Seq.{drop-cons}
 use borrow.Author.Tests.{not-true}
 use Rattle.scan.specs.Bytes.{runLength}
-use Rattle.scan.specs.Names.{lower, sameBytes, sameFolded}
+use Rattle.scan.specs.Names.{sameBytes, sameFolded}
 use Rattle.scan.proofs.Naming.{same-eq, same-refl, folded-map, map-folded, sameFolded-sym}
 use Rattle.names.specs.declared.lookup.Number.{Number}
 use Rattle.names.specs.Numbers.{numberFrom, isIn}
@@ -25,7 +25,7 @@ both {a = true} e = (refl, e)
 both {a = false} e = absurd (false≢true e)
 
 -- what is not true is false
-not-so : (t : Bool) → (t ≡ true → ⊥) → t ≡ false
+pub not-so : (t : Bool) → (t ≡ true → ⊥) → t ≡ false
 not-so true h = absurd (h refl)
 not-so false h = refl
 
@@ -97,19 +97,6 @@ module _ (ns : List (List ℕ)) (i : ℕ) (s : List ℕ) where
   unfolding numberFrom
   number-none h = rw (drop-of-length-le ns h)
 
-  -- ---- and for its bytes
-  pub in-hit : i < length ns → sameBytes s (getD ns i []) ≡ true → isIn s (drop i ns) ≡ true
-  unfolding isIn
-  in-hit h e = rw (drop-cons ns i [] h, e)
-
-  pub in-miss : i < length ns → sameBytes s (getD ns i []) ≡ false → isIn s (drop i ns) ≡ isIn s (drop (i + 1) ns)
-  unfolding isIn
-  in-miss h e = rw (add-one i, drop-cons ns i [] h, e)
-
-  pub in-none : length ns ≤ i → isIn s (drop i ns) ≡ false
-  unfolding isIn
-  in-none h = rw (drop-of-length-le ns h)
-
 -- ---- what an answer says
 -- the number r counts from k on, and the name s is the one with that number
 pub record Numbered (k : ℕ) (s : List ℕ) (ns : List (List ℕ)) (r : ℕ) : Type 0 where
@@ -118,10 +105,10 @@ pub record Numbered (k : ℕ) (s : List ℕ) (ns : List (List ℕ)) (r : ℕ) : 
   pub within : offset < length ns
   pub same : sameFolded s (getD ns offset []) ≡ true
 
-at-eq : {a b : ℕ} → Number.At a ≡ Number.At b → a ≡ b
+pub at-eq : {a b : ℕ} → Number.At a ≡ Number.At b → a ≡ b
 at-eq e = cc
 
-nothing-at : {a : ℕ} {X : Type 0} → Number.Nothing ≡ Number.At a → X
+pub nothing-at : {a : ℕ} {X : Type 0} → Number.Nothing ≡ Number.At a → X
 nothing-at e = absurd (let z : _≡_ {A = ℕ} 0 1 = cc in omega arith)
 
 pub number-back : (k : ℕ) (s : List ℕ) (ns : List (List ℕ)) (r : ℕ) → numberFrom k s ns ≡ Number.At r → Numbered k s ns r

@@ -2,27 +2,27 @@
 --     counts, counted                   how many names a list has
 --     plain-name, plain-not, plain-attr, plain-ascii, name-run   of what bytes a name is
 --     names-distinct, name-number, folded-number, number-name    number to name and back
---     contains-name, contained-name     the same for `contains`
+--     contains-name, contained-name, contains-at, contains-nowhere   the same for `contains`
 --     inline-is-style, modelled-apart, modelled-not-extra        two lists against each other
-use Prim.Native.Nat.{ℕ, zero, suc, _+_, _≤_, _<_}
+use Prim.Native.Nat.{ℕ, _<_}
 use mathlib.Core.Path.{_≡_, refl, sym, ap, _∙_}
-use mathlib.Core.Bool.{Bool, true, false, cond, not, _&&_, true≢false}
+use mathlib.Core.Bool.{Bool, true, false, _&&_, true≢false}
 use mathlib.Core.List.{List, [], _∷_, _++_}
 use native.Mathlib.Omega.{arith}
 use native.Mathlib.Nat.{add-zero, zero-add}
-use lib.Dec.{eqb, leb}
-use lib.ListN.{length, getD, take, drop}
+use lib.Dec.{leb}
+use lib.ListN.{length, take, drop}
 use borrow.Author.Tests.{leb-true, ne-eqb}
 use Rattle.scan.specs.Bytes.{blank, attrNameByte, other, runLength}
 use Rattle.scan.specs.Names.{lower, sameBytes, sameFolded}
-use Rattle.scan.proofs.Naming.{sameFolded-refl}
+use Rattle.scan.proofs.Naming.{same-eq, same-refl, sameFolded-refl}
 use Rattle.names.specs.declared.tables.Listed.{Listed}
 use Rattle.names.specs.declared.tables.Listed.the-variants.{StyleExtra, InlineExtra, RegionAttr, InlineModelled, Imsc1Extension}
 use Rattle.names.specs.declared.lookup.Number.{Number}
-use Rattle.names.specs.Lists.{names, nameOf, styleExtra, inlineExtra, regionAttr, inlineModelled, imsc1Extension}
+use Rattle.names.specs.Lists.{names, nameOf, styleExtra, inlineExtra, inlineModelled}
 use Rattle.names.specs.Numbers.{numberOf, containsName}
 use Rattle.names.specs.Plain.{plainByte, PlainName}
-use Rattle.names.proofs.Entries.{both, every, every-at, every-as, run-over, differs, distinct, distinct-at, apart, apart-at, number-back, number-there, number-nowhere, in-there, in-back}
+use Rattle.names.proofs.Entries.{both, every, every-at, every-as, run-over, differs, distinct, distinct-at, apart, apart-at, number-back, number-there, number-nowhere, at-eq, nothing-at, not-so, in-there, in-back}
 
 -- ---- the tests
 abbrev pub plainTest : List ℕ → Bool
@@ -82,10 +82,11 @@ module _ (b : ℕ) where
   plain-attr h =
       rw (ne-eqb b 32 (plain-not 32 h refl), ne-eqb b 9 (plain-not 9 h refl), ne-eqb b 10 (plain-not 10 h refl), ne-eqb b 13 (plain-not 13 h refl), ne-eqb b 62 (plain-not 62 h refl), ne-eqb b 47 (plain-not 47 h refl), ne-eqb b 61 (plain-not 61 h refl))
 
+pub all-plain : (n : List ℕ) → plainTest n ≡ true → every plainByte n ≡ true
+all-plain n e = both {a = leb (length n) 25} (both {a = leb 1 (length n)} e .1) .1
+
 pub plain-bytes : (list : Listed) (i : ℕ) → i < length (names list) → every plainByte (nameOf list i) ≡ true
-plain-bytes list i h =
-    let e : plainTest (nameOf list i) ≡ true = every-at plainTest (names list) [] (plain-tested list) i h in
-    both {a = leb (length (nameOf list i)) 25} (both {a = leb 1 (length (nameOf list i))} e .1) .1
+plain-bytes list i h = all-plain (nameOf list i) (every-at plainTest (names list) [] (plain-tested list) i h)
 
 module _ (list : Listed) (i : ℕ) (h : i < length (names list)) where
   pub plain-name : PlainName (nameOf list i)
@@ -128,6 +129,30 @@ module _ (list : Listed) (s : List ℕ) where
 
   pub contained-name : containsName list s ≡ true → (i : ℕ) × (i < length (names list)) × (s ≡ nameOf list i)
   contained-name e = in-back s (names list) e
+
+  -- a name that is in the list but for the case of letters can be only that entry
+  pub contains-at : (i : ℕ) → numberOf list s ≡ Number.At i → containsName list s ≡ sameBytes s (nameOf list i)
+  contains-at i e = by (sameBytes s (nameOf list i)) refl
+    where
+      in-list : i < length (names list)
+      in-list = number-name i e .0
+
+      by : (t : Bool) → sameBytes s (nameOf list i) ≡ t → containsName list s ≡ t
+      by true f = rw (same-eq s (nameOf list i) f) (contains-name list i in-list)
+      by false f = not-so (containsName list s) elsewhere
+        where
+          elsewhere : containsName list s ≡ true → ⊥
+          elsewhere g =
+              let w = contained-name g in
+              let z : w .0 ≡ i = at-eq (sym (ap (numberOf list) (w .2) ∙ name-number list (w .0) (w .1)) ∙ e) in
+              let q : s ≡ nameOf list i = w .2 ∙ ap (nameOf list) z in
+              true≢false (sym (ap (sameBytes s) (sym q) ∙ same-refl s) ∙ f)
+
+  pub contains-nowhere : numberOf list s ≡ Number.Nothing → containsName list s ≡ false
+  contains-nowhere e =
+      not-so (containsName list s) (λ g.
+      let w = contained-name g in
+      nothing-at (sym e ∙ ap (numberOf list) (w .2) ∙ name-number list (w .0) (w .1)))
 
 -- ---- two lists against each other
 -- `tts:backgroundColor`

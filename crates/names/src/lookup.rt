@@ -5,7 +5,8 @@ ghost use lib.ListN.{length};
 ghost use Rattle.scan.specs.Names.{sameBytes, sameFolded};
 ghost use Rattle.scan.specs.Posts.{Wrote};
 ghost use Rattle.names.specs.Lists.{names, nameOf};
-ghost use Rattle.names.specs.Numbers.{numberOf, containsName};
+ghost use Rattle.names.specs.Numbers.{numberOf, numberFrom, containsName};
+ghost use Rattle.names.specs.Posts.{front, fronts};
 use crate::tables::Listed;
 
 // A name's number in a list, from 0 on, or it is not listed.
@@ -36,14 +37,25 @@ fn is_exactly(list: Listed, i: usize, name: &[u8]) -> bool
     scan::same(name, &bytes[..len])
 }
 
-// The number of the entry that the name is, letters in any case.
-pub fn number_of(list: Listed, name: &[u8]) -> Number
-    ensures { λ r. ⌜ r ≡ numberOf list (now (name .entry)) ⌝ }
+// Is the name, letters in any case, what stands before the first blank of the row?
+fn row_is(row: [u8; 25], name: &[u8]) -> bool
+    ensures { λ r. ⌜ r ≡ sameFolded (now (name .entry)) (front row) ⌝ }
 {
-    let many = crate::tables::count(list);
+    let entry = crate::tables::cut(row);
+    let bytes = entry.bytes;
+    let len = entry.len;
+    scan::eq_ignore_ascii_case(name, &bytes[..len])
+}
+
+// The number of the table's row that the name is. The table is lent, so that one search makes it
+// once: a constant is made anew at each use.
+fn row_of(table: &[[u8; 25]], name: &[u8]) -> Number
+    ensures { λ r. ⌜ r ≡ numberFrom 0 (now (name .entry)) (fronts (now (table .entry))) ⌝ }
+{
     let mut i = 0;
-    while i < many {
-        if is_name(list, i, name) {
+    while i < table.len() {
+        let row = table[i];
+        if row_is(row, name) {
             return Number::At(i);
         }
         i += 1;
@@ -51,19 +63,42 @@ pub fn number_of(list: Listed, name: &[u8]) -> Number
     Number::Nothing
 }
 
-// Is the name listed, byte for byte?
+// The number of the entry that the name is, letters in any case.
+pub fn number_of(list: Listed, name: &[u8]) -> Number
+    ensures { λ r. ⌜ r ≡ numberOf list (now (name .entry)) ⌝ }
+{
+    match list {
+        Listed::StyleExtra => {
+            let table = crate::tables::STYLE_EXTRA_ORDER;
+            row_of(&table, name)
+        }
+        Listed::InlineExtra => {
+            let table = crate::tables::P_INLINE_EXTRA_ORDER;
+            row_of(&table, name)
+        }
+        Listed::RegionAttr => {
+            let table = crate::tables::REGION_ATTR_ORDER;
+            row_of(&table, name)
+        }
+        Listed::InlineModelled => {
+            let table = crate::tables::P_INLINE_MODELLED_ATTRS;
+            row_of(&table, name)
+        }
+        Listed::Imsc1Extension => {
+            let table = crate::tables::IMSC1_EXTENSION_PARAMS;
+            row_of(&table, name)
+        }
+    }
+}
+
+// Is the name listed, byte for byte? No two names differ only in the case of letters.
 pub fn contains(list: Listed, name: &[u8]) -> bool
     ensures { λ r. ⌜ r ≡ containsName list (now (name .entry)) ⌝ }
 {
-    let many = crate::tables::count(list);
-    let mut i = 0;
-    while i < many {
-        if is_exactly(list, i, name) {
-            return true;
-        }
-        i += 1;
+    match number_of(list, name) {
+        Number::At(i) => is_exactly(list, i, name),
+        Number::Nothing => false,
     }
-    false
 }
 
 // The list's i-th name written at a place, if it fits.

@@ -21,7 +21,7 @@ pub struct Name {
     pub len: usize,
 }
 
-const STYLE_EXTRA_ORDER: [[u8; 25]; 46] = [
+pub const STYLE_EXTRA_ORDER: [[u8; 25]; 46] = [
     *b"tts:backgroundClip       ",
     *b"tts:backgroundExtent     ",
     *b"tts:backgroundImage      ",
@@ -70,7 +70,7 @@ const STYLE_EXTRA_ORDER: [[u8; 25]; 46] = [
     *b"itts:fillLineGap         ",
 ];
 
-const P_INLINE_EXTRA_ORDER: [[u8; 25]; 47] = [
+pub const P_INLINE_EXTRA_ORDER: [[u8; 25]; 47] = [
     *b"tts:backgroundClip       ",
     *b"tts:backgroundColor      ",
     *b"tts:backgroundExtent     ",
@@ -120,7 +120,7 @@ const P_INLINE_EXTRA_ORDER: [[u8; 25]; 47] = [
     *b"itts:fillLineGap         ",
 ];
 
-const REGION_ATTR_ORDER: [[u8; 25]; 53] = [
+pub const REGION_ATTR_ORDER: [[u8; 25]; 53] = [
     *b"tts:backgroundClip       ",
     *b"tts:backgroundColor      ",
     *b"tts:backgroundExtent     ",
@@ -176,7 +176,7 @@ const REGION_ATTR_ORDER: [[u8; 25]; 53] = [
     *b"itts:fillLineGap         ",
 ];
 
-const P_INLINE_MODELLED_ATTRS: [[u8; 25]; 6] = [
+pub const P_INLINE_MODELLED_ATTRS: [[u8; 25]; 6] = [
     *b"tts:color                ",
     *b"tts:fontFamily           ",
     *b"tts:fontSize             ",
@@ -185,14 +185,14 @@ const P_INLINE_MODELLED_ATTRS: [[u8; 25]; 6] = [
     *b"tts:textDecoration       ",
 ];
 
-const IMSC1_EXTENSION_PARAMS: [[u8; 25]; 3] = [
+pub const IMSC1_EXTENSION_PARAMS: [[u8; 25]; 3] = [
     *b"activeArea               ",
     *b"aspectRatio              ",
     *b"progressivelyDecodable   ",
 ];
 
 // A row with its name's length.
-fn cut(row: [u8; 25]) -> Name
+pub fn cut(row: [u8; 25]) -> Name
     ensures { λ r. ⌜ Cut row r ⌝ }
 {
     let len = scan::find_byte(&row, 0, b' ');

@@ -1,59 +1,29 @@
--- `contains` says whether the name is an entry. The loop's invariant: it is one exactly if it is one of those from there on.
-use Prim.Native.Nat.{_-_, _≤_}
-use mathlib.Core.Path.{_≡_, refl, sym, _∙_}
-use native.Mathlib.Omega.{arith}
-use lib.ListN.{length, drop}
-use Rattle.names.specs.Lists.{names}
-use Rattle.names.specs.Numbers.{isIn, containsName}
-use Rattle.names.proofs.Entries.{in-hit, in-miss, in-none}
+-- `contains` says whether the name is an entry: it can be only the one with its number.
+use mathlib.Core.Path.{sym, _∙_}
+use Rattle.names.proofs.NameLaws.{number-name, contains-at, contains-nowhere}
 use borrow.Author.Needs.{needs}
 use Rattle.names.proofs.lookup.contains.Statement.{statement}
 use Rattle.names.proofs.lookup.contains.Tie as tie
 
-abbrev Inv-loop : tie.InvT-loop
-Inv-loop list name many i₀ i = (i ≤ many) × (many ≡ length (names list)) × (containsName list name ≡ isIn name (drop i (names list)))
+number-of-requires : tie.Need-number-of-requires
+number-of-requires c κs = search needs
 
-abbrev μ-loop : tie.MeasureT-loop
-μ-loop list name many i₀ i = many - i
+enum-known-i : tie.Need-enum-known-i
+enum-known-i c = search needs
 
-count-requires : tie.Need-count-requires Inv-loop μ-loop
-count-requires c κs = search needs
+is-exactly-requires : tie.Need-is-exactly-requires
+is-exactly-requires c κs = number-name (c .before .before .before .before .before .args .list) (c .before .before .before .before .before .args .name .now) _ (sym (c .before .before .before .number-of .ensures) ∙ c .before .i .given .1) .0
 
-loop-holds : tie.Need-loop-holds Inv-loop μ-loop
-loop-holds c = (search needs, search needs, refl)
+enum-told : tie.Need-enum-told
+enum-told c = search needs
 
-is-exactly-requires : tie.Need-is-exactly-requires Inv-loop μ-loop
-is-exactly-requires c κs = search needs
+returns : tie.Need-returns
+returns c = c .is-exactly .ensures ∙ sym (contains-at (c .before .before .before .before .before .before .args .list) (c .before .before .before .before .before .before .args .name .now) _ (sym (c .before .before .before .before .number-of .ensures) ∙ c .before .before .i .given .1))
 
-returns : tie.Need-returns Inv-loop μ-loop
-returns c =
-    sym
-    (c .before .before .before .loop .inv .2
-    ∙ in-hit (names (c .before .before .before .before .before .before .args .list)) (c .before .before .before .loop .i) (c .before .before .before .before .before .before .args .name .now) (search needs) (sym (c .before .is-exactly .ensures) ∙ c .if1 .taken))
-
-add-i : tie.Need-add-i Inv-loop μ-loop
-add-i c = search needs
-
-loop-less : tie.Need-loop-less Inv-loop μ-loop
-loop-less c = search needs
-
-loop-again : tie.Need-loop-again Inv-loop μ-loop
-loop-again c = (search needs, search needs, c .before .before .before .loop .inv .2 ∙ in-miss (names (c .before .before .before .before .before .before .args .list)) (c .before .before .before .loop .i) (c .before .before .before .before .before .before .args .name .now) (search needs) (sym (c .before .is-exactly .ensures) ∙ c .if1 .left))
-
-returns-2 : tie.Need-returns-2 Inv-loop μ-loop
-returns-2 c = sym (c .before .loop .inv .2 ∙ in-none (names (c .before .before .before .before .args .list)) (c .before .loop .i) (c .before .before .before .before .args .name .now) (search needs))
+returns-2 : tie.Need-returns-2
+returns-2 c = sym (contains-nowhere (c .before .before .before .before .args .list) (c .before .before .before .before .args .name .now) (sym (c .before .before .number-of .ensures) ∙ c .enum-told .given .1))
 
 pub contains-spec : {M : Type 1} → statement M
 contains-spec =
     tie.close
-    (tie.spec
-    Inv-loop
-    μ-loop
-    count-requires
-    loop-holds
-    is-exactly-requires
-    returns
-    add-i
-    loop-less
-    loop-again
-    returns-2)
+    (tie.spec number-of-requires enum-known-i is-exactly-requires enum-told returns returns-2)

@@ -1,59 +1,92 @@
--- `number_of` answers the number of the entry that the name is. The loop's invariant: the name has the number that the entries from there on give it.
-use Prim.Native.Nat.{_-_, _≤_}
-use mathlib.Core.Path.{_≡_, refl, sym, _∙_}
-use native.Mathlib.Omega.{arith}
-use lib.ListN.{length, drop}
-use Rattle.names.specs.Lists.{names}
-use Rattle.names.specs.Numbers.{numberFrom, numberOf}
-use Rattle.names.proofs.Entries.{number-hit, number-miss, number-none}
+-- `number_of` meets its contract: each arm answers for its list.
+use mathlib.Core.Path.{_∙_}
+use Rattle.names.specs.declared.tables.Listed.{Listed}
+use Rattle.names.proofs.Padded.{searched}
 use borrow.Author.Needs.{needs}
 use Rattle.names.proofs.lookup.number_of.Statement.{statement}
 use Rattle.names.proofs.lookup.number_of.Tie as tie
 
-abbrev Inv-loop : tie.InvT-loop
-Inv-loop list name many i₀ i = (i ≤ many) × (many ≡ length (names list)) × (numberOf list name ≡ numberFrom i name (drop i (names list)))
+enum-told : tie.Need-enum-told
+enum-told c = search needs
 
-abbrev μ-loop : tie.MeasureT-loop
-μ-loop list name many i₀ i = many - i
+slice-aggregate-row-of : tie.Need-slice-aggregate-row-of
+slice-aggregate-row-of c = search needs
 
-count-requires : tie.Need-count-requires Inv-loop μ-loop
-count-requires c κs = search needs
+row-of-requires : tie.Need-row-of-requires
+row-of-requires c κs = search needs
 
-loop-holds : tie.Need-loop-holds Inv-loop μ-loop
-loop-holds c = (search needs, search needs, refl)
+enum-told-2 : tie.Need-enum-told-2
+enum-told-2 c = search needs
 
-is-name-requires : tie.Need-is-name-requires Inv-loop μ-loop
-is-name-requires c κs = search needs
+slice-aggregate-row-of-2 : tie.Need-slice-aggregate-row-of-2
+slice-aggregate-row-of-2 c = search needs
 
-returns : tie.Need-returns Inv-loop μ-loop
-returns c =
-    sym
-    (c .before .before .before .loop .inv .2
-    ∙ number-hit (names (c .before .before .before .before .before .before .args .list)) (c .before .before .before .loop .i) (c .before .before .before .before .before .before .args .name .now) (search needs) (sym (c .before .is-name .ensures) ∙ c .if1 .taken))
+row-of-requires-2 : tie.Need-row-of-requires-2
+row-of-requires-2 c κs = search needs
 
-add-i : tie.Need-add-i Inv-loop μ-loop
-add-i c = search needs
+enum-told-3 : tie.Need-enum-told-3
+enum-told-3 c = search needs
 
-loop-less : tie.Need-loop-less Inv-loop μ-loop
-loop-less c = search needs
+slice-aggregate-row-of-3 : tie.Need-slice-aggregate-row-of-3
+slice-aggregate-row-of-3 c = search needs
 
-loop-again : tie.Need-loop-again Inv-loop μ-loop
-loop-again c = (search needs, search needs, c .before .before .before .loop .inv .2 ∙ number-miss (names (c .before .before .before .before .before .before .args .list)) (c .before .before .before .loop .i) (c .before .before .before .before .before .before .args .name .now) (search needs) (sym (c .before .is-name .ensures) ∙ c .if1 .left))
+row-of-requires-3 : tie.Need-row-of-requires-3
+row-of-requires-3 c κs = search needs
 
-returns-2 : tie.Need-returns-2 Inv-loop μ-loop
-returns-2 c = sym (c .before .loop .inv .2 ∙ number-none (names (c .before .before .before .before .args .list)) (c .before .loop .i) (c .before .before .before .before .args .name .now) (search needs))
+enum-told-4 : tie.Need-enum-told-4
+enum-told-4 c = search needs
+
+slice-aggregate-row-of-4 : tie.Need-slice-aggregate-row-of-4
+slice-aggregate-row-of-4 c = search needs
+
+row-of-requires-4 : tie.Need-row-of-requires-4
+row-of-requires-4 c κs = search needs
+
+enum-told-5 : tie.Need-enum-told-5
+enum-told-5 c = search needs
+
+slice-aggregate-row-of-5 : tie.Need-slice-aggregate-row-of-5
+slice-aggregate-row-of-5 c = search needs
+
+row-of-requires-5 : tie.Need-row-of-requires-5
+row-of-requires-5 c κs = search needs
+
+returns : tie.Need-returns
+returns c = rw (c .before .before .enum-told .given .1) (c .row-of .ensures ∙ searched Listed.StyleExtra (c .before .before .before .before .before .args .name .now))
+
+returns-2 : tie.Need-returns-2
+returns-2 c = rw (c .before .before .enum-told2 .given .1) (c .row-of2 .ensures ∙ searched Listed.InlineExtra (c .before .before .before .before .before .args .name .now))
+
+returns-3 : tie.Need-returns-3
+returns-3 c = rw (c .before .before .enum-told3 .given .1) (c .row-of3 .ensures ∙ searched Listed.RegionAttr (c .before .before .before .before .before .args .name .now))
+
+returns-4 : tie.Need-returns-4
+returns-4 c = rw (c .before .before .enum-told4 .given .1) (c .row-of4 .ensures ∙ searched Listed.InlineModelled (c .before .before .before .before .before .args .name .now))
+
+returns-5 : tie.Need-returns-5
+returns-5 c = rw (c .before .before .enum-told5 .given .1) (c .row-of5 .ensures ∙ searched Listed.Imsc1Extension (c .before .before .before .before .before .args .name .now))
 
 pub number-of-spec : {M : Type 1} → statement M
 number-of-spec =
     tie.close
     (tie.spec
-    Inv-loop
-    μ-loop
-    count-requires
-    loop-holds
-    is-name-requires
+    enum-told
+    slice-aggregate-row-of
+    row-of-requires
+    enum-told-2
+    slice-aggregate-row-of-2
+    row-of-requires-2
+    enum-told-3
+    slice-aggregate-row-of-3
+    row-of-requires-3
+    enum-told-4
+    slice-aggregate-row-of-4
+    row-of-requires-4
+    enum-told-5
+    slice-aggregate-row-of-5
+    row-of-requires-5
     returns
-    add-i
-    loop-less
-    loop-again
-    returns-2)
+    returns-2
+    returns-3
+    returns-4
+    returns-5)

@@ -1,7 +1,5 @@
 -- `name_at` meets its contract: each arm answers for its list.
-use native.Mathlib.Omega.{arith}
 use borrow.Author.Needs.{needs}
-use Rattle.names.proofs.NameLaws.{counted}
 use Rattle.names.proofs.tables.name_at.Statement.{statement}
 use Rattle.names.proofs.tables.name_at.Tie as tie
 
