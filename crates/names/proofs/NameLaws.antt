@@ -3,7 +3,7 @@
 --     plain-name, plain-not, plain-attr, plain-ascii, name-run   of what bytes a name is
 --     names-distinct, name-number, folded-number, number-name    number to name and back
 --     contains-name, contained-name, contains-at, contains-nowhere   the same for `contains`
---     inline-is-style, modelled-apart, modelled-not-extra        two lists against each other
+--     inline-is-style, modelled-apart, modelled-not-extra, modelled-or-extra   two lists against each other
 use Prim.Native.Nat.{ℕ, _<_}
 use mathlib.Core.Path.{_≡_, refl, sym, ap, _∙_}
 use mathlib.Core.Bool.{Bool, true, false, _&&_, true≢false}
@@ -15,14 +15,14 @@ use lib.ListN.{length, take, drop}
 use borrow.Author.Tests.{leb-true, ne-eqb}
 use Rattle.scan.specs.Bytes.{blank, attrNameByte, other, runLength}
 use Rattle.scan.specs.Names.{lower, sameBytes, sameFolded}
-use Rattle.scan.proofs.Naming.{same-eq, same-refl, sameFolded-refl}
+use Rattle.scan.proofs.Naming.{same-eq, same-refl, sameFolded-refl, sameFolded-sym}
 use Rattle.names.specs.declared.tables.Listed.{Listed}
 use Rattle.names.specs.declared.tables.Listed.the-variants.{StyleExtra, InlineExtra, RegionAttr, InlineModelled, Imsc1Extension}
 use Rattle.names.specs.declared.lookup.Number.{Number}
 use Rattle.names.specs.Lists.{names, nameOf, styleExtra, inlineExtra, inlineModelled}
 use Rattle.names.specs.Numbers.{numberOf, containsName}
 use Rattle.names.specs.Plain.{plainByte, PlainName}
-use Rattle.names.proofs.Entries.{both, every, every-at, every-as, run-over, differs, distinct, distinct-at, apart, apart-at, number-back, number-there, number-nowhere, at-eq, nothing-at, not-so, in-there, in-back}
+use Rattle.names.proofs.Entries.{both, folded-trans, every, every-at, every-as, run-over, differs, distinct, distinct-at, apart, apart-at, number-back, number-there, number-nowhere, at-eq, nothing-at, not-so, in-there, in-back}
 
 -- ---- the tests
 abbrev pub plainTest : List ℕ → Bool
@@ -169,3 +169,11 @@ module _ (i : ℕ) (h : i < length inlineModelled) where
   pub modelled-not-extra : numberOf InlineExtra (nameOf InlineModelled i) ≡ Number.Nothing
   modelled-not-extra =
       number-nowhere 0 (nameOf InlineModelled i) inlineExtra (every-at (λ (m : List ℕ). every (differs m) inlineExtra) inlineModelled [] apart-tested i h)
+
+-- no text is a name of both, letters in any case
+pub modelled-or-extra : (s : List ℕ) (i j : ℕ) → numberOf InlineModelled s ≡ Number.At i → numberOf InlineExtra s ≡ Number.At j → ⊥
+modelled-or-extra s i j e f =
+    let m = number-name InlineModelled s i e in
+    let x = number-name InlineExtra s j f in
+    let same = folded-trans (nameOf InlineModelled i) s (nameOf InlineExtra j) (sameFolded-sym s (nameOf InlineModelled i) (m .1)) (x .1) in
+    true≢false (sym same ∙ modelled-apart i (m .0) j (x .0))
