@@ -4,7 +4,7 @@ ghost use Prim.Native.Nat.{_≤_, _<_};
 ghost use lib.ListN.{length};
 ghost use Rattle.scan.specs.Names.{sameBytes, sameFolded};
 ghost use Rattle.scan.specs.Posts.{Wrote};
-ghost use Rattle.names.specs.Lists.{names, nameOf};
+ghost use Rattle.names.specs.Lists.{names, nameOf, styleExtra, inlineExtra, regionAttr, inlineModelled, imsc1Extension};
 ghost use Rattle.names.specs.Numbers.{numberOf, numberFrom, containsName};
 ghost use Rattle.names.specs.Posts.{front, fronts};
 use crate::tables::Listed;
@@ -63,31 +63,52 @@ fn row_of(table: &[[u8; 25]], name: &[u8]) -> Number
     Number::Nothing
 }
 
+// The numbers in one list: one function to a list, as the tables have it.
+fn in_style_extra(name: &[u8]) -> Number
+    ensures { λ r. ⌜ r ≡ numberFrom 0 (now (name .entry)) styleExtra ⌝ }
+{
+    let table = crate::tables::STYLE_EXTRA_ORDER;
+    row_of(&table, name)
+}
+
+fn in_inline_extra(name: &[u8]) -> Number
+    ensures { λ r. ⌜ r ≡ numberFrom 0 (now (name .entry)) inlineExtra ⌝ }
+{
+    let table = crate::tables::P_INLINE_EXTRA_ORDER;
+    row_of(&table, name)
+}
+
+fn in_region_attr(name: &[u8]) -> Number
+    ensures { λ r. ⌜ r ≡ numberFrom 0 (now (name .entry)) regionAttr ⌝ }
+{
+    let table = crate::tables::REGION_ATTR_ORDER;
+    row_of(&table, name)
+}
+
+fn in_inline_modelled(name: &[u8]) -> Number
+    ensures { λ r. ⌜ r ≡ numberFrom 0 (now (name .entry)) inlineModelled ⌝ }
+{
+    let table = crate::tables::P_INLINE_MODELLED_ATTRS;
+    row_of(&table, name)
+}
+
+fn in_imsc1_extension(name: &[u8]) -> Number
+    ensures { λ r. ⌜ r ≡ numberFrom 0 (now (name .entry)) imsc1Extension ⌝ }
+{
+    let table = crate::tables::IMSC1_EXTENSION_PARAMS;
+    row_of(&table, name)
+}
+
 // The number of the entry that the name is, letters in any case.
 pub fn number_of(list: Listed, name: &[u8]) -> Number
     ensures { λ r. ⌜ r ≡ numberOf list (now (name .entry)) ⌝ }
 {
     match list {
-        Listed::StyleExtra => {
-            let table = crate::tables::STYLE_EXTRA_ORDER;
-            row_of(&table, name)
-        }
-        Listed::InlineExtra => {
-            let table = crate::tables::P_INLINE_EXTRA_ORDER;
-            row_of(&table, name)
-        }
-        Listed::RegionAttr => {
-            let table = crate::tables::REGION_ATTR_ORDER;
-            row_of(&table, name)
-        }
-        Listed::InlineModelled => {
-            let table = crate::tables::P_INLINE_MODELLED_ATTRS;
-            row_of(&table, name)
-        }
-        Listed::Imsc1Extension => {
-            let table = crate::tables::IMSC1_EXTENSION_PARAMS;
-            row_of(&table, name)
-        }
+        Listed::StyleExtra => in_style_extra(name),
+        Listed::InlineExtra => in_inline_extra(name),
+        Listed::RegionAttr => in_region_attr(name),
+        Listed::InlineModelled => in_inline_modelled(name),
+        Listed::Imsc1Extension => in_imsc1_extension(name),
     }
 }
 
