@@ -1,0 +1,273 @@
+// Five ordered lists of names, as constant tables. A row is a name and blanks up to the longest
+// one's 25 bytes; no name holds a blank, so the first one ends it.
+ghost use mathlib.Core.Path.{_≡_};
+ghost use Prim.Native.Nat.{_<_};
+ghost use lib.ListN.{length};
+ghost use Rattle.names.specs.Lists.{names, nameOf, styleExtra, inlineExtra, regionAttr, inlineModelled, imsc1Extension};
+ghost use Rattle.names.specs.Posts.{Cut, Holds, HoldsAt};
+
+// The lists, after the Rust's constants.
+pub enum Listed {
+    StyleExtra,
+    InlineExtra,
+    RegionAttr,
+    InlineModelled,
+    Imsc1Extension,
+}
+
+// The name is the first `len` bytes; the rest are blanks.
+pub struct Name {
+    pub bytes: [u8; 25],
+    pub len: usize,
+}
+
+pub const STYLE_EXTRA_ORDER: [[u8; 25]; 46] = [
+    *b"tts:backgroundClip       ",
+    *b"tts:backgroundExtent     ",
+    *b"tts:backgroundImage      ",
+    *b"tts:backgroundOrigin     ",
+    *b"tts:backgroundPosition   ",
+    *b"tts:backgroundRepeat     ",
+    *b"tts:border               ",
+    *b"tts:bpd                  ",
+    *b"tts:direction            ",
+    *b"tts:disparity            ",
+    *b"tts:display              ",
+    *b"tts:displayAlign         ",
+    *b"tts:extent               ",
+    *b"tts:fontKerning          ",
+    *b"tts:fontSelectionStrategy",
+    *b"tts:fontShear            ",
+    *b"tts:fontVariant          ",
+    *b"tts:ipd                  ",
+    *b"tts:letterSpacing        ",
+    *b"tts:lineHeight           ",
+    *b"tts:lineShear            ",
+    *b"tts:luminanceGain        ",
+    *b"tts:opacity              ",
+    *b"tts:origin               ",
+    *b"tts:overflow             ",
+    *b"tts:padding              ",
+    *b"tts:position             ",
+    *b"tts:ruby                 ",
+    *b"tts:rubyAlign            ",
+    *b"tts:rubyPosition         ",
+    *b"tts:rubyReserve          ",
+    *b"tts:shear                ",
+    *b"tts:showBackground       ",
+    *b"tts:textAlign            ",
+    *b"tts:textCombine          ",
+    *b"tts:textEmphasis         ",
+    *b"tts:textOrientation      ",
+    *b"tts:textOutline          ",
+    *b"tts:textShadow           ",
+    *b"tts:unicodeBidi          ",
+    *b"tts:visibility           ",
+    *b"tts:wrapOption           ",
+    *b"tts:writingMode          ",
+    *b"tts:zIndex               ",
+    *b"itts:forcedDisplay       ",
+    *b"itts:fillLineGap         ",
+];
+
+pub const P_INLINE_EXTRA_ORDER: [[u8; 25]; 47] = [
+    *b"tts:backgroundClip       ",
+    *b"tts:backgroundColor      ",
+    *b"tts:backgroundExtent     ",
+    *b"tts:backgroundImage      ",
+    *b"tts:backgroundOrigin     ",
+    *b"tts:backgroundPosition   ",
+    *b"tts:backgroundRepeat     ",
+    *b"tts:border               ",
+    *b"tts:bpd                  ",
+    *b"tts:direction            ",
+    *b"tts:disparity            ",
+    *b"tts:display              ",
+    *b"tts:displayAlign         ",
+    *b"tts:extent               ",
+    *b"tts:fontKerning          ",
+    *b"tts:fontSelectionStrategy",
+    *b"tts:fontShear            ",
+    *b"tts:fontVariant          ",
+    *b"tts:ipd                  ",
+    *b"tts:letterSpacing        ",
+    *b"tts:lineHeight           ",
+    *b"tts:lineShear            ",
+    *b"tts:luminanceGain        ",
+    *b"tts:opacity              ",
+    *b"tts:origin               ",
+    *b"tts:overflow             ",
+    *b"tts:padding              ",
+    *b"tts:position             ",
+    *b"tts:ruby                 ",
+    *b"tts:rubyAlign            ",
+    *b"tts:rubyPosition         ",
+    *b"tts:rubyReserve          ",
+    *b"tts:shear                ",
+    *b"tts:showBackground       ",
+    *b"tts:textAlign            ",
+    *b"tts:textCombine          ",
+    *b"tts:textEmphasis         ",
+    *b"tts:textOrientation      ",
+    *b"tts:textOutline          ",
+    *b"tts:textShadow           ",
+    *b"tts:unicodeBidi          ",
+    *b"tts:visibility           ",
+    *b"tts:wrapOption           ",
+    *b"tts:writingMode          ",
+    *b"tts:zIndex               ",
+    *b"itts:forcedDisplay       ",
+    *b"itts:fillLineGap         ",
+];
+
+pub const REGION_ATTR_ORDER: [[u8; 25]; 53] = [
+    *b"tts:backgroundClip       ",
+    *b"tts:backgroundColor      ",
+    *b"tts:backgroundExtent     ",
+    *b"tts:backgroundImage      ",
+    *b"tts:backgroundOrigin     ",
+    *b"tts:backgroundPosition   ",
+    *b"tts:backgroundRepeat     ",
+    *b"tts:border               ",
+    *b"tts:bpd                  ",
+    *b"tts:color                ",
+    *b"tts:direction            ",
+    *b"tts:disparity            ",
+    *b"tts:display              ",
+    *b"tts:displayAlign         ",
+    *b"tts:extent               ",
+    *b"tts:fontFamily           ",
+    *b"tts:fontKerning          ",
+    *b"tts:fontSelectionStrategy",
+    *b"tts:fontShear            ",
+    *b"tts:fontSize             ",
+    *b"tts:fontStyle            ",
+    *b"tts:fontVariant          ",
+    *b"tts:fontWeight           ",
+    *b"tts:ipd                  ",
+    *b"tts:letterSpacing        ",
+    *b"tts:lineHeight           ",
+    *b"tts:lineShear            ",
+    *b"tts:luminanceGain        ",
+    *b"tts:opacity              ",
+    *b"tts:origin               ",
+    *b"tts:overflow             ",
+    *b"tts:padding              ",
+    *b"tts:position             ",
+    *b"tts:ruby                 ",
+    *b"tts:rubyAlign            ",
+    *b"tts:rubyPosition         ",
+    *b"tts:rubyReserve          ",
+    *b"tts:shear                ",
+    *b"tts:showBackground       ",
+    *b"tts:textAlign            ",
+    *b"tts:textCombine          ",
+    *b"tts:textEmphasis         ",
+    *b"tts:textOrientation      ",
+    *b"tts:textOutline          ",
+    *b"tts:textShadow           ",
+    *b"tts:unicodeBidi          ",
+    *b"tts:visibility           ",
+    *b"tts:wrapOption           ",
+    *b"tts:writingMode          ",
+    *b"tts:zIndex               ",
+    *b"style                    ",
+    *b"itts:forcedDisplay       ",
+    *b"itts:fillLineGap         ",
+];
+
+pub const P_INLINE_MODELLED_ATTRS: [[u8; 25]; 6] = [
+    *b"tts:color                ",
+    *b"tts:fontFamily           ",
+    *b"tts:fontSize             ",
+    *b"tts:fontWeight           ",
+    *b"tts:fontStyle            ",
+    *b"tts:textDecoration       ",
+];
+
+pub const IMSC1_EXTENSION_PARAMS: [[u8; 25]; 3] = [
+    *b"activeArea               ",
+    *b"aspectRatio              ",
+    *b"progressivelyDecodable   ",
+];
+
+// A row with its name's length.
+pub fn cut(row: [u8; 25]) -> Name
+    ensures { λ r. ⌜ Cut row r ⌝ }
+{
+    let len = scan::find_byte(&row, 0, b' ');
+    Name { bytes: row, len }
+}
+
+// One function to a list, so that each takes only its own table onto the stack.
+fn style_extra(i: usize) -> Name
+    requires { ⌜ i < 46 ⌝ }
+    ensures { λ r. ⌜ HoldsAt styleExtra i r ⌝ }
+{
+    let table = STYLE_EXTRA_ORDER;
+    let row = table[i];
+    cut(row)
+}
+
+fn inline_extra(i: usize) -> Name
+    requires { ⌜ i < 47 ⌝ }
+    ensures { λ r. ⌜ HoldsAt inlineExtra i r ⌝ }
+{
+    let table = P_INLINE_EXTRA_ORDER;
+    let row = table[i];
+    cut(row)
+}
+
+fn region_attr(i: usize) -> Name
+    requires { ⌜ i < 53 ⌝ }
+    ensures { λ r. ⌜ HoldsAt regionAttr i r ⌝ }
+{
+    let table = REGION_ATTR_ORDER;
+    let row = table[i];
+    cut(row)
+}
+
+fn inline_modelled(i: usize) -> Name
+    requires { ⌜ i < 6 ⌝ }
+    ensures { λ r. ⌜ HoldsAt inlineModelled i r ⌝ }
+{
+    let table = P_INLINE_MODELLED_ATTRS;
+    let row = table[i];
+    cut(row)
+}
+
+fn imsc1_extension(i: usize) -> Name
+    requires { ⌜ i < 3 ⌝ }
+    ensures { λ r. ⌜ HoldsAt imsc1Extension i r ⌝ }
+{
+    let table = IMSC1_EXTENSION_PARAMS;
+    let row = table[i];
+    cut(row)
+}
+
+// How many names a list has.
+pub fn count(list: Listed) -> usize
+    ensures { λ r. ⌜ r ≡ length (names list) ⌝ }
+{
+    match list {
+        Listed::StyleExtra => 46,
+        Listed::InlineExtra => 47,
+        Listed::RegionAttr => 53,
+        Listed::InlineModelled => 6,
+        Listed::Imsc1Extension => 3,
+    }
+}
+
+// A list's i-th name, from 0 on.
+pub fn name_at(list: Listed, i: usize) -> Name
+    requires { ⌜ i < length (names list) ⌝ }
+    ensures { λ r. ⌜ Holds (nameOf list i) r ⌝ }
+{
+    match list {
+        Listed::StyleExtra => style_extra(i),
+        Listed::InlineExtra => inline_extra(i),
+        Listed::RegionAttr => region_attr(i),
+        Listed::InlineModelled => inline_modelled(i),
+        Listed::Imsc1Extension => imsc1_extension(i),
+    }
+}
