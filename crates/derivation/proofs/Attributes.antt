@@ -26,7 +26,8 @@ use Rattle.grammar.proofs.Tests.{by-test}
 use Rattle.grammar.proofs.Scans.{past-is, past-stops}
 use Rattle.grammar.proofs.Ends.{Ends, past-length, attribute-ends}
 use Rattle.grammar.proofs.CountedRounds.{attributesC, attributesC-is}
-use Rattle.derivation.specs.Strings.{stringAt, attrIn}
+use Rattle.scan.specs.Part.{stringAt}
+use Rattle.derivation.specs.Strings.{attrIn}
 use Rattle.derivation.proofs.RunLaws.{string-is, byte-at, left-at, past-drop, run-string, run-stops-at}
 
 -- ---- one attribute

@@ -8,7 +8,8 @@ use Rattle.tree.specs.Read.{TagOut, opened, shut, torn, startAt}
 use Rattle.grammar.specs.Words.{Bytes}
 use Rattle.grammar.specs.Tree.{Tree, element, Forest, none}
 use Rattle.grammar.specs.Counted.{LRes, lok, lbad, lmap, Counted, elementL}
-use Rattle.derivation.specs.Strings.{stringAt, attrsIn}
+use Rattle.scan.specs.Part.{stringAt}
+use Rattle.derivation.specs.Strings.{attrsIn}
 
 -- rec reads the content; n is the tag's name; k nodes may still begin
 unfoldable pub tagCase : Counted Forest → List ℕ → Bytes → ℕ → TagOut → LRes Tree

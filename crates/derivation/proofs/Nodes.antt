@@ -26,7 +26,8 @@ use Rattle.grammar.specs.Reader.{as-text, as-section, as-element}
 use Rattle.grammar.specs.Counted.{LRes, lok, lbad, lmap, lnext, Counted, nodeL, elementL}
 use Rattle.grammar.proofs.Tests.{by-test}
 use Rattle.grammar.proofs.CountedRounds.{contentC}
-use Rattle.derivation.specs.Strings.{stringAt, attrsIn, treeIn}
+use Rattle.scan.specs.Part.{stringAt}
+use Rattle.derivation.specs.Strings.{attrsIn, treeIn}
 use Rattle.derivation.proofs.Cases.{tagCase}
 use Rattle.derivation.proofs.RunLaws.{run-string, past-drop}
 use Rattle.derivation.proofs.SearchLaws.{beyond-at, before-at, starts-whole, passed}

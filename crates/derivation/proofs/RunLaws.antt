@@ -17,13 +17,12 @@ use lib.Seq.{drop-drop, drop-cons}
 use lib.Dec.{leb}
 use borrow.Author.Tests.{leb-true, leb-false}
 use Rattle.scan.specs.Bytes.{runEnd, runLength}
-use Rattle.scan.specs.Part.{part}
+use Rattle.scan.specs.Part.{part, stringAt}
 use Rattle.scan.proofs.Runs.{run-length, run-out}
 use Rattle.grammar.specs.Words.{Bytes, Stops}
 use Rattle.grammar.specs.Scan.{run, past}
 use Rattle.grammar.proofs.Tests.{by-test}
 use Rattle.grammar.proofs.Scans.{past-stops}
-use Rattle.derivation.specs.Strings.{stringAt}
 
 -- ---- the run at the front
 run-take : (t : ℕ → Bool) (z : Bytes) → run t z ≡ take (runLength t z) z

@@ -18,7 +18,7 @@ use Rattle.scan.proofs.Searches.{seek-here, seek-on, seek-out, past-got, past-n
 use Rattle.grammar.specs.Scan.{prefix, from, before, beyond}
 use Rattle.grammar.proofs.Tests.{by-test, eqb-eq, test-sym}
 use Rattle.grammar.proofs.Scans.{prefix-begins}
-use Rattle.derivation.specs.Strings.{stringAt}
+use Rattle.scan.specs.Part.{stringAt}
 use Rattle.derivation.proofs.RunLaws.{string-is, byte-at}
 
 -- what holds from the end on, and at a place if it holds at all later ones, holds everywhere

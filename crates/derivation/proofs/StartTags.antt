@@ -25,7 +25,8 @@ use Rattle.grammar.specs.Reader.{ok, bad, readAttribute, tagEnd, afterSlash, sl
 use Rattle.grammar.specs.Counted.{LRes, lok, lbad, lnext, lmap, lift, Counted, openedAsL, afterOpeningL, afterTagNameL, elementL}
 use Rattle.grammar.proofs.Tests.{by-test}
 use Rattle.grammar.proofs.CountedRounds.{attributesC}
-use Rattle.derivation.specs.Strings.{stringAt, attrIn, attrsIn}
+use Rattle.scan.specs.Part.{stringAt}
+use Rattle.derivation.specs.Strings.{attrIn, attrsIn}
 use Rattle.derivation.proofs.Cases.{tagCase, TagAgrees}
 use Rattle.derivation.proofs.RunLaws.{string-is, byte-at, left-at, past-drop, run-string, run-stops-at}
 use Rattle.derivation.proofs.Attributes.{skipped, AttrAgrees, attribute-agrees, attribute-on, attributes-none, attributes-end, attributes-full, attributes-more}

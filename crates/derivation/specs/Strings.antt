@@ -2,15 +2,11 @@
 -- strings, with entities read. Definitions alone.
 use Prim.Native.Nat.{ℕ, _+_}
 use mathlib.Core.List.{List, [], _∷_}
-use Rattle.scan.specs.Part.{part}
+use Rattle.scan.specs.Part.{stringAt}
 use Rattle.tree.specs.Trees as placed
 use Rattle.tree.specs.Read.{Out, got, nothing, bad}
 use Rattle.grammar.specs.Tree.{Attr, attr, Forest, none, more, text, section, element}
 use Rattle.grammar.specs.Demand.{Result, tree, refused}
-
--- the string of n bytes at p
-unfoldable pub stringAt : List ℕ → ℕ → ℕ → List ℕ
-stringAt z p n = part p (p + n) z
 
 unfoldable pub attrIn : List ℕ → placed.Attr → Attr
 attrIn z x = attr (stringAt z (x .name) (x .nameLen)) (stringAt z (x .value) (x .valueLen))

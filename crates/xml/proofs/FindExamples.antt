@@ -5,7 +5,7 @@ use mathlib.Core.List.{List, [], _∷_, _++_}
 use Prim.Native.Nat.{ℕ}
 use Rattle.scan.specs.Names.{lower, sameFolded, hasColon, afterLastColon}
 use Rattle.tree.specs.Trees as placed
-use Rattle.derivation.specs.Strings.{stringAt}
+use Rattle.scan.specs.Part.{stringAt}
 use Rattle.grammar.specs.Tree.{attr, text, section, element, none, more}
 use Rattle.xml.specs.declared.find.Found.the-variants.{Row}
 use Rattle.xml.specs.declared.find.Value.the-variants.{At}

@@ -17,7 +17,8 @@ use Rattle.tree.specs.Walks.{Stands, Listed, RowIs}
 use Rattle.tree.proofs.Tags.{attrRows-append}
 use Rattle.tree.proofs.Places.{in-whole, in-first, in-rest}
 use Rattle.tree.proofs.Walks.{on-text, on-section, on-elem, on-attrs, room, placed-text, placed-section, placed-elem}
-use Rattle.derivation.specs.Strings.{stringAt, attrIn, attrsIn, treeIn}
+use Rattle.scan.specs.Part.{stringAt}
+use Rattle.derivation.specs.Strings.{attrIn, attrsIn, treeIn}
 use Rattle.xml.specs.declared.find.Found.the-variants.{Row, Nothing}
 use Rattle.xml.specs.declared.find.Place.{Place}
 use Rattle.xml.specs.declared.find.Value.{Value}

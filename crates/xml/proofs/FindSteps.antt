@@ -18,7 +18,7 @@ use Rattle.tree.specs.Walks.{Stands, Listed, RowIs, AttrIs}
 use Rattle.tree.proofs.Tags.{length-attrRows}
 use Rattle.tree.proofs.Places.{in-rest}
 use Rattle.tree.proofs.Walks.{on-text, on-section, on-elem, on-attr, placed-text, placed-section, placed-elem}
-use Rattle.derivation.specs.Strings.{stringAt}
+use Rattle.scan.specs.Part.{stringAt}
 use Rattle.xml.specs.declared.find.Found.the-variants.{Row, Nothing}
 use Rattle.xml.specs.declared.find.Value.the-variants.{At, Absent}
 use Rattle.xml.specs.Find.{named, Siblings, findRow, findValue, Owned, isElement}

@@ -14,7 +14,7 @@ use Rattle.entities.specs.Decode.{decoded}
 use Rattle.entities.proofs.Decoding.{decoded-short}
 use Rattle.tree.specs.Trees.{Attr, Forest, nil, text, section, elem, attrsOf, Span, attrSpans, spans, InOrder}
 use Rattle.tree.proofs.Places.{in-whole}
-use Rattle.derivation.specs.Strings.{stringAt}
+use Rattle.scan.specs.Part.{stringAt}
 use Rattle.xml.specs.Reading.{Placed, attrStrings, strings, lay}
 use Rattle.xml.proofs.PassLaws.{string-short}
 

@@ -20,7 +20,7 @@ use Rattle.tree.proofs.Tags.{length-attrRows}
 use Rattle.tree.proofs.Forests.{length-rows}
 use Rattle.tree.proofs.Places.{in-whole, in-first, in-rest}
 use Rattle.tree.proofs.Walks.{on-text, on-section, on-elem, on-attr}
-use Rattle.derivation.specs.Strings.{stringAt}
+use Rattle.scan.specs.Part.{stringAt}
 use Rattle.xml.specs.Reading.{attrStrings, strings, lay, readAttrs, readForest}
 use Rattle.xml.specs.Passes.{nodePlace, nodeBytes, nodesRead, nodeStringsRead, valueBytes, attrsRead, attrWritten, attrStringsRead}
 use Rattle.xml.proofs.PassLaws.{nodes-after, attrs-after}

@@ -18,7 +18,7 @@ use Rattle.scan.specs.Posts.{Appended}
 use Rattle.scan.proofs.Stores.{sets-other}
 use Rattle.entities.specs.Decode.{decoded}
 use Rattle.entities.proofs.Decoding.{decoded-short}
-use Rattle.derivation.specs.Strings.{stringAt}
+use Rattle.scan.specs.Part.{stringAt}
 use Rattle.xml.specs.Passes.{nodePlace, nodeBytes, nodesRead, nodeStringsRead, NodeReady, valueBytes, attrsRead, attrWritten, attrStringsRead, AttrReady}
 
 -- ---- one row

@@ -14,7 +14,7 @@ use Rattle.tree.specs.Trees.{Forest, size, attrsOf, rows, attrRows, spans, InOr
 use Rattle.tree.specs.Read.{Out, got, nothing, bad, meaning, answerOf, nodesOf, attrCells}
 use Rattle.tree.specs.Walks.{treeOf, Stands, Listed}
 use Rattle.tree.proofs.Places.{in-higher, meaning-placed}
-use Rattle.derivation.specs.Strings.{stringAt}
+use Rattle.scan.specs.Part.{stringAt}
 use Rattle.xml.specs.Reading.{Placed, strings, lay, readForest, raw, readOut, stringsOf}
 use Rattle.xml.proofs.Lays.{lay-length}
 use Rattle.xml.proofs.Parsing.{raw-small, raw-enough, short-text}

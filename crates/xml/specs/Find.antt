@@ -10,7 +10,8 @@ use Rattle.scan.specs.Names.{sameFolded, afterLastColon}
 use Rattle.tree.specs.Trees.{Attr, Forest, nil, text, section, elem, size, attrsOf, spans, InOrder}
 use Rattle.tree.specs.Walks.{Stands, Listed, RowIs}
 use Rattle.grammar.specs.Tree as tree
-use Rattle.derivation.specs.Strings.{stringAt, attrsIn, treeIn}
+use Rattle.scan.specs.Part.{stringAt}
+use Rattle.derivation.specs.Strings.{attrsIn, treeIn}
 use Rattle.xml.specs.declared.find.Found.{Found}
 use Rattle.xml.specs.declared.find.Found.the-variants.{Row, Nothing}
 use Rattle.xml.specs.declared.find.Element.{Element}

@@ -7,7 +7,7 @@ use lib.ListN.{length, getD}
 use lib.Seq.{sets}
 use lib.Dec.{eqb}
 use Rattle.entities.specs.Decode.{decoded}
-use Rattle.derivation.specs.Strings.{stringAt}
+use Rattle.scan.specs.Part.{stringAt}
 
 -- ---- nodes
 -- the place of the string of node k: an element's name stands one byte after its `<`

@@ -10,7 +10,7 @@ use lib.Dec.{ltb}
 use Rattle.entities.specs.Decode.{decoded}
 use Rattle.tree.specs.Trees.{Attr, Forest, nil, text, section, elem}
 use Rattle.tree.specs.Read.{Out, got, nothing, bad, meaning}
-use Rattle.derivation.specs.Strings.{stringAt}
+use Rattle.scan.specs.Part.{stringAt}
 use Prim.Native.Nat.{_+_}
 
 -- ---- strings

@@ -4,7 +4,7 @@ ghost use mathlib.Core.List.{List};
 ghost use Prim.Native.Nat.{ℕ, _+_, _*_, _≤_};
 ghost use lib.ListN.{length, getD};
 ghost use Rattle.scan.specs.Names.{sameFolded};
-ghost use Rattle.derivation.specs.Strings.{stringAt};
+ghost use Rattle.scan.specs.Part.{stringAt};
 ghost use Rattle.tree.specs.Walks.{Stands};
 ghost use Rattle.tree.specs.Trees.{Attr, Forest, size};
 ghost use Rattle.xml.specs.Find.{Siblings, findRow, findValue, Owned, isElement, HasRow, elementRow};

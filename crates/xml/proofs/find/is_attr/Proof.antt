@@ -1,7 +1,7 @@
 -- `is_attr` meets its contract: the name in the strings, compared.
 use mathlib.Core.Path.{_∙_}
 use borrow.Author.Needs.{needs}
-use Rattle.derivation.specs.Strings.{stringAt}
+use Rattle.scan.specs.Part.{stringAt}
 use Rattle.xml.proofs.find.is_attr.Statement.{statement}
 use Rattle.xml.proofs.find.is_attr.Tie as tie
 

@@ -4,7 +4,7 @@ use mathlib.Core.Path.{_∙_}
 use native.Mathlib.Omega.{arith}
 use borrow.Author.Tests.{eq-eqb, ne-eqb}
 use borrow.Author.Needs.{needs}
-use Rattle.derivation.specs.Strings.{stringAt}
+use Rattle.scan.specs.Part.{stringAt}
 use Rattle.xml.specs.Find.{isElement, named}
 use Rattle.xml.proofs.FindSteps.{local-within, local-part}
 use Rattle.xml.proofs.find.is_element.Statement.{statement}
