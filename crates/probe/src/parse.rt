@@ -1,0 +1,45 @@
+// A C name for the tree of a text.
+ghost use mathlib.Core.Path.{_≡_};
+ghost use mathlib.Core.Bool.{cond};
+ghost use lib.ListN.{length};
+ghost use lib.Dec.{leb};
+ghost use Rattle.tree.specs.Read.{answerOf, nodesOf, attrCells};
+ghost use Rattle.xml.specs.Reading.{raw, readOut, stringsOf};
+ghost use Rattle.probe.specs.Answers.{Answered};
+ghost use Rattle.probe.specs.Trees.{treeCode, treeCells};
+use tree::Answer;
+
+// The text's tree in the three tables: 0, or document 01's number. The first three cells of out are the
+// place of a refusal, and how many nodes and attributes a tree has. 2^32 - 1 if there are fewer, then
+// no table is touched.
+#[no_mangle]
+pub extern "C" fn probe_parse_xml(
+    text: &[u8],
+    nodes: &mut [u32],
+    attrs: &mut [u32],
+    strings: &mut [u8],
+    out: &mut [u64],
+) -> u32
+    ensures { λ r. ⌜ Answered (leb 3 (length (now (out .entry)))) (treeCode (answerOf (raw (now (text .entry)) (length (now (nodes .entry))) (length (now (attrs .entry))) (length (now (strings .entry)))))) (treeCells (answerOf (raw (now (text .entry)) (length (now (nodes .entry))) (length (now (attrs .entry))) (length (now (strings .entry)))))) 0xFFFF_FFFF (now (out .entry)) (now (out .exit)) r ⌝ }
+    ensures { λ _. ⌜ now (nodes .exit) ≡ cond (leb 3 (length (now (out .entry)))) (nodesOf (length (now (nodes .entry))) (readOut (now (text .entry)) (raw (now (text .entry)) (length (now (nodes .entry))) (length (now (attrs .entry))) (length (now (strings .entry)))))) (now (nodes .entry)) ⌝ }
+    ensures { λ _. ⌜ now (attrs .exit) ≡ cond (leb 3 (length (now (out .entry)))) (attrCells (length (now (attrs .entry))) (readOut (now (text .entry)) (raw (now (text .entry)) (length (now (nodes .entry))) (length (now (attrs .entry))) (length (now (strings .entry)))))) (now (attrs .entry)) ⌝ }
+    ensures { λ _. ⌜ now (strings .exit) ≡ cond (leb 3 (length (now (out .entry)))) (stringsOf (length (now (strings .entry))) (now (text .entry)) (raw (now (text .entry)) (length (now (nodes .entry))) (length (now (attrs .entry))) (length (now (strings .entry))))) (now (strings .entry)) ⌝ }
+{
+    if out.len() < 3 {
+        return 0xFFFF_FFFF;
+    }
+    match xml::parse_xml(text, nodes, attrs, strings) {
+        Answer::Refused(r) => {
+            out[0] = r.place as u64;
+            out[1] = 0;
+            out[2] = 0;
+            r.number
+        }
+        Answer::Tree { nodes: n, attrs: m } => {
+            out[0] = 0;
+            out[1] = n as u64;
+            out[2] = m as u64;
+            0
+        }
+    }
+}
