@@ -16,8 +16,14 @@ pub const BYTES: usize = 65_536;
 pub struct Bench;
 
 impl Bench {
-    /// Times both sides on an input of so many bytes, in turn, and prints a line.
-    pub fn row<A, B>(&mut self, input: &str, bytes: usize, mut rust: impl FnMut() -> A, mut port: impl FnMut() -> B) {
+    /// Times both sides on an input of so many bytes, in turn, and prints a line. Gives the port's nanoseconds.
+    pub fn row<A, B>(
+        &mut self,
+        input: &str,
+        bytes: usize,
+        mut rust: impl FnMut() -> A,
+        mut port: impl FnMut() -> B,
+    ) -> f64 {
         let (rust_calls, port_calls) = (calls(&mut rust), calls(&mut port));
         let (mut rust_best, mut port_best) = (f64::MAX, f64::MAX);
         for _ in 0..ROUNDS {
@@ -31,6 +37,7 @@ impl Bench {
             port_best / each,
             rust_best / port_best
         );
+        port_best
     }
 
     /// The same on short texts, of which each is asked once. Both answers are compared before.
