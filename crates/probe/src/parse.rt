@@ -1,13 +1,26 @@
 // A C name for the tree of a text.
 ghost use mathlib.Core.Path.{_≡_};
 ghost use mathlib.Core.Bool.{cond};
+ghost use mathlib.Core.List.{[], _∷_};
+ghost use Prim.Native.Nat.{_≤_};
 ghost use lib.ListN.{length};
+ghost use lib.Seq.{sets};
 ghost use lib.Dec.{leb};
 ghost use Rattle.tree.specs.Read.{answerOf, nodesOf, attrCells};
 ghost use Rattle.xml.specs.Reading.{raw, readOut, stringsOf};
 ghost use Rattle.probe.specs.Answers.{Answered};
 ghost use Rattle.probe.specs.Trees.{treeCode, treeCells};
 use tree::Answer;
+
+// A refusal's place and a tree's numbers of nodes and attributes, in the first three cells.
+fn put_counts(out: &mut [u64], place: usize, nodes: usize, attrs: usize)
+    requires { ⌜ 3 ≤ length (now out) ⌝ }
+    ensures { λ _. ⌜ now (out .exit) ≡ sets (now (out .entry)) 0 (place ∷ nodes ∷ attrs ∷ []) ⌝ }
+{
+    out[0] = place as u64;
+    out[1] = nodes as u64;
+    out[2] = attrs as u64;
+}
 
 // The text's tree in the three tables: 0, or document 01's number. The first three cells of out are the
 // place of a refusal, and how many nodes and attributes a tree has. 2^32 - 1 if there are fewer, then
@@ -30,15 +43,11 @@ pub extern "C" fn probe_parse_xml(
     }
     match xml::parse_xml(text, nodes, attrs, strings) {
         Answer::Refused(r) => {
-            out[0] = r.place as u64;
-            out[1] = 0;
-            out[2] = 0;
+            put_counts(out, r.place, 0, 0);
             r.number
         }
         Answer::Tree { nodes: n, attrs: m } => {
-            out[0] = 0;
-            out[1] = n as u64;
-            out[2] = m as u64;
+            put_counts(out, 0, n, m);
             0
         }
     }
