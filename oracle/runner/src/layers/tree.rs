@@ -243,6 +243,13 @@ impl Tables {
         touched(&self.strings, strings, BYTE).then_some(Wrong::Outside("strings"))
     }
 
+    /// The port's number alone, for its time.
+    fn read(&mut self, text: &str) -> u32 {
+        let Tables { nodes, attrs, strings, .. } = self;
+        let (nodes, attrs, strings) = (&mut nodes[..NODES], &mut attrs[..ATTRS], &mut strings[..STRINGS]);
+        port::probe_parse_xml(text.as_bytes(), nodes, attrs, strings, &mut [0; 3])
+    }
+
     /// With fewer than 3 cells for the answer no table is touched.
     fn no_answer(&mut self, run: &mut Run) {
         for length in 0..3 {
@@ -580,41 +587,29 @@ fn hostile(bytes: usize) -> Vec<(&'static str, String)> {
 
 fn bench(bench: &mut Bench) {
     deep(|| {
-        let tables = &mut Tables::new();
+        let (tables, others) = (&mut Tables::new(), &mut Tables::new());
         let (long, short) = (film(60_000), short_film());
         row(bench, tables, "film", &long);
         row(bench, tables, "short film", &short);
-        let half = hostile(BYTES / 2);
-        for ((name, half), (_, whole)) in half.iter().zip(&hostile(BYTES)) {
-            let first = row(bench, tables, name, half);
-            let growth = row(bench, tables, name, whole) / first;
-            println!("    the port's time grows by {growth:.2}");
+        for ((name, half), (_, whole)) in hostile(BYTES / 2).iter().zip(&hostile(BYTES)) {
+            row(bench, tables, name, half);
+            row(bench, tables, name, whole);
+            bench.growth(|| others.read(half), || tables.read(whole));
         }
         println!("The same with expat in the place of the Rust: its handlers count tags and bytes of texts.");
         if expat::FOUND {
-            row_of(bench, tables, "film, expat", &long, || expat::count(&long));
-            row_of(bench, tables, "short film, expat", &short, || expat::count(&short));
+            bench.row("film, expat", long.len(), || expat::count(&long), || tables.read(&long));
+            bench.row("short film, expat", short.len(), || expat::count(&short), || tables.read(&short));
         } else {
             println!("    libexpat was not found when this was built");
         }
     });
 }
 
-/// Times both on a text; gives the port's nanoseconds.
-fn row(bench: &mut Bench, tables: &mut Tables, name: &str, text: &str) -> f64 {
-    row_of(bench, tables, name, text, || access::reads_xml(text))
-}
-
-fn row_of<A>(bench: &mut Bench, tables: &mut Tables, name: &str, text: &str, other: impl FnMut() -> A) -> f64 {
+fn row(bench: &mut Bench, tables: &mut Tables, name: &str, text: &str) {
     let document = document::read(text.as_bytes());
-    let refusal = document.refusal();
+    let number = document.refusal().map_or(0, |refusal| refusal.number);
     assert_eq!(access::reads_xml(text).is_none(), document.error.is_some(), "document 01 differs on {name}");
-    let mut out = [0; 3];
-    let Tables { nodes, attrs, strings, .. } = tables;
-    let (nodes, attrs, strings) = (&mut nodes[..NODES], &mut attrs[..ATTRS], &mut strings[..STRINGS]);
-    let number = port::probe_parse_xml(text.as_bytes(), nodes, attrs, strings, &mut out);
-    assert_eq!(number, refusal.map_or(0, |refusal| refusal.number), "parse_xml differs on {name}");
-    bench.row(&format!("parse_xml, {name}"), text.len(), other, || {
-        port::probe_parse_xml(text.as_bytes(), nodes, attrs, strings, &mut out)
-    })
+    assert_eq!(tables.read(text), number, "parse_xml differs on {name}");
+    bench.row(&format!("parse_xml, {name}"), text.len(), || access::reads_xml(text), || tables.read(text));
 }
