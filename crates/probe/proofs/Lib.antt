@@ -5,3 +5,4 @@ pub mod Cells
 pub mod Colors
 pub mod Decimals
 pub mod Times
+pub mod Trees

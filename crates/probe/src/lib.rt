@@ -2,6 +2,7 @@
 // caller: each tests what the function below it asks.
 mod color;
 mod decimal;
+mod parse;
 mod time;
 
 pub use color::probe_color;
@@ -12,6 +13,7 @@ pub use decimal::probe_is_size;
 pub use decimal::probe_size;
 pub use decimal::probe_size_width;
 pub use decimal::probe_truncate;
+pub use parse::probe_parse_xml;
 pub use time::probe_format_ts;
 pub use time::probe_time;
 ghost use mathlib.Core.Path.{_≡_};

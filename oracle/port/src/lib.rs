@@ -73,6 +73,16 @@ exports! {
     /// As `probe_escape_text`.
     fn probe_escape_attr(text: &[u8], out: &mut [u8]) -> usize;
 
+    /// 0: the tree stands in the three tables; else document 01's number, 1 to 11. `out` is the place of a refusal, and
+    /// how many nodes and attributes a tree has. `u32::MAX` if it has fewer than 3 cells; then no table is touched.
+    fn probe_parse_xml(
+        text: &[u8],
+        nodes: &mut [u32],
+        attrs: &mut [u32],
+        strings: &mut [u8],
+        out: &mut [u64]
+    ) -> u32;
+
     /// 0: no decimal; 1: one, and `out` is its digits, how many of them stand behind the point, and 1 for a minus;
     /// 2: one past the limits. 3 if `out` has fewer than 3 cells, or the limits are above 18 or 2^32 - 1.
     fn probe_decimal(text: &[u8], digits: u64, decimals: u64, out: &mut [u64]) -> u32;

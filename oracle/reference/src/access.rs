@@ -45,3 +45,8 @@ pub fn parse_xml(src: &str) -> Result<Vec<Tree>> {
     }
     super::parse_xml(src).map(shown)
 }
+
+/// The same for its time alone: the Rust's tree is made and dropped. How many nodes it has at top level.
+pub fn reads_xml(src: &str) -> Option<usize> {
+    super::parse_xml(src).ok().map(|nodes| nodes.len())
+}

@@ -16,14 +16,9 @@ pub const BYTES: usize = 65_536;
 pub struct Bench;
 
 impl Bench {
-    /// Times both sides on an input of so many bytes, in turn, and prints a line.
-    pub fn row<A, B>(&mut self, input: &str, bytes: usize, mut rust: impl FnMut() -> A, mut port: impl FnMut() -> B) {
-        let (rust_calls, port_calls) = (calls(&mut rust), calls(&mut port));
-        let (mut rust_best, mut port_best) = (f64::MAX, f64::MAX);
-        for _ in 0..ROUNDS {
-            rust_best = rust_best.min(round(rust_calls, &mut rust));
-            port_best = port_best.min(round(port_calls, &mut port));
-        }
+    /// Times both sides on an input of so many bytes, and prints a line.
+    pub fn row<A, B>(&mut self, input: &str, bytes: usize, rust: impl FnMut() -> A, port: impl FnMut() -> B) {
+        let (rust_best, port_best) = in_turn(rust, port);
         let each = bytes as f64;
         println!(
             "{input:42} {bytes:>8} {:>13.3} {:>13.3} {:>8.2}",
@@ -31,6 +26,12 @@ impl Bench {
             port_best / each,
             rust_best / port_best
         );
+    }
+
+    /// Times the port on two inputs, and prints how much longer the second takes.
+    pub fn growth<A, B>(&mut self, first: impl FnMut() -> A, second: impl FnMut() -> B) {
+        let (first_best, second_best) = in_turn(first, second);
+        println!("    the port's time grows by {:.2}", second_best / first_best);
     }
 
     /// The same on short texts, of which each is asked once. Both answers are compared before.
@@ -66,6 +67,17 @@ fn each<A>(texts: &[String], side: impl Fn(&str) -> A) {
     for text in texts {
         black_box(side(black_box(text)));
     }
+}
+
+/// The nanoseconds of one call of each, the best of rounds in turn.
+fn in_turn<A, B>(mut first: impl FnMut() -> A, mut second: impl FnMut() -> B) -> (f64, f64) {
+    let (first_calls, second_calls) = (calls(&mut first), calls(&mut second));
+    let (mut first_best, mut second_best) = (f64::MAX, f64::MAX);
+    for _ in 0..ROUNDS {
+        first_best = first_best.min(round(first_calls, &mut first));
+        second_best = second_best.min(round(second_calls, &mut second));
+    }
+    (first_best, second_best)
 }
 
 /// How many calls make a round.

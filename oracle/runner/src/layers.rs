@@ -6,14 +6,23 @@ pub mod entities;
 pub mod numerals;
 pub mod scan;
 pub mod times;
+pub mod tree;
 pub mod utf8;
 
 use crate::bench::Bench;
 use crate::compare::Run;
 use crate::record::Recording;
 
-pub static LAYERS: &[Layer] =
-    &[utf8::LAYER, scan::LAYER, numerals::LAYER, entities::LAYER, decimals::LAYER, times::LAYER, colors::LAYER];
+pub static LAYERS: &[Layer] = &[
+    utf8::LAYER,
+    scan::LAYER,
+    numerals::LAYER,
+    entities::LAYER,
+    tree::LAYER,
+    decimals::LAYER,
+    times::LAYER,
+    colors::LAYER,
+];
 
 pub struct Layer {
     pub name: &'static str,
