@@ -1,0 +1,3 @@
+pub mod Track
+pub mod Tables
+pub mod Meaning

@@ -1,0 +1,4 @@
+// The track in lent tables.
+mod strings;
+
+pub use strings::Span;
