@@ -11,7 +11,9 @@ use lib.Ieee.{Float, fin}
 use Rattle.colors.specs.declared.read.Rgba.{Rgba}
 use Rattle.decimals.specs.declared.size.Size.{Size}
 use Rattle.track.specs.declared.strings.Span.{Span}
-use Rattle.track.specs.Track.{Align, Extra, Extras, Param, Style, Region, Rgb, Wrapper, Segments, Cue, Track}
+use Rattle.track.specs.declared.segments.Font.{Font}
+use Rattle.track.specs.declared.segments.Segment.{Segment}
+use Rattle.track.specs.Track.{Align, Extra, Extras, Param, Style, Region, Wrapper, Segments, Cue, Track}
 use Rattle.track.specs.Track as track
 
 pub record Tables : Type 0 where
@@ -108,84 +110,95 @@ alignAt c =
 unfoldable pub chainAt : ℕ → ℕ → Option Span
 chainAt p n = cond (eqb n 0) none (some (span p n))
 
-unfoldable pub styleAt : Tables → ℕ → Style Span ℕ
+unfoldable pub styleAt : (styles : List ℕ) (sizes : List Float) (extras : List ℕ) → ℕ → Style Span ℕ
 unfolding cell given colorAt sizeAt alignAt chainAt
-styleAt T i =
-    let c = cell 27 (T .styles) i in
+styleAt t f e i =
+    let c = cell 27 t i in
     record {
       name = span (c 0) (c 1);
       chain = chainAt (c 2) (c 3);
-      color = colorAt (T .styles) (i * 27 + 4);
-      back = colorAt (T .styles) (i * 27 + 9);
+      color = colorAt t (i * 27 + 4);
+      back = colorAt t (i * 27 + 9);
       family = given (c 14) (span (c 15) (c 16));
-      size = sizeAt (c 17) (c 18) (c 19) (sizeCell (T .sizes) (16384 + i));
+      size = sizeAt (c 17) (c 18) (c 19) (sizeCell f (16384 + i));
       bold = eqb (c 20) 1;
       italic = eqb (c 21) 1;
       underline = eqb (c 22) 1;
       strike = eqb (c 23) 1;
       align = alignAt (c 24);
-      extras = extrasAt (T .extras) (c 25) (c 26);
+      extras = extrasAt e (c 25) (c 26);
     }
 
 -- ---- regions: id, extras
-unfoldable pub regionAt : Tables → ℕ → Region Span ℕ
+unfoldable pub regionAt : (regions extras : List ℕ) → ℕ → Region Span ℕ
 unfolding cell
-regionAt T i =
-    let c = cell 4 (T .regions) i in
-    record { id = span (c 0) (c 1); extras = extrasAt (T .extras) (c 2) (c 3) }
+regionAt t e i =
+    let c = cell 4 t i in
+    record { id = span (c 0) (c 1); extras = extrasAt e (c 2) (c 3) }
 
 -- ---- segments: 0 kind, 1 rows of its subtree, itself included; then, by its kind
 --     1 text: 2 place, 3 length, in `texts`     2 break     3 timestamp: its time is cell i of `reveal`
 --     4 bold     5 italic     6 underline     7 strike     8 colour: 2 red, 3 green, 4 blue
 --     9 font: 2 family (present, place, length), 5 size (sign, digits, scale; its f32 is cell i of `sizes`)
-pub data Piece (S : Type 0) : Type 0 where
-  a-text : S → Piece S
-  a-break : Piece S
-  a-timestamp : ℤ → Piece S
-  a-wrapper : Wrapper S → Piece S
+-- (an unknown kind is no segment: `Meaning`)
+module _ (t : List ℕ) (r : List ℤ) (f : List Float) where
+  unfoldable pub fontAt : ℕ → Font
+  unfolding cell
+  fontAt i =
+      let c = cell 8 t i in
+      record {
+        «has_family» = eqb (c 2) 1;
+        family = span (c 3) (c 4);
+        «has_size» = not (eqb (c 5) 0);
+        size = record { value = sizeCell f i; negative = eqb (c 5) 2; digits = c 6; scale = c 7 };
+      }
 
-unfoldable pub fontAt : Tables → ℕ → Wrapper Span
-unfolding cell given sizeAt
-fontAt T i =
-    let c = cell 8 (T .segments) i in
-    track.font (given (c 2) (span (c 3) (c 4))) (sizeAt (c 5) (c 6) (c 7) (sizeCell (T .sizes) i))
+  unfoldable pub segmentAt : ℕ → Segment
+  unfolding cell fontAt
+  segmentAt i =
+      let c = cell 8 t i in
+      cond (eqb (c 0) 1) (Segment.Text (span (c 2) (c 3)))
+      (cond (eqb (c 0) 2) Segment.Break
+      (cond (eqb (c 0) 3) (Segment.Timestamp (getD r i (pos 0)))
+      (cond (eqb (c 0) 4) Segment.Bold
+      (cond (eqb (c 0) 5) Segment.Italic
+      (cond (eqb (c 0) 6) Segment.Underline
+      (cond (eqb (c 0) 7) Segment.Strike
+      (cond (eqb (c 0) 8) (Segment.Color (record { r = c 2; g = c 3; b = c 4 }))
+      (Segment.Font (fontAt i)))))))))
 
-unfoldable pub pieceAt : Tables → ℕ → Piece Span
-unfolding cell fontAt
-pieceAt T i =
-    let c = cell 8 (T .segments) i in
-    cond (eqb (c 0) 1) (a-text (span (c 2) (c 3)))
-    (cond (eqb (c 0) 2) a-break
-    (cond (eqb (c 0) 3) (a-timestamp (getD (T .reveal) i (pos 0)))
-    (cond (eqb (c 0) 4) (a-wrapper track.bold)
-    (cond (eqb (c 0) 5) (a-wrapper track.italic)
-    (cond (eqb (c 0) 6) (a-wrapper track.underline)
-    (cond (eqb (c 0) 7) (a-wrapper track.strike)
-    (cond (eqb (c 0) 8) (a-wrapper (track.color (record { r = c 2; g = c 3; b = c 4 })))
-    (a-wrapper (fontAt T i)))))))))
-
-abbrev pub rowsAt : Tables → ℕ → ℕ
-rowsAt T i = cell 8 (T .segments) i 1
+-- the wrapper of a font
+abbrev pub fontOf : Font → Wrapper Span
+fontOf x = track.font (cond (x .«has_family») (some (x .family)) none) (cond (x .«has_size») (some (x .size)) none)
 
 -- a segment with its children and its later siblings
-abbrev pub with-rest : {S : Type 0} → Piece S → Segments S → Segments S → Segments S
-with-rest (a-text s) c x = track.text s x
-with-rest a-break c x = track.break x
-with-rest (a-timestamp t) c x = track.timestamp t x
-with-rest (a-wrapper w) c x = track.wrap w c x
+abbrev pub followedBy : Segment → Segments Span → Segments Span → Segments Span
+followedBy (Segment.Text s) c x = track.text s x
+followedBy Segment.Break c x = track.break x
+followedBy (Segment.Timestamp t) c x = track.timestamp t x
+followedBy Segment.Bold c x = track.wrap track.bold c x
+followedBy Segment.Italic c x = track.wrap track.italic c x
+followedBy Segment.Underline c x = track.wrap track.underline c x
+followedBy Segment.Strike c x = track.wrap track.strike c x
+followedBy (Segment.Color y) c x = track.wrap (track.color y) c x
+followedBy (Segment.Font y) c x = track.wrap (fontOf y) c x
 
--- the segments in n rows from row i on, of which the first k are passed over; `kids m j` are those in m rows from row j on
-unfoldable pub siblingsAt : Tables → (ℕ → ℕ → Segments Span) → (n k i : ℕ) → Segments Span
-unfolding pieceAt
-siblingsAt T kids zero k i = track.done
-siblingsAt T kids (suc n) (suc k) i = siblingsAt T kids n k (i + 1)
-siblingsAt T kids (suc n) zero i = with-rest (pieceAt T i) (kids (rowsAt T i - 1) (i + 1)) (siblingsAt T kids n (rowsAt T i - 1) (i + 1))
+module _ (t : List ℕ) (r : List ℤ) (f : List Float) where
+  abbrev pub rowsAt : ℕ → ℕ
+  rowsAt i = cell 8 t i 1
 
--- the same, nested at most d
-unfoldable pub segmentsAt : Tables → (d n i : ℕ) → Segments Span
-unfolding siblingsAt
-segmentsAt T zero n i = track.done
-segmentsAt T (suc d) n i = siblingsAt T (segmentsAt T d) n 0 i
+  -- the segments in n rows from row i on, of which the first k are passed over; `kids m j` are those in m rows from row j on
+  unfoldable pub siblingsAt : (ℕ → ℕ → Segments Span) → (n k i : ℕ) → Segments Span
+  unfolding cell segmentAt
+  siblingsAt kids zero k i = track.done
+  siblingsAt kids (suc n) (suc k) i = siblingsAt kids n k (i + 1)
+  siblingsAt kids (suc n) zero i = followedBy (segmentAt t r f i) (kids (rowsAt i - 1) (i + 1)) (siblingsAt kids n (rowsAt i - 1) (i + 1))
+
+  -- the same, nested at most d
+  unfoldable pub segmentsAt : (d n i : ℕ) → Segments Span
+  unfolding siblingsAt
+  segmentsAt zero n i = track.done
+  segmentsAt (suc d) n i = siblingsAt (segmentsAt d) n 0 i
 
 -- ---- cues: 0 style (present, place, length), 3 region (present, place, length), 6 preserve, 7 segments (first row, number of rows), 9 extras
 -- (first row, number of rows); begin and end are cells 2 i and 2 i + 1 of `times`
@@ -200,7 +213,7 @@ cueAt T i =
       region = given (c 3) (span (c 4) (c 5));
       preserve = eqb (c 6) 1;
       extras = extrasAt (T .extras) (c 9) (c 10);
-      segments = segmentsAt T 512 (c 8) (c 7);
+      segments = segmentsAt (T .segments) (T .reveal) (T .sizes) 512 (c 8) (c 7);
     }
 
 -- ---- the whole
@@ -214,7 +227,7 @@ unfolding langAt paramAt styleAt regionAt cueAt rowsFrom
 trackAt T = record {
   lang = langAt (T .head);
   params = rowsFrom (paramAt (T .params)) (paramCount (T .head)) 0;
-  styles = rowsFrom (styleAt T) (styleCount (T .head)) 0;
-  regions = rowsFrom (regionAt T) (regionCount (T .head)) 0;
+  styles = rowsFrom (styleAt (T .styles) (T .sizes) (T .extras)) (styleCount (T .head)) 0;
+  regions = rowsFrom (regionAt (T .regions) (T .extras)) (regionCount (T .head)) 0;
   cues = rowsFrom (cueAt T) (cueCount (T .head)) 0;
 }

@@ -10,6 +10,7 @@ use mathlib.Core.Option.{Option, none, some}
 use lib.IntN.{ℤ}
 use Rattle.colors.specs.declared.read.Rgba.{Rgba}
 use Rattle.decimals.specs.declared.size.Size.{Size}
+use Rattle.track.specs.declared.segments.Rgb.{Rgb}
 
 -- the Rust's `TextAlign`
 pub data Align : Type 0 where
@@ -49,11 +50,6 @@ pub record Region (S E : Type 0) : Type 0 where
   pub extras : Extras S E
 
 -- "A segment is text, a break, a timestamp, or a wrapper with its data."
-pub record Rgb : Type 0 where
-  pub r : ℕ
-  pub g : ℕ
-  pub b : ℕ
-
 pub data Wrapper (S : Type 0) : Type 0 where
   bold italic underline strike : Wrapper S
   color : Rgb → Wrapper S

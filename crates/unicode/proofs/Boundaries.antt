@@ -32,4 +32,3 @@ module _ (s : List ℕ) (i : ℕ) where
     unfolding boundary
     boundary-above g =
         rw (ne-eqb i 0 n, ne-eqb i (length s) (λ e. omega arith), lt-leb (getD s i 0) 0xBF g, and-false)
-
