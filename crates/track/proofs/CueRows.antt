@@ -1,0 +1,70 @@
+-- Cues, one after the other. Assumes nothing.
+--     cue-values-not, cue-from-not, cue-room-not, cue-is     a cue, by its tests
+--     cues-out, cues-off, cues-on                            a row more of them
+--     cue-within                                             the segments of a cue are among all
+--     cue-row                                                each row is a cue whose segments begin where its cell 7 says
+use Prim.Native.Nat.{ℕ, zero, suc, _+_, _*_, _≤_, _<_}
+use mathlib.Core.Path.{_≡_, refl, sym, _∙_}
+use mathlib.Core.Bool.{Bool, true, false, _&&_, and-false}
+use mathlib.Core.List.{List}
+use native.Mathlib.Omega.{arith}
+use native.Mathlib.Nat.{add-zero}
+use lib.Dec.{eqb, leb}
+use lib.Ieee.{Float}
+use borrow.Author.Tests.{eqb-true, leb-true, eq-eqb, ne-eqb, le-leb, lt-leb}
+use Rattle.decimals.proofs.Tests.{both}
+use Rattle.track.specs.Tables.{cell}
+use Rattle.track.specs.Meaning.{cueValues, areSegments, isCue, areCues}
+use Rattle.track.proofs.StringLaws.{four}
+
+module _ (t e g : List ℕ) (f : List Float) (z y : List ℕ) (most from i : ℕ) where
+  pub cue-values-not : cueValues t e z i ≡ false → isCue t e g f z y most from i ≡ false
+  unfolding isCue
+  cue-values-not v = rw v
+
+  pub cue-from-not : (cell 11 t i 7 ≡ from → ⊥) → isCue t e g f z y most from i ≡ false
+  unfolding isCue
+  cue-from-not n = rw (ne-eqb (cell 11 t i 7) from n, and-false (cueValues t e z i))
+
+  pub cue-room-not : most < from + cell 11 t i 8 → isCue t e g f z y most from i ≡ false
+  unfolding isCue
+  cue-room-not h = rw (lt-leb (from + cell 11 t i 8) most h, and-false (cueValues t e z i && eqb (cell 11 t i 7) from))
+
+  pub cue-is : cueValues t e z i ≡ true → cell 11 t i 7 ≡ from → from + cell 11 t i 8 ≤ most → isCue t e g f z y most from i ≡ areSegments g f z y 512 (cell 11 t i 8) from
+  unfolding isCue
+  cue-is v w h = rw (v, eq-eqb (cell 11 t i 7) from w, le-leb (from + cell 11 t i 8) most h)
+
+  cue-parts : isCue t e g f z y most from i ≡ true → (cell 11 t i 7 ≡ from) × (from + cell 11 t i 8 ≤ most)
+  unfolding isCue
+  cue-parts h =
+      let a = four (cueValues t e z i) (eqb (cell 11 t i 7) from) (leb (from + cell 11 t i 8) most) (areSegments g f z y 512 (cell 11 t i 8) from) h in
+      (eqb-true (cell 11 t i 7) from (a .1), leb-true (from + cell 11 t i 8) most (a .2))
+
+  pub cue-within : isCue t e g f z y most from i ≡ true → from + cell 11 t i 8 ≤ most
+  cue-within h = cue-parts h .1
+
+  cue-here : isCue t e g f z y most from i ≡ true → (isCue t e g f z y most (cell 11 t i 7) i ≡ true) × (cell 11 t i 7 + cell 11 t i 8 ≤ most)
+  cue-here h = rw (cue-parts h .0) (h, cue-parts h .1)
+
+  pub cues-out : (n : ℕ) → n ≡ 0 → areCues t e g f z y most from n i ≡ eqb from most
+  unfolding areCues
+  cues-out n w = rw w
+
+  pub cues-off : (n m : ℕ) → n ≡ suc m → isCue t e g f z y most from i ≡ false → areCues t e g f z y most from n i ≡ false
+  unfolding areCues
+  cues-off n m w h = rw (w, h)
+
+  pub cues-on : (n m : ℕ) → n ≡ suc m → isCue t e g f z y most from i ≡ true → areCues t e g f z y most from n i ≡ areCues t e g f z y most (from + cell 11 t i 8) m (i + 1)
+  unfolding areCues
+  cues-on n m w h = rw (w, h)
+
+module _ (t e g : List ℕ) (f : List Float) (z y : List ℕ) (most : ℕ) where
+  pub cue-row : (from n i j : ℕ) → areCues t e g f z y most from n i ≡ true → j < n
+      → (isCue t e g f z y most (cell 11 t (i + j) 7) (i + j) ≡ true) × (cell 11 t (i + j) 7 + cell 11 t (i + j) 8 ≤ most)
+  unfolding areCues
+  cue-row from zero i j h l = absurd (omega arith)
+  cue-row from (suc n) i zero h l =
+      rw (add-zero i) (cue-here t e g f z y most from i (both (isCue t e g f z y most from i) (areCues t e g f z y most (from + cell 11 t i 8) n (i + 1)) h .0))
+  cue-row from (suc n) i (suc j) h l =
+      let q : i + suc j ≡ i + 1 + j = omega arith in
+      rw q (cue-row (from + cell 11 t i 8) n (i + 1) j (both (isCue t e g f z y most from i) (areCues t e g f z y most (from + cell 11 t i 8) n (i + 1)) h .1) (omega arith))
