@@ -1,11 +1,11 @@
 -- Cues, one after the other. Assumes nothing.
 --     cue-values-not, cue-from-not, cue-room-not, cue-is     a cue, by its tests
---     cues-out, cues-off, cues-on                            a row more of them
+--     cues-stop, cues-next, cues-done                        a row more of them
 --     cue-within                                             the segments of a cue are among all
 --     cue-row                                                each row is a cue whose segments begin where its cell 7 says
-use Prim.Native.Nat.{ℕ, zero, suc, _+_, _*_, _≤_, _<_}
-use mathlib.Core.Path.{_≡_, refl, sym, _∙_}
-use mathlib.Core.Bool.{Bool, true, false, _&&_, and-false}
+use Prim.Native.Nat.{ℕ, zero, suc, _+_, _-_, _≤_, _<_}
+use mathlib.Core.Path.{_≡_}
+use mathlib.Core.Bool.{true, false, _&&_, and-false}
 use mathlib.Core.List.{List}
 use native.Mathlib.Omega.{arith}
 use native.Mathlib.Nat.{add-zero}
@@ -46,17 +46,26 @@ module _ (t e g : List ℕ) (f : List Float) (z y : List ℕ) (most from i : ℕ
   cue-here : isCue t e g f z y most from i ≡ true → (isCue t e g f z y most (cell 11 t i 7) i ≡ true) × (cell 11 t i 7 + cell 11 t i 8 ≤ most)
   cue-here h = rw (cue-parts h .0) (h, cue-parts h .1)
 
-  pub cues-out : (n : ℕ) → n ≡ 0 → areCues t e g f z y most from n i ≡ eqb from most
-  unfolding areCues
-  cues-out n w = rw w
+  -- as a loop over i does it: the n - i rows from row i on
+  module _ (n : ℕ) where
+    pub cues-stop : i < n → isCue t e g f z y most from i ≡ false → areCues t e g f z y most from (n - i) i ≡ false
+    unfolding areCues
+    cues-stop l h =
+        let w : n - i ≡ suc (n - (i + 1)) = omega arith in
+        rw (w, h)
 
-  pub cues-off : (n m : ℕ) → n ≡ suc m → isCue t e g f z y most from i ≡ false → areCues t e g f z y most from n i ≡ false
-  unfolding areCues
-  cues-off n m w h = rw (w, h)
+    pub cues-next : i < n → isCue t e g f z y most from i ≡ true
+        → areCues t e g f z y most from (n - i) i ≡ areCues t e g f z y most (from + cell 11 t i 8) (n - (i + 1)) (i + 1)
+    unfolding areCues
+    cues-next l h =
+        let w : n - i ≡ suc (n - (i + 1)) = omega arith in
+        rw (w, h)
 
-  pub cues-on : (n m : ℕ) → n ≡ suc m → isCue t e g f z y most from i ≡ true → areCues t e g f z y most from n i ≡ areCues t e g f z y most (from + cell 11 t i 8) m (i + 1)
-  unfolding areCues
-  cues-on n m w h = rw (w, h)
+    pub cues-done : n ≤ i → areCues t e g f z y most from (n - i) i ≡ eqb from most
+    unfolding areCues
+    cues-done l =
+        let w : n - i ≡ 0 = omega arith in
+        rw w
 
 module _ (t e g : List ℕ) (f : List Float) (z y : List ℕ) (most : ℕ) where
   pub cue-row : (from n i j : ℕ) → areCues t e g f z y most from n i ≡ true → j < n
