@@ -14,7 +14,7 @@ use Rattle.decimals.proofs.Tests.{both}
 use Rattle.track.specs.Tables.{Tables, cueCount, segmentCount, stringsUsed, textsUsed}
 use Rattle.track.specs.Meaning.{areCues, withinLimits, bytesMean, rowsMean, isTrack}
 use Rattle.track.specs.Check.{rowsFull, restFull, isFull}
-use Rattle.track.proofs.StringLaws.{three, four}
+use Rattle.track.proofs.StringLaws.{four}
 
 -- ---- lengths and counts
 pub record RowsLong (h p s r c g e : ℕ) : Type 0 where

@@ -1,13 +1,14 @@
 -- What the check answers, exactly. Assumes nothing.
 --     check-short, check-none, check-track     its answer where a table is short, where the tables mean none, and where they mean one
+--     track-some, track-none                   what the tables then hold
 --     accepted-exactly                         of tables as long as they must be it accepts those that hold a track
 --     refused-exactly, short-exactly           it answers 17 where they hold none, and 1 where one is short
 use Prim.Native.Nat.{ℕ}
 use mathlib.Core.Path.{_≡_, sym, ap, _∙_}
-use mathlib.Core.Bool.{Bool, true, false}
+use mathlib.Core.Bool.{true, false}
 use mathlib.Core.List.{List}
 use mathlib.Core.Logic.{_↔_}
-use mathlib.Core.Option.{Option, none, some}
+use mathlib.Core.Option.{none, some}
 use native.Mathlib.Omega.{arith}
 use Rattle.unicode.proofs.Utf8Laws.{by-test}
 use Rattle.track.specs.declared.check.Check.{Check}
@@ -23,7 +24,7 @@ numberOf (Check.Refused r) = r .number
 differ : {A : Type 0} {x y : Check} → x ≡ y → (numberOf x ≡ numberOf y → ⊥) → A
 differ e d = absurd (d (ap numberOf e))
 
-no-some : {A B : Type 0} {b : B} → none ≡ some b → A
+pub no-some : {A B : Type 0} {b : B} → none ≡ some b → A
 no-some e = let z : _≡_ {A = ℕ} 0 1 = cc in absurd (omega arith)
 
 module _ (T : Tables) where
@@ -39,11 +40,11 @@ module _ (T : Tables) where
   unfolding checkOf
   check-track f e = rw (f, e)
 
-  track-some : isTrack T ≡ true → trackIn T ≡ some (withBytes T (trackAt T))
+  pub track-some : isTrack T ≡ true → trackIn T ≡ some (withBytes T (trackAt T))
   unfolding trackIn
   track-some e = rw e
 
-  track-none : isTrack T ≡ false → trackIn T ≡ none
+  pub track-none : isTrack T ≡ false → trackIn T ≡ none
   unfolding trackIn
   track-none e = rw e
 

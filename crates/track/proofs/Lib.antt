@@ -8,3 +8,4 @@ pub mod Exactly
 pub mod Answers
 pub mod CueRows
 pub mod Accepted
+pub mod Valid
