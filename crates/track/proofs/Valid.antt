@@ -125,8 +125,12 @@ module _ (s : List ℕ) (u : ℕ) (h : isUtf8 (take u s) ≡ true) where
   style-utf8 t f e i w =
       let c : ℕ → ℕ = λ j. getD t (i * 27 + j) 0 in
       let a = four (styleStrings t (take u s) (i * 27)) (styleValues t (sizeCell f (16384 + i)) (i * 27)) (styleFlags t (i * 27)) (hasExtras e (take u s) 46 (c 25) (c 26)) w in
-      let b = three (isSpan (take u s) (getD t (i * 27) 0) (c 1)) (isSpan (take u s) (c 2) (c 3)) (isOptional (take u s) (c 14) (c 15) (c 16)) (a .0) in
-      (rw (add-zero (i * 27)) (string-ok s u h (getD t (i * 27) 0) (c 1) (b .0)), chain-ok (c 2) (c 3) (b .1), optional-ok (c 14) (c 15) (c 16) (b .2), extras-ok e 46 (c 25) (c 26) (a .3))
+      let b = three (isSpan (take u s) (getD t (i * 27) 0) (c 1)) (isSpan (take u s) (c 2) (c 3)) (isOptional (take u s) (c 14) (c 15) (c 16)) (a .0) in (
+        rw (add-zero (i * 27)) (string-ok s u h (getD t (i * 27) 0) (c 1) (b .0)),
+        chain-ok (c 2) (c 3) (b .1),
+        optional-ok (c 14) (c 15) (c 16) (b .2),
+        extras-ok e 46 (c 25) (c 26) (a .3),
+      )
 
   pub region-utf8 : (t e : List ℕ) (i : ℕ) → isRegion t e (take u s) i ≡ true → OfRegion Utf8 (regionWith (bytesAt s) noRow (regionAt t e i))
   unfolding isRegion regionAt regionWith
@@ -160,7 +164,8 @@ module _ (s : List ℕ) (u : ℕ) (h : isUtf8 (take u s) ≡ true) where
       siblings-utf8 kids ks w (suc n) (suc k) i e = siblings-utf8 kids ks w n k (i + 1) e
       siblings-utf8 kids ks w (suc n) zero i e =
           let m = cell 8 t i 1 in
-          let a = both (isSegment t f (take u s) (take v x) i && ltb 0 m && leb m (suc n) && kids (m - 1) (i + 1)) (areSiblings t f (take u s) (take v x) kids n (m - 1) (i + 1)) e in
+          let a = both (isSegment t f (take u s) (take v x) i && ltb 0 m && leb m (suc n) && kids (m - 1) (i + 1))
+          (areSiblings t f (take u s) (take v x) kids n (m - 1) (i + 1)) e in
           let b = four (isSegment t f (take u s) (take v x) i) (ltb 0 m) (leb m (suc n)) (kids (m - 1) (i + 1)) (a .0) in
           followed-utf8 (segmentAt t r f i) m (segment-holds t r f (take u s) (take v x) i (b .0)) (ks (m - 1) (i + 1)) (siblingsAt t r f ks n (m - 1) (i + 1))
           (w (m - 1) (i + 1) (b .3)) (siblings-utf8 kids ks w n (m - 1) (i + 1) (a .1))
@@ -175,9 +180,14 @@ module _ (s : List ℕ) (u : ℕ) (h : isUtf8 (take u s) ≡ true) where
     unfolding isCue cueValues cueAt cueWith
     cue-utf8 T most i e =
         let c : ℕ → ℕ = cell 11 (T .cues) i in
-        let a = four (cueValues (T .cues) (T .extras) (take u s) i) (eqb (c 7) (c 7)) (leb (c 7 + c 8) most) (areSegments (T .segments) (T .sizes) (take u s) (take v x) 512 (c 8) (c 7)) e in
-        let b = four (isOptional (take u s) (c 0) (c 1) (c 2)) (isOptional (take u s) (c 3) (c 4) (c 5)) (isFlag (c 6)) (hasExtras (T .extras) (take u s) 47 (c 9) (c 10)) (a .0) in
-        (optional-ok (c 0) (c 1) (c 2) (b .0), optional-ok (c 3) (c 4) (c 5) (b .1), extras-ok (T .extras) 47 (c 9) (c 10) (b .3), segments-utf8 (T .segments) (T .reveal) (T .sizes) 512 (c 8) (c 7) (a .3))
+        let a = four (cueValues (T .cues) (T .extras) (take u s) i) (eqb (c 7) (c 7)) (leb (c 7 + c 8) most)
+        (areSegments (T .segments) (T .sizes) (take u s) (take v x) 512 (c 8) (c 7)) e in
+        let b = four (isOptional (take u s) (c 0) (c 1) (c 2)) (isOptional (take u s) (c 3) (c 4) (c 5)) (isFlag (c 6)) (hasExtras (T .extras) (take u s) 47 (c 9) (c 10)) (a .0) in (
+          optional-ok (c 0) (c 1) (c 2) (b .0),
+          optional-ok (c 3) (c 4) (c 5) (b .1),
+          extras-ok (T .extras) 47 (c 9) (c 10) (b .3),
+          segments-utf8 (T .segments) (T .reveal) (T .sizes) 512 (c 8) (c 7) (a .3),
+        )
 
 -- ---- the whole
 pub track-utf8 : (T : Tables) → isTrack T ≡ true → OfTrack Utf8 (withBytes T (trackAt T))
@@ -190,9 +200,12 @@ track-utf8 T h =
     let b = texts-ok T h in (
       optional-ok s u a (getD t 5 0) (getD t 6 0) (getD t 7 0) (lang-ok T h),
       of-rows (OfParam Utf8) (paramWith (bytesAt s) noRow) (paramAt (T .params)) (paramCount t) 0 (λ j l. param-utf8 s u a (T .params) j (param-ok T h j (omega arith))),
-      of-rows (OfStyle Utf8) (styleWith (bytesAt s) noRow) (styleAt (T .styles) (T .sizes) (T .extras)) (styleCount t) 0 (λ j l. style-utf8 s u a (T .styles) (T .sizes) (T .extras) j (style-ok T h j (omega arith))),
-      of-rows (OfRegion Utf8) (regionWith (bytesAt s) noRow) (regionAt (T .regions) (T .extras)) (regionCount t) 0 (λ j l. region-utf8 s u a (T .regions) (T .extras) j (region-ok T h j (omega arith))),
-      of-rows (OfCue Utf8) (cueWith (bytesAt s) noRow (bytesAt (T .texts))) (cueAt T) (cueCount t) 0 (λ j l. cue-utf8 s u a (T .texts) (textsUsed t) b T (segmentCount t) j (cue-ok T h j (omega arith) .0)),
+      of-rows (OfStyle Utf8) (styleWith (bytesAt s) noRow) (styleAt (T .styles) (T .sizes) (T .extras)) (styleCount t) 0
+          (λ j l. style-utf8 s u a (T .styles) (T .sizes) (T .extras) j (style-ok T h j (omega arith))),
+      of-rows (OfRegion Utf8) (regionWith (bytesAt s) noRow) (regionAt (T .regions) (T .extras)) (regionCount t) 0
+          (λ j l. region-utf8 s u a (T .regions) (T .extras) j (region-ok T h j (omega arith))),
+      of-rows (OfCue Utf8) (cueWith (bytesAt s) noRow (bytesAt (T .texts))) (cueAt T) (cueCount t) 0
+          (λ j l. cue-utf8 s u a (T .texts) (textsUsed t) b T (segmentCount t) j (cue-ok T h j (omega arith) .0)),
     )
 
 pub accepted-utf8 : (T : Tables) (k : Track (List ℕ) (Unit {0})) → trackIn T ≡ some k → OfTrack Utf8 k

@@ -33,7 +33,16 @@ is-optional-requires c κs = search needs
 
 returns-3 : tie.Need-returns-3
 unfolding bytesMean
-returns-3 c = rw (holds (c .before .before .before .before .before .before .before .is-utf8 .ensures) (c .before .before .before .before .before .before .if1 .left), holds (c .before .before .before .before .before .is-utf82 .ensures) (c .before .before .before .before .if2 .left), c .is-optional .ensures, c .before .before .before .get .ensures, c .before .before .get2 .ensures, c .before .get3 .ensures)
+returns-3 c =
+    let d = c .before .before .before .before in
+    rw (
+      holds (d .before .before .before .is-utf8 .ensures) (d .before .before .if1 .left),
+      holds (d .before .is-utf82 .ensures) (d .if2 .left),
+      c .is-optional .ensures,
+      c .before .before .before .get .ensures,
+      c .before .before .get2 .ensures,
+      c .before .get3 .ensures,
+    )
 
 pub bytes-mean-spec : {M : Type 1} → statement M
 bytes-mean-spec =

@@ -16,7 +16,8 @@ refused-requires : tie.Need-refused-requires
 refused-requires c κs = search needs
 
 returns : tie.Need-returns
-returns c = c .refused .ensures ∙ sym (check-short _ (full-rows _ (fails (c .before .before .rows-full .ensures) (c .before .if1 .taken))))
+returns c =
+    c .refused .ensures ∙ sym (check-short _ (full-rows _ (fails (c .before .before .rows-full .ensures) (c .before .if1 .taken))))
 
 rest-full-requires : tie.Need-rest-full-requires
 rest-full-requires c κs = search needs
@@ -25,10 +26,13 @@ refused-requires-2 : tie.Need-refused-requires-2
 refused-requires-2 c κs = search needs
 
 returns-2 : tie.Need-returns-2
-returns-2 c = c .refused2 .ensures ∙ sym (check-short _ (full-rest _ (holds (c .before .before .before .before .rows-full .ensures) (c .before .before .before .if1 .left)) (fails (c .before .before .rest-full .ensures) (c .before .if2 .taken))))
+returns-2 c =
+    let r = (holds (c .before .before .before .before .rows-full .ensures) (c .before .before .before .if1 .left)) in
+    c .refused2 .ensures ∙ sym (check-short _ (full-rest _ r (fails (c .before .before .rest-full .ensures) (c .before .if2 .taken))))
 
 within-limits-requires : tie.Need-within-limits-requires
-within-limits-requires c κs = rows-long _ _ _ _ _ _ _ (holds (c .before .before .before .rows-full .ensures) (c .before .before .if1 .left)) .head
+within-limits-requires c κs =
+    rows-long _ _ _ _ _ _ _ (holds (c .before .before .before .rows-full .ensures) (c .before .before .if1 .left)) .head
 
 refused-requires-3 : tie.Need-refused-requires-3
 refused-requires-3 c κs = search needs
@@ -40,7 +44,9 @@ returns-3 c =
     c .refused3 .ensures ∙ sym (check-none _ (full-is _ r s) (track-limits _ (fails (c .before .before .within-limits .ensures) (c .before .if3 .taken))))
 
 get-requires : tie.Need-get-requires
-get-requires c κs = omega (arith, rows-long _ _ _ _ _ _ _ (holds (c .before .before .before .before .before .rows-full .ensures) (c .before .before .before .before .if1 .left)) .head)
+get-requires c κs =
+    let d = c in
+    omega (arith, rows-long _ _ _ _ _ _ _ (holds (d .before .before .before .before .before .rows-full .ensures) (d .before .before .before .before .if1 .left)) .head)
 
 get-requires-2 : tie.Need-get-requires-2
 get-requires-2 c κs =
@@ -50,16 +56,18 @@ get-requires-2 c κs =
 slice-aggregate-bytes-mean : tie.Need-slice-aggregate-bytes-mean
 slice-aggregate-bytes-mean c =
     let d = c .before .before in
+    let e = d .before .before .before .before .before .before in
     let m = rest-long _ _ _ _ _ (holds (d .before .before .before .before .rest-full .ensures) (d .before .before .before .if2 .left)) in
     let k = limits-low _ (holds (d .before .before .within-limits .ensures) (d .before .if3 .left)) in
-    sym (length-take-le _ (d .before .before .before .before .before .before .before .before .before .before .before .before .before .before .before .before .before .args .strings .now) (omega (arith, m .strings, k .strings, d .get .ensures)))
+    sym (length-take-le _ (e .before .before .before .before .before .before .before .before .before .before .before .args .strings .now) (omega (arith, m .strings, k .strings, d .get .ensures)))
 
 slice-aggregate-bytes-mean-2 : tie.Need-slice-aggregate-bytes-mean-2
 slice-aggregate-bytes-mean-2 c =
     let d = c .before .before in
+    let e = d .before .before .before .before .before .before .before in
     let m = rest-long _ _ _ _ _ (holds (d .before .before .before .before .before .rest-full .ensures) (d .before .before .before .before .if2 .left)) in
     let k = limits-low _ (holds (d .before .before .before .within-limits .ensures) (d .before .before .if3 .left)) in
-    sym (length-take-le _ (d .before .before .before .before .before .before .before .before .before .before .before .before .before .before .before .before .before .before .args .texts .now) (omega (arith, m .texts, k .texts, d .get2 .ensures)))
+    sym (length-take-le _ (e .before .before .before .before .before .before .before .before .before .before .before .args .texts .now) (omega (arith, m .texts, k .texts, d .get2 .ensures)))
 
 bytes-mean-requires : tie.Need-bytes-mean-requires
 bytes-mean-requires c κs =
@@ -81,9 +89,10 @@ returns-4 c =
 slice-aggregate-rows-mean : tie.Need-slice-aggregate-rows-mean
 slice-aggregate-rows-mean c =
     let d = c .before .before .before .before .before .before in
+    let e = d .before .before .before .before .before .before in
     let m = rest-long _ _ _ _ _ (holds (d .before .before .before .before .rest-full .ensures) (d .before .before .before .if2 .left)) in
     let k = limits-low _ (holds (d .before .before .within-limits .ensures) (d .before .if3 .left)) in
-    sym (length-take-le _ (d .before .before .before .before .before .before .before .before .before .before .before .before .before .before .before .before .before .args .strings .now) (omega (arith, m .strings, k .strings, d .get .ensures)))
+    sym (length-take-le _ (e .before .before .before .before .before .before .before .before .before .before .before .args .strings .now) (omega (arith, m .strings, k .strings, d .get .ensures)))
 
 rows-mean-requires : tie.Need-rows-mean-requires
 rows-mean-requires c κs =
@@ -98,12 +107,13 @@ refused-requires-5 c κs = search needs
 
 returns-5 : tie.Need-returns-5
 returns-5 c =
-    let d = c .before .before .before .before .before .before .before .before in
-    let r = (holds (d .before .before .before .before .before .before .before .rows-full .ensures) (d .before .before .before .before .before .before .if1 .left)) in
-    let s = (holds (d .before .before .before .before .before .rest-full .ensures) (d .before .before .before .before .if2 .left)) in
-    let w = (holds (d .before .before .before .within-limits .ensures) (d .before .before .if3 .left)) in
-    let b = rw (d .before .get .ensures, d .get2 .ensures) at (holds (c .before .before .before .before .before .bytes-mean .ensures) (c .before .before .before .before .if4 .left)) in
-    let p = rw (d .before .get .ensures) at (fails (c .before .before .rows-mean .ensures) (c .before .if5 .taken)) in
+    let d = c .before .before .before .before in
+    let e = d .before .before .before .before in
+    let r = (holds (e .before .before .before .before .before .before .before .rows-full .ensures) (e .before .before .before .before .before .before .if1 .left)) in
+    let s = (holds (e .before .before .before .before .before .rest-full .ensures) (e .before .before .before .before .if2 .left)) in
+    let w = (holds (e .before .before .before .within-limits .ensures) (e .before .before .if3 .left)) in
+    let b = rw (e .before .get .ensures, e .get2 .ensures) at (holds (d .before .bytes-mean .ensures) (d .if4 .left)) in
+    let p = rw (e .before .get .ensures) at (fails (c .before .before .rows-mean .ensures) (c .before .if5 .taken)) in
     c .refused5 .ensures ∙ sym (check-none _ (full-is _ r s) (track-rows _ w b p))
 
 get-requires-3 : tie.Need-get-requires-3
@@ -119,48 +129,59 @@ get-requires-4 c κs =
 slice-aggregate-are-cues : tie.Need-slice-aggregate-are-cues
 slice-aggregate-are-cues c =
     let d = c .before .before .before .before .before .before .before .before .before .before .before in
+    let e = d .before .before .before .before .before .before in
     let m = rest-long _ _ _ _ _ (holds (d .before .before .before .before .rest-full .ensures) (d .before .before .before .if2 .left)) in
     let k = limits-low _ (holds (d .before .before .within-limits .ensures) (d .before .if3 .left)) in
-    sym (length-take-le _ (d .before .before .before .before .before .before .before .before .before .before .before .before .before .before .before .before .before .args .strings .now) (omega (arith, m .strings, k .strings, d .get .ensures)))
+    sym (length-take-le _ (e .before .before .before .before .before .before .before .before .before .before .before .args .strings .now) (omega (arith, m .strings, k .strings, d .get .ensures)))
 
 slice-aggregate-are-cues-2 : tie.Need-slice-aggregate-are-cues-2
 slice-aggregate-are-cues-2 c =
     let d = c .before .before .before .before .before .before .before .before .before .before .before in
+    let e = d .before .before .before .before .before .before .before in
     let m = rest-long _ _ _ _ _ (holds (d .before .before .before .before .before .rest-full .ensures) (d .before .before .before .before .if2 .left)) in
     let k = limits-low _ (holds (d .before .before .before .within-limits .ensures) (d .before .before .if3 .left)) in
-    sym (length-take-le _ (d .before .before .before .before .before .before .before .before .before .before .before .before .before .before .before .before .before .before .args .texts .now) (omega (arith, m .texts, k .texts, d .get2 .ensures)))
+    sym (length-take-le _ (e .before .before .before .before .before .before .before .before .before .before .before .args .texts .now) (omega (arith, m .texts, k .texts, d .get2 .ensures)))
 
 are-cues-requires : tie.Need-are-cues-requires
 are-cues-requires c κs =
-    let d = c .before .before .before .before .before .before .before .before .before .before .before .before .before in
-    let l = rows-long _ _ _ _ _ _ _ (holds (d .before .before .before .before .before .rows-full .ensures) (d .before .before .before .before .if1 .left)) in
-    let m = rest-long _ _ _ _ _ (holds (d .before .before .before .rest-full .ensures) (d .before .before .if2 .left)) in
-    let k = limits-low _ (holds (d .before .within-limits .ensures) (d .if3 .left)) in
-    (omega (arith, l .cues, k .cues, c .before .before .before .get3 .ensures), l .extras, omega (arith, l .segments, k .segments, c .before .before .get4 .ensures), omega (arith, m .sizes, k .segments, c .before .before .get4 .ensures))
+    let d = c .before .before .before in
+    let e = d .before .before .before .before .before .before .before .before .before .before in
+    let l = rows-long _ _ _ _ _ _ _ (holds (e .before .before .before .before .before .rows-full .ensures) (e .before .before .before .before .if1 .left)) in
+    let m = rest-long _ _ _ _ _ (holds (e .before .before .before .rest-full .ensures) (e .before .before .if2 .left)) in
+    let k = limits-low _ (holds (e .before .within-limits .ensures) (e .if3 .left)) in (
+      omega (arith, l .cues, k .cues, d .get3 .ensures),
+      l .extras,
+      omega (arith, l .segments, k .segments, c .before .before .get4 .ensures),
+      omega (arith, m .sizes, k .segments, c .before .before .get4 .ensures),
+    )
 
 refused-requires-6 : tie.Need-refused-requires-6
 refused-requires-6 c κs = search needs
 
 returns-6 : tie.Need-returns-6
 returns-6 c =
-    let d = c .before .before .before .before .before .before .before .before .before .before .before .before .before .before in
-    let r = (holds (d .before .before .before .before .before .before .before .rows-full .ensures) (d .before .before .before .before .before .before .if1 .left)) in
-    let s = (holds (d .before .before .before .before .before .rest-full .ensures) (d .before .before .before .before .if2 .left)) in
-    let w = (holds (d .before .before .before .within-limits .ensures) (d .before .before .if3 .left)) in
-    let b = rw (d .before .get .ensures, d .get2 .ensures) at (holds (c .before .before .before .before .before .before .before .before .before .before .before .bytes-mean .ensures) (c .before .before .before .before .before .before .before .before .before .before .if4 .left)) in
-    let p = rw (d .before .get .ensures) at (holds (c .before .before .before .before .before .before .before .before .rows-mean .ensures) (c .before .before .before .before .before .before .before .if5 .left)) in
-    let q = rw (d .before .get .ensures, d .get2 .ensures, c .before .before .before .before .before .before .get3 .ensures, c .before .before .before .before .before .get4 .ensures) at (fails (c .before .before .are-cues .ensures) (c .before .if6 .taken)) in
+    let d = c .before .before .before .before .before .before .before in
+    let e = d .before .before .before in
+    let f = e .before .before .before .before in
+    let r = (holds (f .before .before .before .before .before .before .before .rows-full .ensures) (f .before .before .before .before .before .before .if1 .left)) in
+    let s = (holds (f .before .before .before .before .before .rest-full .ensures) (f .before .before .before .before .if2 .left)) in
+    let w = (holds (f .before .before .before .within-limits .ensures) (f .before .before .if3 .left)) in
+    let b = rw (f .before .get .ensures, f .get2 .ensures) at (holds (e .before .bytes-mean .ensures) (e .if4 .left)) in
+    let p = rw (f .before .get .ensures) at (holds (d .before .rows-mean .ensures) (d .if5 .left)) in
+    let q = rw (f .before .get .ensures, f .get2 .ensures, c .before .before .before .before .before .before .get3 .ensures, c .before .before .before .before .before .get4 .ensures) at (fails (c .before .before .are-cues .ensures) (c .before .if6 .taken)) in
     c .refused6 .ensures ∙ sym (check-none _ (full-is _ r s) (track-cues _ w b p q))
 
 returns-7 : tie.Need-returns-7
 returns-7 c =
-    let d = c .before .before .before .before .before .before .before .before .before .before .before .before .before in
-    let r = (holds (d .before .before .before .before .before .before .before .rows-full .ensures) (d .before .before .before .before .before .before .if1 .left)) in
-    let s = (holds (d .before .before .before .before .before .rest-full .ensures) (d .before .before .before .before .if2 .left)) in
-    let w = (holds (d .before .before .before .within-limits .ensures) (d .before .before .if3 .left)) in
-    let b = rw (d .before .get .ensures, d .get2 .ensures) at (holds (c .before .before .before .before .before .before .before .before .before .before .bytes-mean .ensures) (c .before .before .before .before .before .before .before .before .before .if4 .left)) in
-    let p = rw (d .before .get .ensures) at (holds (c .before .before .before .before .before .before .before .rows-mean .ensures) (c .before .before .before .before .before .before .if5 .left)) in
-    let q = rw (d .before .get .ensures, d .get2 .ensures, c .before .before .before .before .before .get3 .ensures, c .before .before .before .before .get4 .ensures) at (holds (c .before .are-cues .ensures) (c .if6 .left)) in
+    let d = c .before .before .before .before .before .before in
+    let e = d .before .before .before in
+    let f = e .before .before .before .before in
+    let r = (holds (f .before .before .before .before .before .before .before .rows-full .ensures) (f .before .before .before .before .before .before .if1 .left)) in
+    let s = (holds (f .before .before .before .before .before .rest-full .ensures) (f .before .before .before .before .if2 .left)) in
+    let w = (holds (f .before .before .before .within-limits .ensures) (f .before .before .if3 .left)) in
+    let b = rw (f .before .get .ensures, f .get2 .ensures) at (holds (e .before .bytes-mean .ensures) (e .if4 .left)) in
+    let p = rw (f .before .get .ensures) at (holds (d .before .rows-mean .ensures) (d .if5 .left)) in
+    let q = rw (f .before .get .ensures, f .get2 .ensures, c .before .before .before .before .before .get3 .ensures, c .before .before .before .before .get4 .ensures) at (holds (c .before .are-cues .ensures) (c .if6 .left)) in
     sym (check-track _ (full-is _ r s) (track-is _ w b p q))
 
 pub check-track-spec : {M : Type 1} → statement M

@@ -46,7 +46,13 @@ returns-5 : tie.Need-returns-5
 unfolding rowsFull
 returns-5 c =
     let a = c .before .before .before .before .before .args in
-    rw (le-leb 10 (a .head) (omega arith), le-leb 256 (a .params) (omega arith), le-leb 6912 (a .styles) (omega arith), le-leb 1024 (a .regions) (omega arith), lt-leb 22528 (a .cues) (omega arith))
+    rw (
+      le-leb 10 (a .head) (omega arith),
+      le-leb 256 (a .params) (omega arith),
+      le-leb 6912 (a .styles) (omega arith),
+      le-leb 1024 (a .regions) (omega arith),
+      lt-leb 22528 (a .cues) (omega arith),
+    )
 
 mul-if6 : tie.Need-mul-if6
 mul-if6 c = search needs
@@ -55,7 +61,14 @@ returns-6 : tie.Need-returns-6
 unfolding rowsFull
 returns-6 c =
     let a = c .before .before .before .before .before .before .args in
-    rw (le-leb 10 (a .head) (omega arith), le-leb 256 (a .params) (omega arith), le-leb 6912 (a .styles) (omega arith), le-leb 1024 (a .regions) (omega arith), le-leb 22528 (a .cues) (omega arith), lt-leb 131072 (a .segments) (omega arith))
+    rw (
+      le-leb 10 (a .head) (omega arith),
+      le-leb 256 (a .params) (omega arith),
+      le-leb 6912 (a .styles) (omega arith),
+      le-leb 1024 (a .regions) (omega arith),
+      le-leb 22528 (a .cues) (omega arith),
+      lt-leb 131072 (a .segments) (omega arith),
+    )
 
 mul-result : tie.Need-mul-result
 mul-result c = search needs
@@ -64,7 +77,14 @@ returns-7 : tie.Need-returns-7
 unfolding rowsFull
 returns-7 c =
     let a = c .before .before .before .before .before .before .args in
-    rw (le-leb 10 (a .head) (omega arith), le-leb 256 (a .params) (omega arith), le-leb 6912 (a .styles) (omega arith), le-leb 1024 (a .regions) (omega arith), le-leb 22528 (a .cues) (omega arith), le-leb 131072 (a .segments) (omega arith))
+    rw (
+      le-leb 10 (a .head) (omega arith),
+      le-leb 256 (a .params) (omega arith),
+      le-leb 6912 (a .styles) (omega arith),
+      le-leb 1024 (a .regions) (omega arith),
+      le-leb 22528 (a .cues) (omega arith),
+      le-leb 131072 (a .segments) (omega arith),
+    )
 
 pub rows-full-spec : {M : Type 1} → statement M
 rows-full-spec =

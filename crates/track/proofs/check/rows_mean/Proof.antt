@@ -23,7 +23,12 @@ are-styles-requires c κs = search needs
 
 returns-2 : tie.Need-returns-2
 unfolding rowsMean
-returns-2 c = rw (rw (c .before .before .before .before .before .get .ensures) at (holds (c .before .before .before .before .are-params .ensures) (c .before .before .before .if1 .left)), rw (c .before .before .get2 .ensures) at (fails (c .before .are-styles .ensures) (c .if2 .taken)))
+returns-2 c =
+    let d = c .before .before .before in
+    rw (
+      rw (d .before .before .get .ensures) at (holds (d .before .are-params .ensures) (d .if1 .left)),
+      rw (c .before .before .get2 .ensures) at (fails (c .before .are-styles .ensures) (c .if2 .taken)),
+    )
 
 get-requires-3 : tie.Need-get-requires-3
 get-requires-3 c κs = search needs
@@ -33,7 +38,15 @@ are-regions-requires c κs = search needs
 
 returns-3 : tie.Need-returns-3
 unfolding rowsMean
-returns-3 c = rw (rw (c .before .before .before .before .before .before .before .get .ensures) at (holds (c .before .before .before .before .before .before .are-params .ensures) (c .before .before .before .before .before .if1 .left)), rw (c .before .before .before .before .get2 .ensures) at (holds (c .before .before .before .are-styles .ensures) (c .before .before .if2 .left)), c .are-regions .ensures, c .before .get3 .ensures)
+returns-3 c =
+    let d = c .before .before in
+    let e = d .before .before .before in
+    rw (
+      rw (e .before .before .get .ensures) at (holds (e .before .are-params .ensures) (e .if1 .left)),
+      rw (d .before .before .get2 .ensures) at (holds (d .before .are-styles .ensures) (d .if2 .left)),
+      c .are-regions .ensures,
+      c .before .get3 .ensures,
+    )
 
 pub rows-mean-spec : {M : Type 1} → statement M
 rows-mean-spec =

@@ -13,8 +13,8 @@ get-requires c κs = search needs
 returns : tie.Need-returns
 unfolding withinLimits
 returns c =
-    let a = c .before .before .before .args in
-    rw (lt-leb (getD (a .head .now) 0 0) 64 (omega arith))
+    let t = c .before .before .before .args .head .now in
+    rw (lt-leb (getD t 0 0) 64 (omega arith))
 
 get-requires-2 : tie.Need-get-requires-2
 get-requires-2 c κs = search needs
@@ -22,8 +22,8 @@ get-requires-2 c κs = search needs
 returns-2 : tie.Need-returns-2
 unfolding withinLimits
 returns-2 c =
-    let a = c .before .before .before .before .before .args in
-    rw (le-leb (getD (a .head .now) 0 0) 64 (omega arith), lt-leb (getD (a .head .now) 1 0) 256 (omega arith))
+    let t = c .before .before .before .before .before .args .head .now in
+    rw (le-leb (getD t 0 0) 64 (omega arith), lt-leb (getD t 1 0) 256 (omega arith))
 
 get-requires-3 : tie.Need-get-requires-3
 get-requires-3 c κs = search needs
@@ -31,8 +31,8 @@ get-requires-3 c κs = search needs
 returns-3 : tie.Need-returns-3
 unfolding withinLimits
 returns-3 c =
-    let a = c .before .before .before .before .before .before .before .args in
-    rw (le-leb (getD (a .head .now) 0 0) 64 (omega arith), le-leb (getD (a .head .now) 1 0) 256 (omega arith), lt-leb (getD (a .head .now) 2 0) 256 (omega arith))
+    let t = c .before .before .before .before .before .before .before .args .head .now in
+    rw (le-leb (getD t 0 0) 64 (omega arith), le-leb (getD t 1 0) 256 (omega arith), lt-leb (getD t 2 0) 256 (omega arith))
 
 get-requires-4 : tie.Need-get-requires-4
 get-requires-4 c κs = search needs
@@ -40,8 +40,8 @@ get-requires-4 c κs = search needs
 returns-4 : tie.Need-returns-4
 unfolding withinLimits
 returns-4 c =
-    let a = c .before .before .before .before .before .before .before .before .before .args in
-    rw (le-leb (getD (a .head .now) 0 0) 64 (omega arith), le-leb (getD (a .head .now) 1 0) 256 (omega arith), le-leb (getD (a .head .now) 2 0) 256 (omega arith), lt-leb (getD (a .head .now) 3 0) 2048 (omega arith))
+    let t = c .before .before .before .before .before .before .before .before .before .args .head .now in
+    rw (le-leb (getD t 0 0) 64 (omega arith), le-leb (getD t 1 0) 256 (omega arith), le-leb (getD t 2 0) 256 (omega arith), lt-leb (getD t 3 0) 2048 (omega arith))
 
 get-requires-5 : tie.Need-get-requires-5
 get-requires-5 c κs = search needs
@@ -49,8 +49,14 @@ get-requires-5 c κs = search needs
 returns-5 : tie.Need-returns-5
 unfolding withinLimits
 returns-5 c =
-    let a = c .before .before .before .before .before .before .before .before .before .before .before .args in
-    rw (le-leb (getD (a .head .now) 0 0) 64 (omega arith), le-leb (getD (a .head .now) 1 0) 256 (omega arith), le-leb (getD (a .head .now) 2 0) 256 (omega arith), le-leb (getD (a .head .now) 3 0) 2048 (omega arith), lt-leb (getD (a .head .now) 4 0) 16384 (omega arith))
+    let t = c .before .before .before .before .before .before .before .before .before .before .before .args .head .now in
+    rw (
+      le-leb (getD t 0 0) 64 (omega arith),
+      le-leb (getD t 1 0) 256 (omega arith),
+      le-leb (getD t 2 0) 256 (omega arith),
+      le-leb (getD t 3 0) 2048 (omega arith),
+      lt-leb (getD t 4 0) 16384 (omega arith),
+    )
 
 get-requires-6 : tie.Need-get-requires-6
 get-requires-6 c κs = search needs
@@ -58,8 +64,15 @@ get-requires-6 c κs = search needs
 returns-6 : tie.Need-returns-6
 unfolding withinLimits
 returns-6 c =
-    let a = c .before .before .before .before .before .before .before .before .before .before .before .before .before .args in
-    rw (le-leb (getD (a .head .now) 0 0) 64 (omega arith), le-leb (getD (a .head .now) 1 0) 256 (omega arith), le-leb (getD (a .head .now) 2 0) 256 (omega arith), le-leb (getD (a .head .now) 3 0) 2048 (omega arith), le-leb (getD (a .head .now) 4 0) 16384 (omega arith), lt-leb (getD (a .head .now) 8 0) 65536 (omega arith))
+    let t = c .before .before .before .before .before .before .before .before .before .before .before .before .before .args .head .now in
+    rw (
+      le-leb (getD t 0 0) 64 (omega arith),
+      le-leb (getD t 1 0) 256 (omega arith),
+      le-leb (getD t 2 0) 256 (omega arith),
+      le-leb (getD t 3 0) 2048 (omega arith),
+      le-leb (getD t 4 0) 16384 (omega arith),
+      lt-leb (getD t 8 0) 65536 (omega arith),
+    )
 
 get-requires-7 : tie.Need-get-requires-7
 get-requires-7 c κs = search needs
@@ -67,8 +80,16 @@ get-requires-7 c κs = search needs
 returns-7 : tie.Need-returns-7
 unfolding withinLimits
 returns-7 c =
-    let a = c .before .before .before .before .before .before .before .before .before .before .before .before .before .before .args in
-    rw (le-leb (getD (a .head .now) 0 0) 64 (omega arith), le-leb (getD (a .head .now) 1 0) 256 (omega arith), le-leb (getD (a .head .now) 2 0) 256 (omega arith), le-leb (getD (a .head .now) 3 0) 2048 (omega arith), le-leb (getD (a .head .now) 4 0) 16384 (omega arith), le-leb (getD (a .head .now) 8 0) 65536 (omega arith), c .get7 .ensures)
+    let t = c .before .before .before .before .before .before .before .before .before .before .before .before .before .before .args .head .now in
+    rw (
+      le-leb (getD t 0 0) 64 (omega arith),
+      le-leb (getD t 1 0) 256 (omega arith),
+      le-leb (getD t 2 0) 256 (omega arith),
+      le-leb (getD t 3 0) 2048 (omega arith),
+      le-leb (getD t 4 0) 16384 (omega arith),
+      le-leb (getD t 8 0) 65536 (omega arith),
+      c .get7 .ensures,
+    )
 
 pub within-limits-spec : {M : Type 1} → statement M
 within-limits-spec =

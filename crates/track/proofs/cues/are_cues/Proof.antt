@@ -49,7 +49,10 @@ loop-less c = omega arith
 
 loop-again : tie.Need-loop-again Inv-loop μ-loop
 unfolding cell
-loop-again c = (omega arith, omega (arith, c .get .ensures, cue-within _ _ _ _ _ _ _ _ _ (holds (c .before .before .is-cue .ensures) (c .before .if1 .left))), rw (c .get .ensures) (c .before .before .before .before .loop .inv .2 ∙ cues-next _ _ _ _ _ _ _ _ _ _ (c .before .before .before .loop-test .taken) (holds (c .before .before .is-cue .ensures) (c .before .if1 .left))))
+loop-again c =
+    let d = c .before .before .before in
+    let h = holds (c .before .before .is-cue .ensures) (c .before .if1 .left) in
+    (omega arith, omega (arith, c .get .ensures, cue-within _ _ _ _ _ _ _ _ _ h), rw (c .get .ensures) (d .before .loop .inv .2 ∙ cues-next _ _ _ _ _ _ _ _ _ _ (d .loop-test .taken) h))
 
 returns-2 : tie.Need-returns-2 Inv-loop μ-loop
 returns-2 c = sym (c .before .loop .inv .2 ∙ cues-done _ _ _ _ _ _ _ _ _ _ (c .loop-test .left))
