@@ -9,13 +9,13 @@ use mathlib.Core.Bool.{true, false, _&&_, and-false}
 use mathlib.Core.List.{List}
 use native.Mathlib.Omega.{arith}
 use native.Mathlib.Nat.{add-zero}
-use lib.Dec.{eqb, leb}
+use lib.Dec.{eqb}
 use lib.Ieee.{Float}
-use borrow.Author.Tests.{eqb-true, leb-true, eq-eqb, ne-eqb, le-leb, lt-leb}
+use borrow.Author.Tests.{eq-eqb, ne-eqb, le-leb, lt-leb}
 use Rattle.decimals.proofs.Tests.{both}
 use Rattle.track.specs.Tables.{cell}
 use Rattle.track.specs.Meaning.{cueValues, areSegments, isCue, areCues}
-use Rattle.track.proofs.StringLaws.{four}
+use Rattle.track.proofs.RowParts.{cue-parts}
 
 module _ (t e g : List ℕ) (f : List Float) (z y : List ℕ) (most from i : ℕ) where
   pub cue-values-not : cueValues t e z i ≡ false → isCue t e g f z y most from i ≡ false
@@ -34,17 +34,13 @@ module _ (t e g : List ℕ) (f : List Float) (z y : List ℕ) (most from i : ℕ
   unfolding isCue
   cue-is v w h = rw (v, eq-eqb (cell 11 t i 7) from w, le-leb (from + cell 11 t i 8) most h)
 
-  cue-parts : isCue t e g f z y most from i ≡ true → (cell 11 t i 7 ≡ from) × (from + cell 11 t i 8 ≤ most)
-  unfolding isCue
-  cue-parts h =
-      let a = four (cueValues t e z i) (eqb (cell 11 t i 7) from) (leb (from + cell 11 t i 8) most) (areSegments g f z y 512 (cell 11 t i 8) from) h in
-      (eqb-true (cell 11 t i 7) from (a .1), leb-true (from + cell 11 t i 8) most (a .2))
-
   pub cue-within : isCue t e g f z y most from i ≡ true → from + cell 11 t i 8 ≤ most
-  cue-within h = cue-parts h .1
+  cue-within h = cue-parts t e g f z y most from i h .within
 
   cue-here : isCue t e g f z y most from i ≡ true → (isCue t e g f z y most (cell 11 t i 7) i ≡ true) × (cell 11 t i 7 + cell 11 t i 8 ≤ most)
-  cue-here h = rw (cue-parts h .0) (h, cue-parts h .1)
+  cue-here h =
+      let a = cue-parts t e g f z y most from i h in
+      rw (a .begins) (h, a .within)
 
   -- as a loop over i does it: the n - i rows from row i on
   module _ (n : ℕ) where

@@ -4,6 +4,7 @@ pub mod Spans
 pub mod SegmentLaws
 pub mod Defaults
 pub mod StringLaws
+pub mod RowParts
 pub mod Exactly
 pub mod Answers
 pub mod CueRows

@@ -3,19 +3,17 @@
 --     string-ok, optional-ok, chain-ok, extras-ok                  strings in cells that pass their tests
 --     param-utf8, style-utf8, region-utf8, segments-utf8, cue-utf8     the rows of each table
 --     track-utf8, accepted-utf8                                    the whole
-use Prim.Native.Nat.{ℕ, zero, suc, _+_, _-_, _*_, _<_}
+use Prim.Native.Nat.{ℕ, zero, suc, _+_, _-_, _<_}
 use mathlib.Core.Path.{_≡_, sym, subst, _∙_}
 use mathlib.Core.Bool.{Bool, true, _&&_}
 use mathlib.Core.List.{List, [], _∷_}
 use mathlib.Core.Option.{Option, none, some}
 use native.Mathlib.Omega.{arith}
-use native.Mathlib.Nat.{add-zero}
 use lib.ListN.{getD, take}
 use lib.Dec.{eqb, leb, ltb}
 use lib.IntN.{ℤ}
 use lib.Ieee.{Float}
 use borrow.Author.Tests.{eqb-true}
-use Rattle.scan.specs.Bytes.{attrNameByte}
 use Rattle.scan.specs.Part.{stringAt}
 use Rattle.unicode.specs.Utf8.{Utf8}
 use Rattle.unicode.proofs.Utf8Laws.{by-test}
@@ -24,10 +22,11 @@ use Rattle.track.specs.declared.strings.Span.{Span}
 use Rattle.track.specs.declared.segments.Segment.{Segment}
 use Rattle.track.specs.Track.{Extra, Extras, Param, Style, Region, Wrapper, Segments, Cue, Track, mapped, each, extraWith, extrasWith, paramWith, styleWith, regionWith, segmentsWith, cueWith, trackWith}
 use Rattle.track.specs.Track as track
-use Rattle.track.specs.Tables.{Tables, cell, span, given, extrasFrom, extrasAt, paramAt, chainAt, styleAt, regionAt, segmentAt, followedBy, siblingsAt, segmentsAt, cueAt, langAt, rowsFrom, trackAt, sizeCell, paramCount, styleCount, regionCount, cueCount, segmentCount, stringsUsed, textsUsed}
-use Rattle.track.specs.Meaning.{isSpan, isOptional, isFlag, isExtra, areExtras, hasExtras, every, isParam, styleStrings, styleValues, styleFlags, isStyle, isRegion, isSegment, areSiblings, areSegments, cueValues, isCue, isUtf8, trackIn, bytesAt, withBytes, isTrack}
+use Rattle.track.specs.Tables.{Tables, cell, span, given, extrasFrom, extrasAt, paramAt, chainAt, styleAt, regionAt, segmentAt, followedBy, siblingsAt, segmentsAt, cueAt, langAt, rowsFrom, trackAt, paramCount, styleCount, regionCount, cueCount, segmentCount, stringsUsed, textsUsed}
+use Rattle.track.specs.Meaning.{isSpan, isOptional, areExtras, hasExtras, isParam, isStyle, isRegion, isSegment, areSiblings, areSegments, isCue, isUtf8, trackIn, bytesAt, withBytes, isTrack}
 use Rattle.track.proofs.Spans.{span-within}
-use Rattle.track.proofs.StringLaws.{three, four, span-utf8, given-span, string-used}
+use Rattle.track.proofs.StringLaws.{four, span-utf8, given-span, string-used}
+use Rattle.track.proofs.RowParts.{param-parts, style-parts, region-parts, cue-parts, first-extra, extras-are}
 use Rattle.track.proofs.SegmentLaws.{Holds, segment-holds}
 use Rattle.track.proofs.Exactly.{track-some, track-none, no-some}
 use Rattle.track.proofs.Accepted.{strings-ok, texts-ok, lang-ok, param-ok, style-ok, region-ok, cue-ok}
@@ -101,43 +100,35 @@ module _ (s : List ℕ) (u : ℕ) (h : isUtf8 (take u s) ≡ true) where
 
   extras-from : (t : List ℕ) (most least n i : ℕ) → areExtras t (take u s) most least n i ≡ true
       → Of (λ (e : Extra (List ℕ)). Utf8 (e .value)) (each (extraWith (bytesAt s) noRow) (extrasFrom t n i))
-  unfolding areExtras extrasFrom
+  unfolding extrasFrom
   extras-from t most least zero i e = tt
   extras-from t most least (suc n) i e =
-      let a = both (isExtra t (take u s) most least i) (areExtras t (take u s) most (cell 3 t i 0 + 1) n (i + 1)) e in
-      let b = three (leb least (cell 3 t i 0)) (ltb (cell 3 t i 0) most) (isSpan (take u s) (cell 3 t i 1) (cell 3 t i 2)) (a .0) in
-      (string-ok s u h (cell 3 t i 1) (cell 3 t i 2) (b .2), extras-from t most (cell 3 t i 0 + 1) n (i + 1) (a .1))
+      let a = first-extra t (take u s) most least n i e in
+      (string-ok s u h (cell 3 t i 1) (cell 3 t i 2) (a .0 .value), extras-from t most (cell 3 t i 0 + 1) n (i + 1) (a .1))
 
   pub extras-ok : (t : List ℕ) (most first n : ℕ) → hasExtras t (take u s) most first n ≡ true → OfExtras Utf8 (extrasWith (bytesAt s) noRow (extrasAt t first n))
-  unfolding hasExtras extrasWith
-  extras-ok t most first n e = extras-from t most 0 n first (both (leb (first + n) 8192) (areExtras t (take u s) most 0 n first) e .1)
+  unfolding extrasWith
+  extras-ok t most first n e = extras-from t most 0 n first (extras-are t (take u s) most first n e)
 
   -- ---- rows
   pub param-utf8 : (t : List ℕ) (i : ℕ) → isParam t (take u s) i ≡ true → OfParam Utf8 (paramWith (bytesAt s) noRow (paramAt t i))
-  unfolding isParam paramAt paramWith
+  unfolding paramAt paramWith
   param-utf8 t i e =
-      let c : ℕ → ℕ = cell 4 t i in
-      let a = three (isSpan (take u s) (c 0) (c 1)) (isSpan (take u s) (c 2) (c 3)) (every attrNameByte (stringAt (take u s) (c 0) (c 1))) e in
-      (string-ok s u h (c 0) (c 1) (a .0), string-ok s u h (c 2) (c 3) (a .1))
+      let a = param-parts t (take u s) i e in
+      (string-ok s u h (cell 4 t i 0) (cell 4 t i 1) (a .name), string-ok s u h (cell 4 t i 2) (cell 4 t i 3) (a .value))
 
   pub style-utf8 : (t : List ℕ) (f : List Float) (e : List ℕ) (i : ℕ) → isStyle t f e (take u s) i ≡ true → OfStyle Utf8 (styleWith (bytesAt s) noRow (styleAt t f e i))
-  unfolding isStyle styleStrings styleAt styleWith cell
+  unfolding styleAt styleWith
   style-utf8 t f e i w =
-      let c : ℕ → ℕ = λ j. getD t (i * 27 + j) 0 in
-      let a = four (styleStrings t (take u s) (i * 27)) (styleValues t (sizeCell f (16384 + i)) (i * 27)) (styleFlags t (i * 27)) (hasExtras e (take u s) 46 (c 25) (c 26)) w in
-      let b = three (isSpan (take u s) (getD t (i * 27) 0) (c 1)) (isSpan (take u s) (c 2) (c 3)) (isOptional (take u s) (c 14) (c 15) (c 16)) (a .0) in (
-        rw (add-zero (i * 27)) (string-ok s u h (getD t (i * 27) 0) (c 1) (b .0)),
-        chain-ok (c 2) (c 3) (b .1),
-        optional-ok (c 14) (c 15) (c 16) (b .2),
-        extras-ok e 46 (c 25) (c 26) (a .3),
-      )
+      let c : ℕ → ℕ = cell 27 t i in
+      let a = style-parts t f e (take u s) i w in
+      (string-ok s u h (c 0) (c 1) (a .name), chain-ok (c 2) (c 3) (a .chain), optional-ok (c 14) (c 15) (c 16) (a .family), extras-ok e 46 (c 25) (c 26) (a .extras))
 
   pub region-utf8 : (t e : List ℕ) (i : ℕ) → isRegion t e (take u s) i ≡ true → OfRegion Utf8 (regionWith (bytesAt s) noRow (regionAt t e i))
-  unfolding isRegion regionAt regionWith
+  unfolding regionAt regionWith
   region-utf8 t e i w =
-      let c : ℕ → ℕ = cell 4 t i in
-      let a = both (isSpan (take u s) (c 0) (c 1)) (hasExtras e (take u s) 53 (c 2) (c 3)) w in
-      (string-ok s u h (c 0) (c 1) (a .0), extras-ok e 53 (c 2) (c 3) (a .1))
+      let a = region-parts t e (take u s) i w in
+      (string-ok s u h (cell 4 t i 0) (cell 4 t i 1) (a .id), extras-ok e 53 (cell 4 t i 2) (cell 4 t i 3) (a .extras))
 
   -- ---- segments and cues; the first v bytes of x are used for texts
   module _ (x : List ℕ) (v : ℕ) (g : isUtf8 (take v x) ≡ true) where
@@ -177,16 +168,14 @@ module _ (s : List ℕ) (u : ℕ) (h : isUtf8 (take u s) ≡ true) where
 
     pub cue-utf8 : (T : Tables) (most i : ℕ) → isCue (T .cues) (T .extras) (T .segments) (T .sizes) (take u s) (take v x) most (cell 11 (T .cues) i 7) i ≡ true
         → OfCue Utf8 (cueWith (bytesAt s) noRow (bytesAt x) (cueAt T i))
-    unfolding isCue cueValues cueAt cueWith
+    unfolding cueAt cueWith
     cue-utf8 T most i e =
         let c : ℕ → ℕ = cell 11 (T .cues) i in
-        let a = four (cueValues (T .cues) (T .extras) (take u s) i) (eqb (c 7) (c 7)) (leb (c 7 + c 8) most)
-        (areSegments (T .segments) (T .sizes) (take u s) (take v x) 512 (c 8) (c 7)) e in
-        let b = four (isOptional (take u s) (c 0) (c 1) (c 2)) (isOptional (take u s) (c 3) (c 4) (c 5)) (isFlag (c 6)) (hasExtras (T .extras) (take u s) 47 (c 9) (c 10)) (a .0) in (
-          optional-ok (c 0) (c 1) (c 2) (b .0),
-          optional-ok (c 3) (c 4) (c 5) (b .1),
-          extras-ok (T .extras) 47 (c 9) (c 10) (b .3),
-          segments-utf8 (T .segments) (T .reveal) (T .sizes) 512 (c 8) (c 7) (a .3),
+        let a = cue-parts (T .cues) (T .extras) (T .segments) (T .sizes) (take u s) (take v x) most (c 7) i e in (
+          optional-ok (c 0) (c 1) (c 2) (a .style),
+          optional-ok (c 3) (c 4) (c 5) (a .region),
+          extras-ok (T .extras) 47 (c 9) (c 10) (a .extras),
+          segments-utf8 (T .segments) (T .reveal) (T .sizes) 512 (c 8) (c 7) (a .segments),
         )
 
 -- ---- the whole
