@@ -1,6 +1,7 @@
 -- What the proofs of several functions use.
 pub mod Chains
 pub mod Spans
+pub mod RowLaws
 pub mod SegmentLaws
 pub mod Defaults
 pub mod StringLaws

@@ -32,7 +32,9 @@ is-byte-requires-2 c κs = search needs
 
 returns-2 : tie.Need-returns-2
 unfolding areThree
-returns-2 c = rw (holds (c .before .before .before .before .is-byte .ensures) (c .before .before .before .if1 .left), fails (c .before .is-byte2 .ensures) (c .if2 .taken))
+returns-2 c =
+    let one = c .before .before .before in
+    rw (holds (one .before .is-byte .ensures) (one .if1 .left), fails (c .before .is-byte2 .ensures) (c .if2 .taken))
 
 add-is-byte-2 : tie.Need-add-is-byte-2
 add-is-byte-2 c = search needs
@@ -48,7 +50,10 @@ is-byte-requires-3 c κs = search needs
 
 returns-3 : tie.Need-returns-3
 unfolding areThree
-returns-3 c = rw (holds (c .before .before .before .before .before .before .is-byte .ensures) (c .before .before .before .before .before .if1 .left), holds (c .before .before .before .is-byte2 .ensures) (c .before .before .if2 .left)) (c .is-byte3 .ensures)
+returns-3 c =
+    let two = c .before .before in
+    let one = two .before .before .before in
+    rw (holds (one .before .is-byte .ensures) (one .if1 .left), holds (two .before .is-byte2 .ensures) (two .if2 .left)) (c .is-byte3 .ensures)
 
 pub are-three-spec : {M : Type 1} → statement M
 are-three-spec =

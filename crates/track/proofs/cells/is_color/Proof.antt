@@ -36,7 +36,10 @@ returns c = rw (c .match .keys1)
 
 returns-2 : tie.Need-returns-2
 unfolding isColor
-returns-2 c = rw (c .before .before .before .before .match .keys2, sym (c .before .before .before .are-three .ensures) ∙ c .before .before .if1 .taken) (c .is-byte .ensures)
+returns-2 c =
+    rw
+    (c .before .before .before .before .match .keys2, sym (c .before .before .before .are-three .ensures) ∙ c .before .before .if1 .taken)
+    (c .is-byte .ensures)
 
 returns-3 : tie.Need-returns-3
 unfolding isColor

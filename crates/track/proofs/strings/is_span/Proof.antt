@@ -20,7 +20,10 @@ is-boundary-requires : tie.Need-is-boundary-requires
 is-boundary-requires c κs = search needs
 
 returns-3 : tie.Need-returns-3
-returns-3 c = let a = c .before .before .before .before .before .args in rw (span-near (a .bytes .now) (a .place) (a .len) (omega arith), fails (c .before .is-boundary .ensures) (c .if3 .taken))
+returns-3 c =
+    let a = c .before .before .before .before .before .args in
+    rw
+    (span-near (a .bytes .now) (a .place) (a .len) (omega arith), fails (c .before .is-boundary .ensures) (c .if3 .taken))
 
 add-is-boundary : tie.Need-add-is-boundary
 add-is-boundary c = search needs
@@ -29,7 +32,11 @@ is-boundary-requires-2 : tie.Need-is-boundary-requires-2
 is-boundary-requires-2 c κs = search needs
 
 returns-4 : tie.Need-returns-4
-returns-4 c = let a = c .before .before .before .before .before .before .args in rw (span-near (a .bytes .now) (a .place) (a .len) (omega arith), holds (c .before .before .is-boundary .ensures) (c .before .if3 .left)) (c .is-boundary2 .ensures)
+returns-4 c =
+    let a = c .before .before .before .before .before .before .args in
+    rw
+    (span-near (a .bytes .now) (a .place) (a .len) (omega arith), holds (c .before .before .is-boundary .ensures) (c .before .if3 .left))
+    (c .is-boundary2 .ensures)
 
 pub is-span-spec : {M : Type 1} → statement M
 is-span-spec =
