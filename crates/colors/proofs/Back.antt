@@ -17,10 +17,11 @@ use Rattle.numerals.specs.Numerals.{valueFrom, numeralOf}
 use Rattle.numerals.specs.Written.{digitChar, padded}
 use Rattle.numerals.proofs.Numerals.{numeral-plain}
 use Rattle.numerals.proofs.Writing.{char-low, char-high, padded-length, padded-digits, padded-value}
+use Rattle.unicode.specs.Utf8.{boundary}
 use Rattle.colors.specs.declared.read.Rgba.{Rgba}
 use Rattle.colors.specs.declared.read.Color.{Color}
 use Rattle.colors.specs.Named.{rgba}
-use Rattle.colors.specs.Colors.{boundary, hexChannel, hexColor, colorIn}
+use Rattle.colors.specs.Colors.{hexChannel, hexColor, colorIn}
 use Rattle.colors.specs.Written.{hex, rgbText, rgbaText}
 use Rattle.colors.proofs.Reading.{color-hash}
 

@@ -8,9 +8,10 @@ use Rattle.scan.specs.Split.{splitAt}
 use Rattle.unicode.specs.Utf8.{sequenceAt, charAt}
 use Rattle.unicode.specs.White.{isWhite, whiteAt, whiteBefore, trimmed}
 use Rattle.numerals.specs.Numerals.{numeralOf}
+use Rattle.unicode.specs.Utf8.{boundary}
 use Rattle.colors.specs.declared.read.Color.{Color}
 use Rattle.colors.specs.Named.{rgba, namedIn}
-use Rattle.colors.specs.Colors.{boundary, colorIn}
+use Rattle.colors.specs.Colors.{colorIn}
 
 -- `#+f+f+f`: each of the two bytes of a channel may be a sign
 pub signs : colorIn (35 ∷ 43 ∷ 102 ∷ 43 ∷ 102 ∷ 43 ∷ 102 ∷ []) ≡ Color.Is (rgba 15 15 15 255)

@@ -17,6 +17,7 @@ use Rattle.scan.specs.Part.{part}
 use Rattle.scan.specs.Split.{splitAt}
 use Rattle.scan.proofs.Runs.{run-length}
 use Rattle.scan.proofs.Splits.{split-more, split-last}
+use Rattle.unicode.specs.Utf8.{boundary}
 use Rattle.unicode.proofs.Utf8Laws.{by-test}
 use Rattle.numerals.specs.declared.Numeral.{Numeral}
 use Rattle.numerals.specs.Numerals.{numeralOf}
@@ -24,32 +25,7 @@ use Rattle.numerals.proofs.Numerals.{numeral-inv}
 use Rattle.colors.specs.declared.read.Color.{Color}
 use Rattle.colors.specs.declared.read.Channel.{Channel}
 use Rattle.colors.specs.Named.{colorTable, namedIn}
-use Rattle.colors.specs.Colors.{boundary, channelOf, hexChannel, copies, hexColor, hexRed, rgbOf, rgbParts, isRgb, color, Small, Channels}
-
--- ---- where a character starts
-module _ (s : List ℕ) (i : ℕ) where
-  pub boundary-start : i ≡ 0 → boundary s i ≡ true
-  unfolding boundary
-  boundary-start e = rw (eq-eqb i 0 e)
-
-  pub boundary-end : i ≡ length s → boundary s i ≡ true
-  unfolding boundary
-  boundary-end e = rw (eq-eqb i (length s) e, or-true)
-
-  module _ (n : i ≡ 0 → ⊥) (h : i < length s) where
-    pub boundary-inside : 0x80 ≤ getD s i 0 → getD s i 0 ≤ 0xBF → boundary s i ≡ false
-    unfolding boundary
-    boundary-inside l g =
-        rw (ne-eqb i 0 n, ne-eqb i (length s) (λ e. omega arith), le-leb 0x80 (getD s i 0) l, le-leb (getD s i 0) 0xBF g)
-
-    pub boundary-below : getD s i 0 < 0x80 → boundary s i ≡ true
-    unfolding boundary
-    boundary-below l = rw (ne-eqb i 0 n, ne-eqb i (length s) (λ e. omega arith), lt-leb 0x80 (getD s i 0) l)
-
-    pub boundary-above : 0xBF < getD s i 0 → boundary s i ≡ true
-    unfolding boundary
-    boundary-above g =
-        rw (ne-eqb i 0 n, ne-eqb i (length s) (λ e. omega arith), lt-leb (getD s i 0) 0xBF g, and-false)
+use Rattle.colors.specs.Colors.{channelOf, hexChannel, copies, hexColor, hexRed, rgbOf, rgbParts, isRgb, color, Small, Channels}
 
 -- ---- a channel
 pub small : (s : List ℕ) (radix : ℕ) (n : Numeral) → n ≡ numeralOf s radix 255 false → Small n

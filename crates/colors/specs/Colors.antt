@@ -12,6 +12,7 @@ use Rattle.scan.specs.Split.{splitAt}
 use Rattle.unicode.specs.White.{trimmed}
 use Rattle.numerals.specs.declared.Numeral.{Numeral}
 use Rattle.numerals.specs.Numerals.{numeralOf}
+use Rattle.unicode.specs.Utf8.{boundary}
 use Rattle.colors.specs.declared.read.Rgba.{Rgba}
 use Rattle.colors.specs.declared.read.Color.{Color}
 use Rattle.colors.specs.declared.read.Channel.{Channel}
@@ -29,10 +30,6 @@ numberOf Color.Cut = 15
 abbrev pub channelOf : Numeral → Channel
 channelOf (Numeral.Is w) = Channel.Is (w .magnitude)
 channelOf Numeral.Nothing = Channel.Nothing
-
--- A character starts at the place i, or the text ends there: only there can the Rust cut. Bytes from 0x80 to 0xBF go on with a character.
-unfoldable pub boundary : List ℕ → ℕ → Bool
-boundary s i = eqb i 0 || eqb i (length s) || not (leb 0x80 (getD s i 0) && leb (getD s i 0) 0xBF)
 
 -- the hexadecimal channel from a to e, its bytes taken `times` over; number 15 where one of the two places is inside a character
 unfoldable pub hexChannel : List ℕ → ℕ → ℕ → (List ℕ → List ℕ) → Channel

@@ -5,7 +5,7 @@ ghost use lib.ListN.{length};
 ghost use Rattle.scan.specs.Split.{splitAt};
 ghost use Rattle.colors.specs.Named.{rgba};
 ghost use Rattle.colors.specs.Colors as colors;
-ghost use Rattle.colors.specs.Colors.{boundary, channelOf, hexChannel, hexColor, decimalChannel, rgbOf, rgbParts, colorIn, opaque, Small, Channels, copies, hexAlpha, hexBlue, hexGreen, hexRed};
+ghost use Rattle.colors.specs.Colors.{channelOf, hexChannel, hexColor, decimalChannel, rgbOf, rgbParts, colorIn, opaque, Small, Channels, copies, hexAlpha, hexBlue, hexGreen, hexRed};
 use numerals::Numeral;
 
 pub struct Rgba {
@@ -31,23 +31,6 @@ pub enum Channel {
     Cut,
 }
 
-// Does a character start, or the text end, at the place?
-fn is_boundary(text: &[u8], at: usize) -> bool
-    requires { ⌜ at ≤ length (now text) ⌝ }
-    ensures { λ r. ⌜ r ≡ boundary (now (text .entry)) at ⌝ }
-{
-    if at == 0 {
-        return true;
-    }
-    if text.len() <= at {
-        return at == text.len();
-    }
-    match text[at] {
-        0x80..=0xBF => false,
-        _ => true,
-    }
-}
-
 fn small_channel(n: Numeral) -> Channel
     requires { ⌜ Small n ⌝ }
     ensures { λ r. ⌜ r ≡ channelOf n ⌝ }
@@ -63,10 +46,10 @@ fn hex_channel(text: &[u8], at: usize, width: usize) -> Channel
     requires { ⌜ (1 ≤ width) × (width ≤ 2) × (at + width ≤ length (now text)) ⌝ }
     ensures { λ r. ⌜ r ≡ hexChannel (now (text .entry)) at (at + width) (copies width) ⌝ }
 {
-    if !is_boundary(text, at) {
+    if !unicode::is_boundary(text, at) {
         return Channel::Cut;
     }
-    if !is_boundary(text, at + width) {
+    if !unicode::is_boundary(text, at + width) {
         return Channel::Cut;
     }
     if width == 1 {

@@ -1,3 +1,4 @@
 -- What the proofs of several functions use.
 pub mod Utf8Laws
 pub mod WhiteLaws
+pub mod Boundaries

@@ -1,7 +1,7 @@
 -- UTF-8, from the Unicode Standard, chapter 3. Definitions alone.
 use Prim.Native.Nat.{ℕ, zero, suc, _+_, _-_, _*_, _/_, _%_, _≤_, _<_}
 use mathlib.Core.Path.{_≡_}
-use mathlib.Core.Bool.{Bool, true, false, cond, _&&_, _||_}
+use mathlib.Core.Bool.{Bool, true, false, cond, not, _&&_, _||_}
 use mathlib.Core.List.{List, [], _∷_, _++_}
 use lib.ListN.{length, getD, take}
 use lib.Dec.{eqb, leb, ltb}
@@ -84,6 +84,11 @@ pub record Sequence (s : List ℕ) (p r : ℕ) : Type 0 where
   pub is : r ≡ sequenceAt s p
   pub short : r ≤ 4
   pub within-text : p + r ≤ length s
+
+-- A character starts at the place i of a text in UTF-8, or the text ends there: only there can the Rust cut it. Bytes from 0x80 to 0xBF go
+-- on with a character.
+unfoldable pub boundary : List ℕ → ℕ → Bool
+boundary s i = eqb i 0 || eqb i (length s) || not (leb 0x80 (getD s i 0) && leb (getD s i 0) 0xBF)
 
 -- k ranges of bytes that follow the second
 abbrev pub tails : ℕ → List Range

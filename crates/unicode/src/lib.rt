@@ -3,6 +3,7 @@ mod utf8;
 mod white;
 
 pub use utf8::char_at;
+pub use utf8::is_boundary;
 pub use utf8::put_char;
 pub use utf8::sequence_at;
 pub use utf8::utf8_end;

@@ -4,7 +4,7 @@ ghost use mathlib.Core.Path.{_≡_};
 ghost use Prim.Native.Nat.{_+_, _≤_, _<_};
 ghost use lib.ListN.{length};
 ghost use Rattle.scan.specs.Posts.{Appended};
-ghost use Rattle.unicode.specs.Utf8.{followed, Sequence, charAt, encode, Bounded, AsciiTo, LongestValid};
+ghost use Rattle.unicode.specs.Utf8.{boundary, followed, Sequence, charAt, encode, Bounded, AsciiTo, LongestValid};
 
 // The width, where the second byte lies from low to high and those after it from 0x80 to 0xBF; or 0.
 fn follow(src: &[u8], pos: usize, width: usize, low: u8, high: u8) -> usize
@@ -168,4 +168,21 @@ pub fn put_char(c: u32, out: &mut [u8], at: usize) -> usize
     out[at + 2] = (0x80 + c / 64 % 64) as u8;
     out[at + 3] = (0x80 + c % 64) as u8;
     at + 4
+}
+
+// Does a character start, or the text end, at the place?
+pub fn is_boundary(text: &[u8], at: usize) -> bool
+    requires { ⌜ at ≤ length (now text) ⌝ }
+    ensures { λ r. ⌜ r ≡ boundary (now (text .entry)) at ⌝ }
+{
+    if at == 0 {
+        return true;
+    }
+    if text.len() <= at {
+        return at == text.len();
+    }
+    match text[at] {
+        0x80..=0xBF => false,
+        _ => true,
+    }
 }

@@ -3,10 +3,10 @@ use mathlib.Core.Path.{sym, _∙_, _≡_}
 use native.Mathlib.Omega.{arith}
 use lib.ListN.{length}
 use borrow.Author.Tests.{eq-eqb}
-use Rattle.colors.proofs.Reading.{boundary-start, boundary-end, boundary-inside, boundary-below, boundary-above}
+use Rattle.unicode.proofs.Boundaries.{boundary-start, boundary-end, boundary-inside, boundary-below, boundary-above}
 use borrow.Author.Needs.{needs}
-use Rattle.colors.proofs.read.is_boundary.Statement.{statement}
-use Rattle.colors.proofs.read.is_boundary.Tie as tie
+use Rattle.unicode.proofs.utf8.is_boundary.Statement.{statement}
+use Rattle.unicode.proofs.utf8.is_boundary.Tie as tie
 
 returns : tie.Need-returns
 returns c = sym (boundary-start (c .before .args .text .now) (c .before .args .at) (c .if1 .taken))

@@ -1,0 +1,4 @@
+pub mod Track
+pub mod Tables
+pub mod Meaning
+pub mod Check

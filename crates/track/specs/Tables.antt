@@ -1,0 +1,233 @@
+-- The tables that hold a track, and what their cells say (docs/TABLES.md has the same for callers). Whether the cells say anything is
+-- `Meaning`. Definitions alone.
+use Prim.Native.Nat.{ℕ, zero, suc, _+_, _-_, _*_}
+use mathlib.Core.Bool.{Bool, true, false, cond, not}
+use mathlib.Core.List.{List, [], _∷_}
+use mathlib.Core.Option.{Option, none, some}
+use lib.ListN.{getD}
+use lib.Dec.{eqb}
+use lib.IntN.{ℤ, pos}
+use lib.Ieee.{Float, fin}
+use Rattle.colors.specs.declared.read.Rgba.{Rgba}
+use Rattle.decimals.specs.declared.size.Size.{Size}
+use Rattle.track.specs.declared.strings.Span.{Span}
+use Rattle.track.specs.declared.segments.Font.{Font}
+use Rattle.track.specs.declared.segments.Segment.{Segment}
+use Rattle.track.specs.Track.{Align, Extra, Extras, Param, Style, Region, Wrapper, Segments, Cue, Track}
+use Rattle.track.specs.Track as track
+
+pub record Tables : Type 0 where
+  pub head : List ℕ
+  pub params : List ℕ
+  pub styles : List ℕ
+  pub regions : List ℕ
+  pub cues : List ℕ
+  pub times : List ℤ
+  pub segments : List ℕ
+  pub reveal : List ℤ
+  pub sizes : List Float
+  pub extras : List ℕ
+  pub strings : List ℕ
+  pub texts : List ℕ
+
+-- cell j of row i in a table of rows of w cells
+unfoldable pub cell : ℕ → List ℕ → ℕ → ℕ → ℕ
+cell w t i j = getD t (i * w + j) 0
+
+abbrev pub span : ℕ → ℕ → Span
+span p n = record { place = p; len = n }
+
+-- a value that is there where the flag is 1
+unfoldable pub given : {A : Type 0} → ℕ → A → Option A
+given c x = cond (eqb c 1) (some x) none
+
+-- ---- head: counts of parameters, styles, regions, cues and segments; xml:lang, whether it is there, its place and length; how many bytes of
+-- the strings and of the texts are used
+module _ (t : List ℕ) where
+  abbrev pub paramCount : ℕ
+  paramCount = getD t 0 0
+
+  abbrev pub styleCount : ℕ
+  styleCount = getD t 1 0
+
+  abbrev pub regionCount : ℕ
+  regionCount = getD t 2 0
+
+  abbrev pub cueCount : ℕ
+  cueCount = getD t 3 0
+
+  abbrev pub segmentCount : ℕ
+  segmentCount = getD t 4 0
+
+  abbrev pub stringsUsed : ℕ
+  stringsUsed = getD t 8 0
+
+  abbrev pub textsUsed : ℕ
+  textsUsed = getD t 9 0
+
+  unfoldable pub langAt : Option Span
+  unfolding given
+  langAt = given (getD t 5 0) (span (getD t 6 0) (getD t 7 0))
+
+-- ---- extras: the number of the name in its list, place and length of the value
+unfoldable pub extraAt : List ℕ → ℕ → Extra Span
+unfolding cell
+extraAt t i = record { number = cell 3 t i 0; value = span (cell 3 t i 1) (cell 3 t i 2) }
+
+-- n of them from row i on
+unfoldable pub extrasFrom : List ℕ → ℕ → ℕ → List (Extra Span)
+unfolding extraAt
+extrasFrom t zero i = []
+extrasFrom t (suc n) i = extraAt t i ∷ extrasFrom t n (i + 1)
+
+abbrev pub extrasAt : List ℕ → ℕ → ℕ → Extras Span ℕ
+extrasAt t first n = record { row = first; list = extrasFrom t n first }
+
+-- ---- params: name, value
+unfoldable pub paramAt : List ℕ → ℕ → Param Span
+unfolding cell
+paramAt t i = record { name = span (cell 4 t i 0) (cell 4 t i 1); value = span (cell 4 t i 2) (cell 4 t i 3) }
+
+-- ---- a size: 0 is none, 1 a size, 2 one with a minus; digits; how many of them stand behind the point; and the f32
+unfoldable pub sizeAt : ℕ → ℕ → ℕ → Float → Option Size
+sizeAt sign digits scale value =
+    cond (eqb sign 0) none (some (record { value = value; negative = eqb sign 2; digits = digits; scale = scale }))
+
+abbrev pub sizeCell : List Float → ℕ → Float
+sizeCell t i = getD t i (fin false 0 (pos 0))
+
+-- ---- styles: 0 name, 2 chain, 4 colour (present, red, green, blue, alpha), 9 background, 14 family (present, place, length), 17 size (sign,
+-- digits, scale; its f32 is cell 16,384 + i of `sizes`), 20 bold, italic, underline, strike, 24 align, 25 extras (first row, number of rows)
+unfoldable pub colorAt : List ℕ → ℕ → Option Rgba
+unfolding given
+colorAt t i = given (getD t i 0) (record { r = getD t (i + 1) 0; g = getD t (i + 2) 0; b = getD t (i + 3) 0; a = getD t (i + 4) 0 })
+
+unfoldable pub alignAt : ℕ → Align
+alignAt c =
+    cond (eqb c 1) track.center (cond (eqb c 2) track.end (cond (eqb c 3) track.left (cond (eqb c 4) track.right track.start)))
+
+-- a chain of length 0 is none
+unfoldable pub chainAt : ℕ → ℕ → Option Span
+chainAt p n = cond (eqb n 0) none (some (span p n))
+
+unfoldable pub styleAt : (styles : List ℕ) (sizes : List Float) (extras : List ℕ) → ℕ → Style Span ℕ
+unfolding cell given colorAt sizeAt alignAt chainAt
+styleAt t f e i =
+    let c = cell 27 t i in
+    record {
+      name = span (c 0) (c 1);
+      chain = chainAt (c 2) (c 3);
+      color = colorAt t (i * 27 + 4);
+      back = colorAt t (i * 27 + 9);
+      family = given (c 14) (span (c 15) (c 16));
+      size = sizeAt (c 17) (c 18) (c 19) (sizeCell f (16384 + i));
+      bold = eqb (c 20) 1;
+      italic = eqb (c 21) 1;
+      underline = eqb (c 22) 1;
+      strike = eqb (c 23) 1;
+      align = alignAt (c 24);
+      extras = extrasAt e (c 25) (c 26);
+    }
+
+-- ---- regions: id, extras
+unfoldable pub regionAt : (regions extras : List ℕ) → ℕ → Region Span ℕ
+unfolding cell
+regionAt t e i =
+    let c = cell 4 t i in
+    record { id = span (c 0) (c 1); extras = extrasAt e (c 2) (c 3) }
+
+-- ---- segments: 0 kind, 1 rows of its subtree, itself included; then, by its kind
+--     1 text: 2 place, 3 length, in `texts`     2 break     3 timestamp: its time is cell i of `reveal`
+--     4 bold     5 italic     6 underline     7 strike     8 colour: 2 red, 3 green, 4 blue
+--     9 font: 2 family (present, place, length), 5 size (sign, digits, scale; its f32 is cell i of `sizes`)
+-- (an unknown kind is no segment: `Meaning`)
+module _ (t : List ℕ) (r : List ℤ) (f : List Float) where
+  unfoldable pub fontAt : ℕ → Font
+  unfolding cell
+  fontAt i =
+      let c = cell 8 t i in
+      record {
+        «has_family» = eqb (c 2) 1;
+        family = span (c 3) (c 4);
+        «has_size» = not (eqb (c 5) 0);
+        size = record { value = sizeCell f i; negative = eqb (c 5) 2; digits = c 6; scale = c 7 };
+      }
+
+  unfoldable pub segmentAt : ℕ → Segment
+  unfolding cell fontAt
+  segmentAt i =
+      let c = cell 8 t i in
+      cond (eqb (c 0) 1) (Segment.Text (span (c 2) (c 3)))
+      (cond (eqb (c 0) 2) Segment.Break
+      (cond (eqb (c 0) 3) (Segment.Timestamp (getD r i (pos 0)))
+      (cond (eqb (c 0) 4) Segment.Bold
+      (cond (eqb (c 0) 5) Segment.Italic
+      (cond (eqb (c 0) 6) Segment.Underline
+      (cond (eqb (c 0) 7) Segment.Strike
+      (cond (eqb (c 0) 8) (Segment.Color (record { r = c 2; g = c 3; b = c 4 }))
+      (Segment.Font (fontAt i)))))))))
+
+-- the wrapper of a font
+abbrev pub fontOf : Font → Wrapper Span
+fontOf x = track.font (cond (x .«has_family») (some (x .family)) none) (cond (x .«has_size») (some (x .size)) none)
+
+-- a segment with its children and its later siblings
+abbrev pub followedBy : Segment → Segments Span → Segments Span → Segments Span
+followedBy (Segment.Text s) c x = track.text s x
+followedBy Segment.Break c x = track.break x
+followedBy (Segment.Timestamp t) c x = track.timestamp t x
+followedBy Segment.Bold c x = track.wrap track.bold c x
+followedBy Segment.Italic c x = track.wrap track.italic c x
+followedBy Segment.Underline c x = track.wrap track.underline c x
+followedBy Segment.Strike c x = track.wrap track.strike c x
+followedBy (Segment.Color y) c x = track.wrap (track.color y) c x
+followedBy (Segment.Font y) c x = track.wrap (fontOf y) c x
+
+module _ (t : List ℕ) (r : List ℤ) (f : List Float) where
+  abbrev pub rowsAt : ℕ → ℕ
+  rowsAt i = cell 8 t i 1
+
+  -- the segments in n rows from row i on, of which the first k are passed over; `kids m j` are those in m rows from row j on
+  unfoldable pub siblingsAt : (ℕ → ℕ → Segments Span) → (n k i : ℕ) → Segments Span
+  unfolding cell segmentAt
+  siblingsAt kids zero k i = track.done
+  siblingsAt kids (suc n) (suc k) i = siblingsAt kids n k (i + 1)
+  siblingsAt kids (suc n) zero i = followedBy (segmentAt t r f i) (kids (rowsAt i - 1) (i + 1)) (siblingsAt kids n (rowsAt i - 1) (i + 1))
+
+  -- the same, nested at most d
+  unfoldable pub segmentsAt : (d n i : ℕ) → Segments Span
+  unfolding siblingsAt
+  segmentsAt zero n i = track.done
+  segmentsAt (suc d) n i = siblingsAt (segmentsAt d) n 0 i
+
+-- ---- cues: 0 style (present, place, length), 3 region (present, place, length), 6 preserve, 7 segments (first row, number of rows), 9 extras
+-- (first row, number of rows); begin and end are cells 2 i and 2 i + 1 of `times`
+unfoldable pub cueAt : Tables → ℕ → Cue Span ℕ
+unfolding cell given segmentsAt
+cueAt T i =
+    let c = cell 11 (T .cues) i in
+    record {
+      begins = getD (T .times) (i * 2) (pos 0);
+      ends = getD (T .times) (i * 2 + 1) (pos 0);
+      style = given (c 0) (span (c 1) (c 2));
+      region = given (c 3) (span (c 4) (c 5));
+      preserve = eqb (c 6) 1;
+      extras = extrasAt (T .extras) (c 9) (c 10);
+      segments = segmentsAt (T .segments) (T .reveal) (T .sizes) 512 (c 8) (c 7);
+    }
+
+-- ---- the whole
+-- what stands in n rows from row i on
+unfoldable pub rowsFrom : {A : Type 0} → (ℕ → A) → ℕ → ℕ → List A
+rowsFrom f zero i = []
+rowsFrom f (suc n) i = f i ∷ rowsFrom f n (i + 1)
+
+unfoldable pub trackAt : Tables → Track Span ℕ
+unfolding langAt paramAt styleAt regionAt cueAt rowsFrom
+trackAt T = record {
+  lang = langAt (T .head);
+  params = rowsFrom (paramAt (T .params)) (paramCount (T .head)) 0;
+  styles = rowsFrom (styleAt (T .styles) (T .sizes) (T .extras)) (styleCount (T .head)) 0;
+  regions = rowsFrom (regionAt (T .regions) (T .extras)) (regionCount (T .head)) 0;
+  cues = rowsFrom (cueAt T) (cueCount (T .head)) 0;
+}

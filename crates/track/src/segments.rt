@@ -1,0 +1,182 @@
+// Segments: rows in document order, each with the number of rows of its subtree.
+ghost use mathlib.Core.Path.{_≡_};
+ghost use mathlib.Core.Bool.{true};
+ghost use mathlib.Core.List.{List};
+ghost use Prim.Native.Nat.{ℕ, _+_, _*_, _≤_};
+ghost use lib.IntN.{ℤ};
+ghost use lib.ListN.{length, getD};
+ghost use Rattle.track.specs.Tables.{fontAt, segmentAt};
+ghost use Rattle.track.specs.Meaning.{areThree, isFont, isSegment, areSegments};
+use crate::strings::Span;
+use decimals::Size;
+
+pub struct Rgb {
+    pub r: u8,
+    pub g: u8,
+    pub b: u8,
+}
+
+// A family and a size, each of which may be absent.
+pub struct Font {
+    pub has_family: bool,
+    pub family: Span,
+    pub has_size: bool,
+    pub size: Size,
+}
+
+// A segment without its children: text, a break, a timestamp, or a wrapper with its data.
+pub enum Segment {
+    Text(Span),
+    Break,
+    Timestamp(i64),
+    Bold,
+    Italic,
+    Underline,
+    Strike,
+    Color(Rgb),
+    Font(Font),
+}
+
+const TEXT: u32 = 1;
+
+const BREAK: u32 = 2;
+
+const TIMESTAMP: u32 = 3;
+
+const BOLD: u32 = 4;
+
+const ITALIC: u32 = 5;
+
+const UNDERLINE: u32 = 6;
+
+const STRIKE: u32 = 7;
+
+const COLOR: u32 = 8;
+
+const FONT: u32 = 9;
+
+// Is the font in row i one?
+fn is_font(segments: &[u32], sizes: &[f32], strings: &[u8], i: usize) -> bool
+    requires { ⌜ (i * 8 + 8 ≤ length (now segments)) × (i + 1 ≤ length (now sizes)) ⌝ }
+    ensures { λ r. ⌜ ((y : List ℕ) → r ≡ isFont (now (segments .entry)) (now (sizes .entry)) (now (strings .entry)) y i) ⌝ }
+{
+    let at = i * 8;
+    let family = scan::get(segments, at + 2);
+    let place = scan::get(segments, at + 3);
+    if !crate::strings::is_optional(strings, family, place, scan::get(segments, at + 4)) {
+        return false;
+    }
+    crate::cells::is_size_at(
+        segments[at + 5],
+        segments[at + 6],
+        segments[at + 7],
+        sizes[i],
+    )
+}
+
+// Is row i a segment, whatever stands inside it?
+fn is_segment(segments: &[u32], sizes: &[f32], strings: &[u8], texts: &[u8], i: usize) -> bool
+    requires { ⌜ (i * 8 + 8 ≤ length (now segments)) × (i + 1 ≤ length (now sizes)) ⌝ }
+    ensures { λ r. ⌜ r ≡ isSegment (now (segments .entry)) (now (sizes .entry)) (now (strings .entry)) (now (texts .entry)) i ⌝ }
+{
+    let at = i * 8;
+    match segments[at] {
+        TEXT => {
+            let place = scan::get(segments, at + 2);
+            let len = scan::get(segments, at + 3);
+            segments[at + 1] == 1 && crate::strings::is_span(texts, place, len)
+        }
+        BREAK | TIMESTAMP => segments[at + 1] == 1,
+        BOLD..=STRIKE => true,
+        COLOR => crate::cells::are_three(segments, at + 2),
+        FONT => is_font(segments, sizes, strings, i),
+        _ => false,
+    }
+}
+
+// Are the n rows from row `from` on segments, nested at most `room`?
+pub fn are_segments(
+    segments: &[u32],
+    sizes: &[f32],
+    strings: &[u8],
+    texts: &[u8],
+    from: usize,
+    n: usize,
+    room: usize,
+) -> bool
+    requires { ⌜ ((from + n) * 8 ≤ length (now segments)) × (from + n ≤ length (now sizes)) ⌝ }
+    ensures { λ r. ⌜ r ≡ areSegments (now (segments .entry)) (now (sizes .entry)) (now (strings .entry)) (now (texts .entry)) room n from ⌝ }
+{
+    if room == 0 {
+        return n == 0;
+    }
+    let end = from + n;
+    let mut i = from;
+    while i < end {
+        if !is_segment(segments, sizes, strings, texts, i) {
+            return false;
+        }
+        let rows = scan::get(segments, i * 8 + 1);
+        if rows == 0 {
+            return false;
+        }
+        if end - i < rows {
+            return false;
+        }
+        if !are_segments(segments, sizes, strings, texts, i + 1, rows - 1, room - 1) {
+            return false;
+        }
+        i += rows;
+    }
+    true
+}
+
+// The font in row i.
+fn font_at(segments: &[u32], sizes: &[f32], i: usize) -> Font
+    requires { ⌜ (i * 8 + 8 ≤ length (now segments)) × (i + 1 ≤ length (now sizes)) ⌝ }
+    ensures { λ r. ⌜ ((v : List ℤ) → r ≡ fontAt (now (segments .entry)) v (now (sizes .entry)) i) ⌝ }
+{
+    let at = i * 8;
+    let family = Span {
+        place: scan::get(segments, at + 3),
+        len: scan::get(segments, at + 4),
+    };
+    let size = Size {
+        value: sizes[i],
+        negative: segments[at + 5] == 2,
+        digits: segments[at + 6],
+        scale: segments[at + 7],
+    };
+    Font {
+        has_family: segments[at + 2] == 1,
+        family,
+        has_size: segments[at + 5] != 0,
+        size,
+    }
+}
+
+// The segment in row i, without its children. Its kind is one of those above.
+pub fn segment_at(segments: &[u32], reveal: &[i64], sizes: &[f32], i: usize) -> Segment
+    requires { ⌜ (i * 8 + 8 ≤ length (now segments)) × (i + 1 ≤ length (now reveal)) × (i + 1 ≤ length (now sizes)) × (getD (now segments) (i * 8) 0 ≡ 8 → areThree (now segments) (i * 8 + 2) ≡ true) ⌝ }
+    ensures { λ r. ⌜ r ≡ segmentAt (now (segments .entry)) (now (reveal .entry)) (now (sizes .entry)) i ⌝ }
+{
+    let at = i * 8;
+    match segments[at] {
+        TEXT => Segment::Text(Span {
+            place: scan::get(segments, at + 2),
+            len: scan::get(segments, at + 3),
+        }),
+        BREAK => Segment::Break,
+        TIMESTAMP => Segment::Timestamp(reveal[i]),
+        BOLD => Segment::Bold,
+        ITALIC => Segment::Italic,
+        UNDERLINE => Segment::Underline,
+        STRIKE => Segment::Strike,
+        COLOR => Segment::Color(Rgb {
+            r: segments[at + 2] as u8,
+            g: segments[at + 3] as u8,
+            b: segments[at + 4] as u8,
+        }),
+        _ => Segment::Font(font_at(segments, sizes, i)),
+    }
+}
