@@ -2,3 +2,4 @@ pub mod Track
 pub mod Tables
 pub mod Meaning
 pub mod Check
+pub mod Layout

@@ -11,8 +11,11 @@ use Rattle.scan.specs.Bytes.{attrNameByte}
 use Rattle.unicode.specs.Utf8.{boundary, utf8End}
 use Rattle.decimals.specs.Size.{isSize}
 use Rattle.track.specs.declared.strings.Span.{Span}
-use Rattle.track.specs.Track.{Track, trackWith}
-use Rattle.track.specs.Tables.{Tables, cell, paramCount, styleCount, regionCount, cueCount, segmentCount, stringsUsed, textsUsed, sizeCell, trackAt}
+use Rattle.track.specs.declared.values.Rows.{Rows}
+use Rattle.track.specs.Track.{Extra, Param, Style, Region, Wrapper, Segments, Cue, Track}
+use Rattle.track.specs.Track as track
+use Rattle.track.specs.Tables.{Tables, cell, span, rowsFrom, paramCount, styleCount, regionCount, cueCount, segmentCount, stringsUsed, textsUsed, sizeCell, extraAt, paramAt, styleAt, regionAt, segmentsAt, cueAt}
+use Rattle.track.specs.Tables as tables
 
 -- ---- cells
 unfoldable pub isFlag : ℕ → Bool
@@ -192,17 +195,98 @@ isTrack T =
     withinLimits t && bytesMean t z y && rowsMean t (T .params) (T .styles) (T .regions) (T .sizes) (T .extras) z
     && areCues (T .cues) (T .extras) (T .segments) (T .sizes) z y (segmentCount t) 0 (cueCount t) 0
 
--- the track that the tables hold, each string as place and length; and with its bytes
-unfoldable pub placedIn : Tables → Option (Track Span ℕ)
-unfolding isTrack
-placedIn T = cond (isTrack T) (some (trackAt T)) none
-
+-- ---- the track, its strings with their bytes
 abbrev pub bytesAt : List ℕ → Span → List ℕ
 bytesAt z x = stringAt z (x .place) (x .len)
 
-abbrev pub withBytes : Tables → Track Span ℕ → Track (List ℕ) (Unit {0})
-withBytes T k = trackWith (bytesAt (T .strings)) (λ r. tt) (bytesAt (T .texts)) k
+-- a part that is there where its flag is set
+abbrev pub given : {A : Type 0} → Bool → A → Option A
+given b x = cond b (some x) none
 
-unfoldable pub trackIn : Tables → Option (Track (List ℕ) (Unit {0}))
+module _ (T : Tables) where
+  abbrev pub string : Span → List ℕ
+  string x = bytesAt (T .strings) x
+
+  abbrev pub extraIn : ℕ → Extra
+  extraIn i = let x = tables.extraAt (T .extras) i in record { number = x .number; value = string (x .value) }
+
+  abbrev pub extrasIn : Rows → List Extra
+  extrasIn x = rowsFrom extraIn (x .count) (x .first)
+
+  unfoldable pub paramIn : ℕ → Param
+  unfolding paramAt
+  paramIn i = let x = paramAt (T .params) i in record { name = string (x .name); value = string (x .value) }
+
+  -- a chain without bytes is none
+  abbrev pub chainOf : Span → Option (List ℕ)
+  chainOf x = cond (eqb (x .len) 0) none (some (string x))
+
+  unfoldable pub styleIn : ℕ → Style
+  unfolding styleAt extraAt rowsFrom
+  styleIn i =
+      let x = styleAt (T .styles) (T .sizes) i in
+      let l = x .look in
+      record {
+        name = string (x .name);
+        chain = chainOf (x .chain);
+        color = given (l .«has_color») (l .color);
+        back = given (l .«has_back») (l .back);
+        family = given (l .«has_family») (string (l .family));
+        size = given (l .«has_size») (l .size);
+        bold = x .bold;
+        italic = x .italic;
+        underline = x .underline;
+        strike = x .strike;
+        align = x .align;
+        extras = extrasIn (x .extras);
+      }
+
+  unfoldable pub regionIn : ℕ → Region
+  unfolding regionAt extraAt rowsFrom
+  regionIn i = let x = regionAt (T .regions) i in record { id = string (x .id); extras = extrasIn (x .extras) }
+
+  abbrev pub wrapperIn : Wrapper Span → Wrapper (List ℕ)
+  wrapperIn track.bold = track.bold
+  wrapperIn track.italic = track.italic
+  wrapperIn track.underline = track.underline
+  wrapperIn track.strike = track.strike
+  wrapperIn (track.color c) = track.color c
+  wrapperIn (track.font none s) = track.font none s
+  wrapperIn (track.font (some a) s) = track.font (some (string a)) s
+
+  -- texts stand in a table of their own
+  unfoldable pub segmentsIn : Segments Span → Segments (List ℕ)
+  segmentsIn track.done = track.done
+  segmentsIn (track.text s x) = track.text (bytesAt (T .texts) s) (segmentsIn x)
+  segmentsIn (track.break x) = track.break (segmentsIn x)
+  segmentsIn (track.timestamp t x) = track.timestamp t (segmentsIn x)
+  segmentsIn (track.wrap w c x) = track.wrap (wrapperIn w) (segmentsIn c) (segmentsIn x)
+
+  unfoldable pub cueIn : ℕ → Cue
+  unfolding cueAt segmentsAt segmentsIn extraAt rowsFrom
+  cueIn i =
+      let x = cueAt (T .cues) (T .times) i in
+      record {
+        start = x .start;
+        end = x .end;
+        style = given (x .«has_style») (string (x .style));
+        region = given (x .«has_region») (string (x .region));
+        preserve = x .preserve;
+        extras = extrasIn (x .extras);
+        segments = segmentsIn (segmentsAt (T .segments) (T .reveal) (T .sizes) 512 (x .segments .count) (x .segments .first));
+      }
+
+  unfoldable pub trackAt : Track
+  unfolding rowsFrom paramIn styleIn regionIn cueIn
+  trackAt = record {
+    lang = given (eqb (getD (T .head) 5 0) 1) (string (span (getD (T .head) 6 0) (getD (T .head) 7 0)));
+    params = rowsFrom paramIn (paramCount (T .head)) 0;
+    styles = rowsFrom styleIn (styleCount (T .head)) 0;
+    regions = rowsFrom regionIn (regionCount (T .head)) 0;
+    cues = rowsFrom cueIn (cueCount (T .head)) 0;
+  }
+
+-- what the tables mean: the track that they hold, or none
+unfoldable pub trackIn : Tables → Option Track
 unfolding isTrack trackAt
-trackIn T = cond (isTrack T) (some (withBytes T (trackAt T))) none
+trackIn T = cond (isTrack T) (some (trackAt T)) none

@@ -13,7 +13,15 @@ use Rattle.decimals.specs.declared.size.Size.{Size}
 use Rattle.track.specs.declared.strings.Span.{Span}
 use Rattle.track.specs.declared.segments.Font.{Font}
 use Rattle.track.specs.declared.segments.Segment.{Segment}
-use Rattle.track.specs.Track.{Align, Extra, Extras, Param, Style, Region, Wrapper, Segments, Cue, Track}
+use Rattle.track.specs.declared.values.Param.{Param}
+use Rattle.track.specs.declared.values.Extra.{Extra}
+use Rattle.track.specs.declared.values.Rows.{Rows}
+use Rattle.track.specs.declared.values.Align.{Align}
+use Rattle.track.specs.declared.values.Look.{Look}
+use Rattle.track.specs.declared.values.Style.{Style}
+use Rattle.track.specs.declared.values.Region.{Region}
+use Rattle.track.specs.declared.values.Cue.{Cue}
+use Rattle.track.specs.Track.{Wrapper, Segments}
 use Rattle.track.specs.Track as track
 
 pub record Tables : Type 0 where
@@ -37,12 +45,20 @@ cell w t i j = getD t (i * w + j) 0
 abbrev pub span : ℕ → ℕ → Span
 span p n = record { place = p; len = n }
 
--- a value that is there where the flag is 1
-unfoldable pub given : {A : Type 0} → ℕ → A → Option A
-given c x = cond (eqb c 1) (some x) none
+abbrev pub rowsOf : ℕ → ℕ → Rows
+rowsOf i n = record { first = i; count = n }
 
--- ---- head: counts of parameters, styles, regions, cues and segments; xml:lang, whether it is there, its place and length; how many bytes of
--- the strings and of the texts are used
+-- what stands in n rows from row i on
+unfoldable pub rowsFrom : {A : Type 0} → (ℕ → A) → ℕ → ℕ → List A
+rowsFrom f zero i = []
+rowsFrom f (suc n) i = f i ∷ rowsFrom f n (i + 1)
+
+-- a string that is there where the flag is 1
+unfoldable pub optional : ℕ → ℕ → ℕ → Span
+optional c p n = cond (eqb c 1) (span p n) (span 0 0)
+
+-- ---- head: 0 counts of parameters, styles, regions, cues and segments; 5 xml:lang (present, place, length); 8 how many bytes of the strings
+-- and of the texts are used
 module _ (t : List ℕ) where
   abbrev pub paramCount : ℕ
   paramCount = getD t 0 0
@@ -65,76 +81,71 @@ module _ (t : List ℕ) where
   abbrev pub textsUsed : ℕ
   textsUsed = getD t 9 0
 
-  unfoldable pub langAt : Option Span
-  unfolding given
-  langAt = given (getD t 5 0) (span (getD t 6 0) (getD t 7 0))
-
--- ---- extras: the number of the name in its list, place and length of the value
-unfoldable pub extraAt : List ℕ → ℕ → Extra Span
+-- ---- extras: 0 number of the name in its list, 1 value (place, length)
+unfoldable pub extraAt : List ℕ → ℕ → Extra
 unfolding cell
 extraAt t i = record { number = cell 3 t i 0; value = span (cell 3 t i 1) (cell 3 t i 2) }
 
--- n of them from row i on
-unfoldable pub extrasFrom : List ℕ → ℕ → ℕ → List (Extra Span)
-unfolding extraAt
-extrasFrom t zero i = []
-extrasFrom t (suc n) i = extraAt t i ∷ extrasFrom t n (i + 1)
-
-abbrev pub extrasAt : List ℕ → ℕ → ℕ → Extras Span ℕ
-extrasAt t first n = record { row = first; list = extrasFrom t n first }
-
--- ---- params: name, value
-unfoldable pub paramAt : List ℕ → ℕ → Param Span
+-- ---- params: 0 name, 2 value (place, length each)
+unfoldable pub paramAt : List ℕ → ℕ → Param
 unfolding cell
 paramAt t i = record { name = span (cell 4 t i 0) (cell 4 t i 1); value = span (cell 4 t i 2) (cell 4 t i 3) }
 
--- ---- a size: 0 is none, 1 a size, 2 one with a minus; digits; how many of them stand behind the point; and the f32
-unfoldable pub sizeAt : ℕ → ℕ → ℕ → Float → Option Size
-sizeAt sign digits scale value =
-    cond (eqb sign 0) none (some (record { value = value; negative = eqb sign 2; digits = digits; scale = scale }))
-
-abbrev pub sizeCell : List Float → ℕ → Float
-sizeCell t i = getD t i (fin false 0 (pos 0))
-
 -- ---- styles: 0 name, 2 chain, 4 colour (present, red, green, blue, alpha), 9 background, 14 family (present, place, length), 17 size (sign,
 -- digits, scale; its f32 is cell 16,384 + i of `sizes`), 20 bold, italic, underline, strike, 24 align, 25 extras (first row, number of rows)
-unfoldable pub colorAt : List ℕ → ℕ → Option Rgba
-unfolding given
-colorAt t i = given (getD t i 0) (record { r = getD t (i + 1) 0; g = getD t (i + 2) 0; b = getD t (i + 3) 0; a = getD t (i + 4) 0 })
+unfoldable pub colorAt : List ℕ → ℕ → Rgba
+colorAt t i =
+    cond (eqb (getD t i 0) 1) (record { r = getD t (i + 1) 0; g = getD t (i + 2) 0; b = getD t (i + 3) 0; a = getD t (i + 4) 0 })
+    (record { r = 0; g = 0; b = 0; a = 0 })
+
+-- the sign is 0 where there is no size, 1, or 2 with a minus
+abbrev pub zeroFloat : Float
+zeroFloat = fin false 0 (pos 0)
+
+abbrev pub sizeCell : List Float → ℕ → Float
+sizeCell t i = getD t i zeroFloat
+
+unfoldable pub sizeAt : ℕ → ℕ → ℕ → Float → Size
+sizeAt sign digits scale value =
+    cond (eqb sign 0) (record { value = zeroFloat; negative = false; digits = 0; scale = 0 })
+    (record { value = value; negative = eqb sign 2; digits = digits; scale = scale })
 
 unfoldable pub alignAt : ℕ → Align
-alignAt c =
-    cond (eqb c 1) track.center (cond (eqb c 2) track.end (cond (eqb c 3) track.left (cond (eqb c 4) track.right track.start)))
+alignAt c = cond (eqb c 1) Align.Center (cond (eqb c 2) Align.End (cond (eqb c 3) Align.Left (cond (eqb c 4) Align.Right Align.Start)))
 
--- a chain of length 0 is none
-unfoldable pub chainAt : ℕ → ℕ → Option Span
-chainAt p n = cond (eqb n 0) none (some (span p n))
+unfoldable pub lookAt : List ℕ → Float → ℕ → Look
+unfolding optional colorAt sizeAt
+lookAt t v i = record {
+  «has_color» = eqb (getD t (i + 4) 0) 1;
+  color = colorAt t (i + 4);
+  «has_back» = eqb (getD t (i + 9) 0) 1;
+  back = colorAt t (i + 9);
+  «has_family» = eqb (getD t (i + 14) 0) 1;
+  family = optional (getD t (i + 14) 0) (getD t (i + 15) 0) (getD t (i + 16) 0);
+  «has_size» = not (eqb (getD t (i + 17) 0) 0);
+  size = sizeAt (getD t (i + 17) 0) (getD t (i + 18) 0) (getD t (i + 19) 0) v;
+}
 
-unfoldable pub styleAt : (styles : List ℕ) (sizes : List Float) (extras : List ℕ) → ℕ → Style Span ℕ
-unfolding cell given colorAt sizeAt alignAt chainAt
-styleAt t f e i =
+unfoldable pub styleAt : (styles : List ℕ) (sizes : List Float) → ℕ → Style
+unfolding cell lookAt alignAt
+styleAt t f i =
     let c = cell 27 t i in
     record {
       name = span (c 0) (c 1);
-      chain = chainAt (c 2) (c 3);
-      color = colorAt t (i * 27 + 4);
-      back = colorAt t (i * 27 + 9);
-      family = given (c 14) (span (c 15) (c 16));
-      size = sizeAt (c 17) (c 18) (c 19) (sizeCell f (16384 + i));
+      chain = span (c 2) (c 3);
+      look = lookAt t (sizeCell f (16384 + i)) (i * 27);
       bold = eqb (c 20) 1;
       italic = eqb (c 21) 1;
       underline = eqb (c 22) 1;
       strike = eqb (c 23) 1;
       align = alignAt (c 24);
-      extras = extrasAt e (c 25) (c 26);
+      extras = rowsOf (c 25) (c 26);
     }
 
--- ---- regions: id, extras
-unfoldable pub regionAt : (regions extras : List ℕ) → ℕ → Region Span ℕ
+-- ---- regions: 0 id, 2 extras (first row, number of rows)
+unfoldable pub regionAt : List ℕ → ℕ → Region
 unfolding cell
-regionAt t e i =
-    let c = cell 4 t i in
-    record { id = span (c 0) (c 1); extras = extrasAt e (c 2) (c 3) }
+regionAt t i = record { id = span (cell 4 t i 0) (cell 4 t i 1); extras = rowsOf (cell 4 t i 2) (cell 4 t i 3) }
 
 -- ---- segments: 0 kind, 1 rows of its subtree, itself included; then, by its kind
 --     1 text: 2 place, 3 length, in `texts`     2 break     3 timestamp: its time is cell i of `reveal`
@@ -202,32 +213,18 @@ module _ (t : List ℕ) (r : List ℤ) (f : List Float) where
 
 -- ---- cues: 0 style (present, place, length), 3 region (present, place, length), 6 preserve, 7 segments (first row, number of rows), 9 extras
 -- (first row, number of rows); begin and end are cells 2 i and 2 i + 1 of `times`
-unfoldable pub cueAt : Tables → ℕ → Cue Span ℕ
-unfolding cell given segmentsAt
-cueAt T i =
-    let c = cell 11 (T .cues) i in
+unfoldable pub cueAt : List ℕ → List ℤ → ℕ → Cue
+unfolding cell optional
+cueAt t m i =
+    let c = cell 11 t i in
     record {
-      begins = getD (T .times) (i * 2) (pos 0);
-      ends = getD (T .times) (i * 2 + 1) (pos 0);
-      style = given (c 0) (span (c 1) (c 2));
-      region = given (c 3) (span (c 4) (c 5));
+      start = getD m (i * 2) (pos 0);
+      end = getD m (i * 2 + 1) (pos 0);
+      «has_style» = eqb (c 0) 1;
+      style = optional (c 0) (c 1) (c 2);
+      «has_region» = eqb (c 3) 1;
+      region = optional (c 3) (c 4) (c 5);
       preserve = eqb (c 6) 1;
-      extras = extrasAt (T .extras) (c 9) (c 10);
-      segments = segmentsAt (T .segments) (T .reveal) (T .sizes) 512 (c 8) (c 7);
+      segments = rowsOf (c 7) (c 8);
+      extras = rowsOf (c 9) (c 10);
     }
-
--- ---- the whole
--- what stands in n rows from row i on
-unfoldable pub rowsFrom : {A : Type 0} → (ℕ → A) → ℕ → ℕ → List A
-rowsFrom f zero i = []
-rowsFrom f (suc n) i = f i ∷ rowsFrom f n (i + 1)
-
-unfoldable pub trackAt : Tables → Track Span ℕ
-unfolding langAt paramAt styleAt regionAt cueAt rowsFrom
-trackAt T = record {
-  lang = langAt (T .head);
-  params = rowsFrom (paramAt (T .params)) (paramCount (T .head)) 0;
-  styles = rowsFrom (styleAt (T .styles) (T .sizes) (T .extras)) (styleCount (T .head)) 0;
-  regions = rowsFrom (regionAt (T .regions) (T .extras)) (regionCount (T .head)) 0;
-  cues = rowsFrom (cueAt T) (cueCount (T .head)) 0;
-}
