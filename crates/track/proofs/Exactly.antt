@@ -13,8 +13,8 @@ use native.Mathlib.Omega.{arith}
 use Rattle.unicode.proofs.Utf8Laws.{by-test}
 use Rattle.track.specs.declared.check.Check.{Check}
 use Rattle.track.specs.Track.{Track}
-use Rattle.track.specs.Tables.{Tables, trackAt}
-use Rattle.track.specs.Meaning.{isTrack, trackIn, withBytes}
+use Rattle.track.specs.Tables.{Tables}
+use Rattle.track.specs.Meaning.{isTrack, trackAt, trackIn}
 use Rattle.track.specs.Check.{refusedAs, isFull, checkOf}
 
 abbrev numberOf : Check → ℕ
@@ -40,7 +40,7 @@ module _ (T : Tables) where
   unfolding checkOf
   check-track f e = rw (f, e)
 
-  pub track-some : isTrack T ≡ true → trackIn T ≡ some (withBytes T (trackAt T))
+  pub track-some : isTrack T ≡ true → trackIn T ≡ some (trackAt T)
   unfolding trackIn
   track-some e = rw e
 
@@ -48,9 +48,9 @@ module _ (T : Tables) where
   unfolding trackIn
   track-none e = rw e
 
-  pub accepted-exactly : isFull T ≡ true → (checkOf T ≡ Check.Track) ↔ ((k : Track (List ℕ) (Unit {0})) × (trackIn T ≡ some k))
+  pub accepted-exactly : isFull T ≡ true → (checkOf T ≡ Check.Track) ↔ ((k : Track) × (trackIn T ≡ some k))
   accepted-exactly f = (
-    λ a. by-test (isTrack T) (λ e. (withBytes T (trackAt T), track-some e)) (λ e. differ (sym a ∙ check-none f e) (λ z. omega arith)),
+    λ a. by-test (isTrack T) (λ e. (trackAt T, track-some e)) (λ e. differ (sym a ∙ check-none f e) (λ z. omega arith)),
     λ k. by-test (isTrack T) (check-track f) (λ e. no-some (sym (track-none e) ∙ k .1)),
   )
 
