@@ -3,3 +3,4 @@ pub mod Tables
 pub mod Meaning
 pub mod Check
 pub mod Layout
+pub mod Placing

@@ -1,0 +1,118 @@
+-- Extras that were laid into their table are read back from it. Assumes nothing.
+--     extras-read    those of one element: the test and the value
+--     laid-extras    in the table of a layout, those of every element
+use Prim.Native.Nat.{ℕ, zero, suc, _+_, _*_, _≤_, _<_}
+use mathlib.Core.Path.{_≡_, refl, sym, _∙_}
+use mathlib.Core.Bool.{true}
+use mathlib.Core.List.{List, [], _∷_, _++_}
+use mathlib.Core.Logic.{_⊎_, inl, inr}
+use native.Mathlib.Omega.{arith}
+use lib.ListN.{length, length-append}
+use lib.Seq.{length-sets}
+use borrow.Author.Tests.{lt-ltb, le-leb}
+use Rattle.track.specs.declared.values.Extra.{Extra}
+use Rattle.track.specs.declared.values.Rows.{Rows}
+use Rattle.track.specs.Tables.{Tables, cell, rowsFrom, extraAt}
+use Rattle.track.specs.Meaning.{isExtra, areExtras, hasExtras, extraIn}
+use Rattle.track.specs.Layout.{joinedCells, each, extraCells, layExtras, styleExtras, regionExtras, cueExtras, Placed, PlacedStyle, PlacedRegion, PlacedCue}
+use Rattle.track.specs.Placing.{All, Rising, ExtrasFit, shownExtra, Laid, laidStyle, laidRegion, laidCue, laid, Apart, AllApart}
+use Rattle.track.proofs.ReadBack.{Reads, reads-rest, reads-set, reads-kept}
+
+-- the cells of extras
+abbrev pub cellsOf : List Extra → List ℕ
+cellsOf l = joinedCells extraCells l
+
+cells-many : (l : List Extra) → length (cellsOf l) ≡ length l * 3
+unfolding joinedCells extraCells
+cells-many [] = refl
+cells-many (x ∷ l) = omega (arith, cells-many l)
+
+module _ (T : Tables) (z : List ℕ) (most : ℕ) where
+  list-read : (l : List Extra) (least i : ℕ) → Reads 0 (T .extras) (i * 3) (cellsOf l) → Rising z most least l
+      → (areExtras (T .extras) z most least (length l) i ≡ true) × (rowsFrom (extraIn T) (length l) i ≡ each (shownExtra (T .strings)) l)
+  unfolding joinedCells extraCells areExtras isExtra rowsFrom each shownExtra extraAt cell
+  list-read [] least i h r = (refl, refl)
+  list-read (x ∷ l) least i h r =
+      let a : cell 3 (T .extras) i 0 ≡ x .number = h 0 (omega arith) in
+      let b : cell 3 (T .extras) i 1 ≡ x .value .place = h 1 (omega arith) in
+      let c : cell 3 (T .extras) i 2 ≡ x .value .len = h 2 (omega arith) in
+      let q = list-read l (x .number + 1) (i + 1) (reads-rest 0 (T .extras) (i * 3) (extraCells x) (cellsOf l) h ((i + 1) * 3) (omega arith)) (r .3) in
+      (rw (a, b, c, le-leb least (x .number) (r .0), lt-ltb (x .number) most (r .1), r .2, q .0), rw (a, b, c, q .1))
+
+  pub extras-read : (x : Rows) (l : List Extra) → ExtrasFit z most x l → Reads 0 (T .extras) (x .first * 3) (cellsOf l)
+      → (hasExtras (T .extras) z most (x .first) (x .count) ≡ true) × (rowsFrom (extraIn T) (x .count) (x .first) ≡ each (shownExtra (T .strings)) l)
+  unfolding hasExtras
+  extras-read x l f h =
+      let q = list-read l 0 (x .first) h (f .rising) in
+      (rw (le-leb (x .first + x .count) 8192 (f .room), f .many) (q .0), rw (f .many) (q .1))
+
+-- ---- all lists, one after the other
+layAll : List ℕ → List Laid → List ℕ
+layAll t [] = t
+layAll t (x ∷ l) = layAll (layExtras t (x .rows) (x .extras)) l
+
+lay-append : (a b : List Laid) (t : List ℕ) → layAll t (a ++ b) ≡ layAll (layAll t a) b
+unfolding layAll
+lay-append [] b t = refl
+lay-append (x ∷ a) b t = lay-append a b _
+
+lay-styles : (l : List PlacedStyle) (t : List ℕ) → styleExtras t l ≡ layAll t (each laidStyle l)
+unfolding styleExtras layAll each laidStyle
+lay-styles [] t = refl
+lay-styles (x ∷ l) t = lay-styles l _
+
+lay-regions : (l : List PlacedRegion) (t : List ℕ) → regionExtras t l ≡ layAll t (each laidRegion l)
+unfolding regionExtras layAll each laidRegion
+lay-regions [] t = refl
+lay-regions (x ∷ l) t = lay-regions l _
+
+lay-cues : (l : List PlacedCue) (t : List ℕ) → cueExtras t l ≡ layAll t (each laidCue l)
+unfolding cueExtras layAll each laidCue
+lay-cues [] t = refl
+lay-cues (x ∷ l) t = lay-cues l _
+
+-- as many rows as extras, and within the table
+abbrev pub Sits : Laid → Type 0
+Sits x = (x .rows .count ≡ length (x .extras)) × (x .rows .first + x .rows .count ≤ 8192)
+
+-- what one element's rows hold
+abbrev pub Stays : List ℕ → Laid → Type 0
+Stays t x = Reads 0 t (x .rows .first * 3) (cellsOf (x .extras))
+
+stays : (l : List Laid) (t : List ℕ) (x : Laid) → Sits x → All (λ y. Apart (x .rows) (y .rows)) l → All Sits l → Stays t x → Stays (layAll t l) x
+unfolding layAll layExtras
+stays [] t x e a s r = r
+stays (y ∷ l) t x e a s r =
+    let m : length (cellsOf (x .extras)) ≡ length (x .extras) * 3 = cells-many (x .extras) in
+    let n : length (cellsOf (y .extras)) ≡ length (y .extras) * 3 = cells-many (y .extras) in
+    let j : x .rows .count ≡ length (x .extras) = e .0 in
+    let k : y .rows .count ≡ length (y .extras) = s .0 .0 in
+    stays l _ x e (a .1) (s .1)
+    (reads-kept t (cellsOf (y .extras)) (cellsOf (x .extras)) (y .rows .first * 3) (x .rows .first * 3) (λ g h. go m n j k (a .0 (omega arith) (omega arith))) r)
+  where
+    go : length (cellsOf (x .extras)) ≡ length (x .extras) * 3 → length (cellsOf (y .extras)) ≡ length (y .extras) * 3 → x .rows .count ≡ length (x .extras)
+        → y .rows .count ≡ length (y .extras) → (x .rows .first + x .rows .count ≤ y .rows .first) ⊎ (y .rows .first + y .rows .count ≤ x .rows .first)
+        → (x .rows .first * 3 + length (cellsOf (x .extras)) ≤ y .rows .first * 3) ⊎ (y .rows .first * 3 + length (cellsOf (y .extras)) ≤ x .rows .first * 3)
+    go m n j k (inl h) = inl (omega arith)
+    go m n j k (inr h) = inr (omega arith)
+
+all-stay : (l : List Laid) (t : List ℕ) → length t ≡ 24576 → All Sits l → AllApart l → All (Stays (layAll t l)) l
+unfolding layAll layExtras
+all-stay [] t e s a = tt
+all-stay (x ∷ l) t e s a =
+    let m : length (cellsOf (x .extras)) ≡ length (x .extras) * 3 = cells-many (x .extras) in
+    let t′ : List ℕ = layExtras t (x .rows) (x .extras) in (
+      stays l t′ x (s .0) (a .0) (s .1) (reads-set t (cellsOf (x .extras)) (x .rows .first * 3) (omega (arith, s .0 .0, s .0 .1))),
+      all-stay l t′ (length-sets t (x .rows .first * 3) (cellsOf (x .extras)) ∙ e) (s .1) (a .1),
+    )
+
+pub laid-extras : (k : Placed) (t : List ℕ) → length t ≡ 24576 → All Sits (laid k) → AllApart (laid k)
+    → All (Stays (cueExtras (regionExtras (styleExtras t (k .styles)) (k .regions)) (k .cues))) (laid k)
+unfolding laid
+laid-extras k t e s a =
+    let a1 = each laidStyle (k .styles) in
+    let a2 = each laidRegion (k .regions) in
+    let a3 = each laidCue (k .cues) in
+    let q : cueExtras (regionExtras (styleExtras t (k .styles)) (k .regions)) (k .cues) ≡ layAll t (laid k)
+    = rw (lay-styles (k .styles) t, lay-regions (k .regions) (layAll t a1), lay-cues (k .cues) (layAll (layAll t a1) a2), lay-append a1 (a2 ++ a3) t, lay-append a2 a3 (layAll t a1)) in
+    rw q (all-stay (laid k) t e s a)

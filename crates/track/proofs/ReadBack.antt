@@ -1,0 +1,91 @@
+-- Reading cells back, in a table of any kind of cell. Assumes nothing.
+--     reads-here, reads-first, reads-rest    what is read from a place on: in a list that begins with it, and its parts
+--     reads-set, reads-kept                  what was stored, and what stands where nothing was
+--     rows-at                                rows of w cells, one after the other
+--     at-with, at-mean                       tests and values of rows, from those of each
+--     all-append, all-each                   lists of facts
+use Prim.Native.Nat.{ℕ, zero, suc, _+_, _*_, _≤_, _<_}
+use mathlib.Core.Path.{_≡_, refl, sym, ap, _∙_}
+use mathlib.Core.Bool.{Bool, true}
+use mathlib.Core.List.{List, [], _∷_, _++_}
+use mathlib.Core.Logic.{_⊎_, inl, inr}
+use native.Mathlib.Omega.{arith}
+use native.Mathlib.Nat.{zero-add, add-assoc}
+use lib.ListN.{length, getD, take, drop, length-append, List·getD-append}
+use lib.Seq.{sets, getD-append-add, getD-take, getD-drop}
+use Rattle.scan.proofs.Stores.{sets-part, sets-other}
+use Rattle.track.specs.Tables.{rowsFrom}
+use Rattle.track.specs.Meaning.{allRows}
+use Rattle.track.specs.Layout.{joinedCells, each}
+use Rattle.track.specs.Placing.{All}
+
+-- the cells c stand in t from place p on; d is what is read past the end
+abbrev pub Reads : {A : Type 0} → A → List A → ℕ → List A → Type 0
+Reads d t p c = (k : ℕ) → k < length c → getD t (p + k) d ≡ getD c k d
+
+module _ {A : Type 0} (d : A) where
+  pub reads-here : (c e : List A) → Reads d (c ++ e) 0 c
+  reads-here c e k h = rw (zero-add k) (List·getD-append c e d k h)
+
+  -- after p cells
+  pub reads-after : (b c e : List A) (p : ℕ) → p ≡ length b → Reads d (b ++ (c ++ e)) p c
+  reads-after b c e p q k h = rw q (getD-append-add b (c ++ e) k d ∙ List·getD-append c e d k h)
+
+  module _ (t : List A) (p : ℕ) (a b : List A) (h : Reads d t p (a ++ b)) where
+    pub reads-first : Reads d t p a
+    reads-first k l = h k (rw length-append (omega arith)) ∙ List·getD-append a b d k l
+
+    pub reads-rest : (q : ℕ) → q ≡ p + length a → Reads d t q b
+    reads-rest q e k l =
+        rw (e, add-assoc p (length a) k) (h (length a + k) (rw length-append (omega arith)) ∙ getD-append-add a b k d)
+
+pub reads-set : (t w : List ℕ) (p : ℕ) → p + length w ≤ length t → Reads 0 (sets t p w) p w
+reads-set t w p h k l =
+    sym (getD-drop p (sets t p w) k 0) ∙ (sym (getD-take (length w) (drop p (sets t p w)) k 0 l) ∙ ap (λ (x : List ℕ). getD x k 0) (sets-part w t p h))
+
+pub reads-kept :
+    (t w c : List ℕ) (q p : ℕ) → (0 < length c → 0 < length w → (p + length c ≤ q) ⊎ (q + length w ≤ p)) → Reads 0 t p c → Reads 0 (sets t q w) p c
+reads-kept t [] c q p h r k l = r k l
+reads-kept t (x ∷ w) c q p h r k l = sets-other (x ∷ w) t q (p + k) (go (h (omega arith) (omega arith))) ∙ r k l
+  where
+    go : (p + length c ≤ q) ⊎ (q + suc (length w) ≤ p) → (p + k < q) ⊎ (q + suc (length w) ≤ p + k)
+    go (inl g) = inl (omega arith)
+    go (inr g) = inr (omega arith)
+
+-- ---- rows
+-- a fact about each of a list, the first being number i
+abbrev pub AllAt : {A : Type 0} → (ℕ → A → Type 0) → ℕ → List A → Type 0
+AllAt P i [] = Unit {0}
+AllAt P i (x ∷ l) = P i x × AllAt P (i + 1) l
+
+pub rows-at : {A : Type 0} (w : ℕ) (f : A → List ℕ) → ((x : A) → length (f x) ≡ w) → (t : List ℕ) (l : List A) (i : ℕ)
+    → Reads 0 t (i * w) (joinedCells f l) → AllAt (λ i x. Reads 0 t (i * w) (f x)) i l
+unfolding joinedCells
+rows-at w f e t [] i h = tt
+rows-at w f e t (x ∷ l) i h =
+    let n : length (f x) ≡ w = e x in
+    let z : (i + 1) * w ≡ i * w + w = omega arith in
+    (reads-first 0 t (i * w) (f x) (joinedCells f l) h, rows-at w f e t l (i + 1) (reads-rest 0 t (i * w) (f x) (joinedCells f l) h ((i + 1) * w) (omega arith)))
+
+pub at-with : {A : Type 0} {P R : ℕ → A → Type 0} {Q : A → Type 0} → ((i : ℕ) (x : A) → P i x → Q x → R i x) → (l : List A) (i : ℕ) → AllAt P i l → All Q l → AllAt R i l
+at-with f [] i p q = tt
+at-with f (x ∷ l) i p q = (f i x (p .0) (q .0), at-with f l (i + 1) (p .1) (q .1))
+
+pub at-mean :
+    {A B : Type 0} (p : ℕ → Bool) (g : ℕ → B) (h : A → B) (l : List A) (i : ℕ) → AllAt (λ i x. (p i ≡ true) × (g i ≡ h x)) i l
+    → (allRows p (length l) i ≡ true) × (rowsFrom g (length l) i ≡ each h l)
+unfolding allRows rowsFrom each
+at-mean p g h [] i a = (refl, refl)
+at-mean p g h (x ∷ l) i a =
+    let r = at-mean p g h l (i + 1) (a .1) in
+    (rw (a .0 .0) (r .0), rw (a .0 .1, r .1))
+
+-- ---- lists of facts
+pub all-append : {A : Type 0} (P : A → Type 0) (a b : List A) → All P (a ++ b) → All P a × All P b
+all-append P [] b h = (tt, h)
+all-append P (x ∷ a) b h = let r = all-append P a b (h .1) in ((h .0, r .0), r .1)
+
+pub all-each : {A B : Type 0} (P : B → Type 0) (f : A → B) (l : List A) → All P (each f l) → All (λ x. P (f x)) l
+unfolding each
+all-each P f [] h = tt
+all-each P f (x ∷ l) h = (h .0, all-each P f l (h .1))
