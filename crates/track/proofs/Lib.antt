@@ -1,7 +1,9 @@
 -- What the proofs of several functions use.
-pub mod Defaults
 pub mod SegmentLaws
 pub mod ReadBack
 pub mod ExtrasLaid
 pub mod RowsLaid
 pub mod SegmentsLaid
+pub mod CuesLaid
+pub mod LayoutLaws
+pub mod PlainExamples

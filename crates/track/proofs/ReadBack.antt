@@ -3,7 +3,7 @@
 --     reads-set, reads-kept                  what was stored, and what stands where nothing was
 --     rows-at                                rows of w cells, one after the other
 --     at-with, at-mean                       tests and values of rows, from those of each
---     all-append, all-each                   lists of facts
+--     all-append, all-each, all-join, each-all, all-both    lists of facts
 use Prim.Native.Nat.{ℕ, zero, suc, _+_, _*_, _≤_, _<_}
 use mathlib.Core.Path.{_≡_, refl, sym, ap, _∙_}
 use mathlib.Core.Bool.{Bool, true}
@@ -67,9 +67,9 @@ rows-at w f e t (x ∷ l) i h =
     let z : (i + 1) * w ≡ i * w + w = omega arith in
     (reads-first 0 t (i * w) (f x) (joinedCells f l) h, rows-at w f e t l (i + 1) (reads-rest 0 t (i * w) (f x) (joinedCells f l) h ((i + 1) * w) (omega arith)))
 
-pub at-with : {A : Type 0} {P R : ℕ → A → Type 0} {Q : A → Type 0} → ((i : ℕ) (x : A) → P i x → Q x → R i x) → (l : List A) (i : ℕ) → AllAt P i l → All Q l → AllAt R i l
-at-with f [] i p q = tt
-at-with f (x ∷ l) i p q = (f i x (p .0) (q .0), at-with f l (i + 1) (p .1) (q .1))
+pub at-with : {A : Type 0} (P R : ℕ → A → Type 0) (Q : A → Type 0) → ((i : ℕ) (x : A) → P i x → Q x → R i x) → (l : List A) (i : ℕ) → AllAt P i l → All Q l → AllAt R i l
+at-with P R Q f [] i p q = tt
+at-with P R Q f (x ∷ l) i p q = (f i x (p .0) (q .0), at-with P R Q f l (i + 1) (p .1) (q .1))
 
 pub at-mean :
     {A B : Type 0} (p : ℕ → Bool) (g : ℕ → B) (h : A → B) (l : List A) (i : ℕ) → AllAt (λ i x. (p i ≡ true) × (g i ≡ h x)) i l
@@ -89,3 +89,16 @@ pub all-each : {A B : Type 0} (P : B → Type 0) (f : A → B) (l : List A) → 
 unfolding each
 all-each P f [] h = tt
 all-each P f (x ∷ l) h = (h .0, all-each P f l (h .1))
+
+pub all-join : {A : Type 0} (P : A → Type 0) (a b : List A) → All P a → All P b → All P (a ++ b)
+all-join P [] b h g = g
+all-join P (x ∷ a) b h g = (h .0, all-join P a b (h .1) g)
+
+pub each-all : {A B : Type 0} (P : B → Type 0) (Q : A → Type 0) (f : A → B) → ((x : A) → Q x → P (f x)) → (l : List A) → All Q l → All P (each f l)
+unfolding each
+each-all P Q f g [] h = tt
+each-all P Q f g (x ∷ l) h = (g x (h .0), each-all P Q f g l (h .1))
+
+pub all-both : {A : Type 0} (P Q : A → Type 0) (l : List A) → All P l → All Q l → All (λ x. P x × Q x) l
+all-both P Q [] h g = tt
+all-both P Q (x ∷ l) h g = ((h .0, g .0), all-both P Q l (h .1) (g .1))

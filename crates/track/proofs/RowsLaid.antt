@@ -1,5 +1,6 @@
 -- Parameters, regions and styles are read back from their rows. Assumes nothing.
 --     optional-read, color-read, size-read, align-read    what a row has cells for: the test and the value
+--     four, on                                            parts of a row, and their places
 --     param-read, region-read, style-read                 a row
 use Prim.Native.Nat.{ℕ, zero, suc, _+_, _*_, _≤_, _<_}
 use mathlib.Core.Path.{_≡_, refl, sym, ap, _∙_}
@@ -28,7 +29,7 @@ use Rattle.track.proofs.ReadBack.{Reads, reads-first, reads-rest}
 use Rattle.track.proofs.ExtrasLaid.{cellsOf, extras-read}
 
 -- ---- values
-flag-is : (b : Bool) → (isFlag (flag b) ≡ true) × (eqb (flag b) 1 ≡ b)
+pub flag-is : (b : Bool) → (isFlag (flag b) ≡ true) × (eqb (flag b) 1 ≡ b)
 unfolding isFlag
 flag-is true = (refl, refl)
 flag-is false = (refl, refl)
@@ -163,16 +164,20 @@ pub record Parts (t : List ℕ) (p : ℕ) (x : Style) : Type 0 where
       × (getD t (p + 23) 0 ≡ flag (x .strike)) × (getD t (p + 24) 0 ≡ alignCell (x .align))
   pub extras : (getD t (p + 25) 0 ≡ x .extras .first) × (getD t (p + 26) 0 ≡ x .extras .count)
 
--- a look's four parts, and a row's three
+-- parts of a row, one after the other
 module _ (t : List ℕ) (p : ℕ) where
-  four : (a b c d : List ℕ) → length a ≡ 5 → length b ≡ 5 → length c ≡ 3 → Reads 0 t p (a ++ b ++ c ++ d)
-      → Reads 0 t p a × Reads 0 t (p + 5) b × Reads 0 t (p + 10) c × Reads 0 t (p + 13) d
-  four a b c d i j k h =
-      let m : length (a ++ b) ≡ 10 = length-append a b ∙ omega arith in
-      let n : length (a ++ b ++ c) ≡ 13 = length-append (a ++ b) c ∙ omega arith in
+  pub four : (j k l : ℕ) (a b c d : List ℕ) → length a ≡ j → length b ≡ k → length c ≡ l → Reads 0 t p (a ++ b ++ c ++ d)
+      → Reads 0 t p a × Reads 0 t (p + j) b × Reads 0 t (p + (j + k)) c × Reads 0 t (p + (j + k + l)) d
+  four j k l a b c d ea eb ec h =
+      let m : length (a ++ b) ≡ j + k = length-append a b ∙ omega arith in
+      let n : length (a ++ b ++ c) ≡ j + k + l = length-append (a ++ b) c ∙ omega arith in
       let f : Reads 0 t p (a ++ b ++ c) = reads-first 0 t p (a ++ b ++ c) d h in
-      let g : Reads 0 t p (a ++ b) = reads-first 0 t p (a ++ b) c f in
-      (reads-first 0 t p a b g, reads-rest 0 t p a b g (p + 5) (omega arith), reads-rest 0 t p (a ++ b) c f (p + 10) (omega arith), reads-rest 0 t p (a ++ b ++ c) d h (p + 13) (omega arith))
+      let g : Reads 0 t p (a ++ b) = reads-first 0 t p (a ++ b) c f in (
+        reads-first 0 t p a b g,
+        reads-rest 0 t p a b g (p + j) (omega arith),
+        reads-rest 0 t p (a ++ b) c f (p + (j + k)) (omega arith),
+        reads-rest 0 t p (a ++ b ++ c) d h (p + (j + k + l)) (omega arith),
+      )
 
   three : (a b c : List ℕ) → length a ≡ 4 → length b ≡ 16 → Reads 0 t p (a ++ b ++ c) → Reads 0 t p a × Reads 0 t (p + 4) b × Reads 0 t (p + 20) c
   three a b c i j h =
@@ -192,12 +197,16 @@ look-long x = rw (
   size-long (x .«has_size») (x .size),
 )
 
+pub style-long : (x : Style) → length (styleCells x) ≡ 27
+unfolding styleCells
+style-long x = let a = spanCells (x .name) ++ spanCells (x .chain) in rw (length-append (a ++ lookCells (x .look)), length-append a, look-long (x .look))
+
 look-parts : (t : List ℕ) (p : ℕ) (x : Look) → Reads 0 t p (lookCells x)
     → Reads 0 t p (colorCells (x .«has_color») (x .color)) × Reads 0 t (p + 5) (colorCells (x .«has_back») (x .back))
     × Reads 0 t (p + 10) (optionalCells (x .«has_family») (x .family)) × Reads 0 t (p + 13) (sizeCells (x .«has_size») (x .size))
 unfolding lookCells
 look-parts t p x h =
-    four t p (colorCells (x .«has_color») (x .color)) (colorCells (x .«has_back») (x .back)) (optionalCells (x .«has_family») (x .family))
+    four t p 5 5 3 (colorCells (x .«has_color») (x .color)) (colorCells (x .«has_back») (x .back)) (optionalCells (x .«has_family») (x .family))
     (sizeCells (x .«has_size») (x .size)) (color-long (x .«has_color») (x .color)) (color-long (x .«has_back») (x .back))
     (optional-long (x .«has_family») (x .family)) h
 

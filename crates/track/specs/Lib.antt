@@ -4,3 +4,4 @@ pub mod Meaning
 pub mod Check
 pub mod Layout
 pub mod Placing
+pub mod Plain
