@@ -1,22 +1,21 @@
 -- Cues are read back from their rows, each with its segments. Assumes nothing.
 --     shows-segments    the segments of a table with their bytes
 --     cues-read         the test and the value
-use Prim.Native.Nat.{ℕ, zero, suc, _+_, _*_, _≤_, _<_}
-use mathlib.Core.Path.{_≡_, refl, sym, ap, _∙_}
-use mathlib.Core.Bool.{Bool, true, false}
+use Prim.Native.Nat.{ℕ, _+_, _*_, _≤_}
+use mathlib.Core.Path.{_≡_, refl, ap, _∙_}
+use mathlib.Core.Bool.{true}
 use mathlib.Core.List.{List, [], _∷_, _++_}
 use mathlib.Core.Option.{none, some}
 use native.Mathlib.Omega.{arith}
 use native.Mathlib.Nat.{add-zero}
 use lib.ListN.{length, getD, length-append}
-use lib.Dec.{eqb}
-use lib.IntN.{ℤ, pos}
+use lib.IntN.{pos}
 use borrow.Author.Tests.{le-leb, eq-eqb}
 use Rattle.track.specs.declared.strings.Span.{Span}
 use Rattle.track.specs.declared.values.Cue.{Cue}
 use Rattle.track.specs.Track.{Wrapper, Segments}
 use Rattle.track.specs.Track as track
-use Rattle.track.specs.Tables.{Tables, cell, rowsFrom, cueAt, segmentsAt, extraAt}
+use Rattle.track.specs.Tables.{Tables, cell, rowsFrom, cueAt, segmentsAt}
 use Rattle.track.specs.Meaning.{bytesAt, given, extraIn, cueValues, isCue, areCues, wrapperIn, segmentsIn, cueIn}
 use Rattle.track.specs.Layout.{joinedCells, each, flag, rowsCells, optionalCells, cueCells, cueTimes, allSegments, preorder, segmentRows, PlacedCue}
 use Rattle.track.specs.Placing.{All, CueFits, InTurn, shownWrapper, shownSegments, shownCue}

@@ -1,13 +1,13 @@
 -- Extras that were laid into their table are read back from it. Assumes nothing.
 --     extras-read    those of one element: the test and the value
 --     laid-extras    in the table of a layout, those of every element
-use Prim.Native.Nat.{ℕ, zero, suc, _+_, _*_, _≤_, _<_}
-use mathlib.Core.Path.{_≡_, refl, sym, _∙_}
+use Prim.Native.Nat.{ℕ, _+_, _*_, _≤_}
+use mathlib.Core.Path.{_≡_, refl, _∙_}
 use mathlib.Core.Bool.{true}
 use mathlib.Core.List.{List, [], _∷_, _++_}
 use mathlib.Core.Logic.{_⊎_, inl, inr}
 use native.Mathlib.Omega.{arith}
-use lib.ListN.{length, length-append}
+use lib.ListN.{length}
 use lib.Seq.{length-sets}
 use borrow.Author.Tests.{lt-ltb, le-leb}
 use Rattle.track.specs.declared.values.Extra.{Extra}

@@ -2,25 +2,23 @@
 --     Holds, means      tables that hold a placed track mean what it shows
 --     layout-holds      those of the layout hold it
 --     layout-means      so they mean it
-use Prim.Native.Nat.{ℕ, zero, suc, _+_, _-_, _*_, _≤_, _<_}
-use mathlib.Core.Path.{_≡_, refl, sym, ap, _∙_}
+use Prim.Native.Nat.{ℕ, _+_, _-_, _*_, _≤_}
+use mathlib.Core.Path.{_≡_, refl, sym, _∙_}
 use mathlib.Core.Bool.{Bool, true, false}
 use mathlib.Core.List.{List, [], _∷_, _++_}
 use mathlib.Core.Option.{some}
 use native.Mathlib.Omega.{arith}
-use native.Mathlib.Nat.{zero-add, add-assoc}
+use native.Mathlib.Nat.{zero-add}
 use lib.ListN.{length, getD, take, replicate, length-append, length-replicate}
-use lib.Dec.{eqb}
 use lib.IntN.{pos}
 use lib.Ieee.{Float}
 use borrow.Author.Tests.{le-leb}
 use Rattle.track.specs.declared.strings.Span.{Span}
-use Rattle.track.specs.declared.values.Look.{Look}
 use Rattle.track.specs.Tables.{Tables, zeroFloat, sizeCell, rowsFrom}
 use Rattle.track.specs.Meaning.{isParam, isStyle, isRegion, areCues, allRows, withinLimits, bytesMean, rowsMean, isTrack, paramIn, styleIn, regionIn, cueIn, trackAt, trackIn}
-use Rattle.track.specs.Layout.{joinedCells, each, optionalCells, paramCells, styleCells, regionCells, cueCells, cueTimes, styleSize, allSegments, filled, filledTimes, filledSizes, Placed, PlacedStyle, PlacedRegion, PlacedCue, layout}
-use Rattle.track.specs.Placing.{All, ParamFits, StyleFits, RegionFits, CueFits, ExtrasFit, Fits, Laid, laidStyle, laidRegion, laidCue, laid, shownParam, shownStyle, shownRegion, shownCue, shown}
-use Rattle.track.proofs.ReadBack.{Reads, AllAt, reads-here, reads-after, reads-first, reads-rest, rows-at, at-with, at-mean, all-append, all-each, all-join, each-all, all-both}
+use Rattle.track.specs.Layout.{joinedCells, each, optionalCells, paramCells, styleCells, regionCells, cueCells, cueTimes, styleSize, allSegments, filledSizes, Placed, PlacedStyle, layout}
+use Rattle.track.specs.Placing.{All, ParamFits, StyleFits, RegionFits, CueFits, Fits, laidStyle, laidRegion, laidCue, laid, shownParam, shownStyle, shownRegion, shownCue, shown}
+use Rattle.track.proofs.ReadBack.{Reads, AllAt, reads-here, reads-after, reads-first, reads-rest, rows-at, at-both, rows-mean, all-append, all-each, all-join, each-all, all-both}
 use Rattle.track.proofs.ExtrasLaid.{Sits, Stays, laid-extras}
 use Rattle.track.proofs.RowsLaid.{OptionalRead, optional-read, param-read, region-read, style-read, style-long}
 use Rattle.track.proofs.SegmentsLaid.{Stand, each-many, cellsIn, timeIn, sizeIn}
@@ -55,16 +53,12 @@ sizes-at f (x ∷ l) i h =
     let e′ : 16384 + (i + 1) ≡ 16384 + i + 1 = omega arith in
     (rw e at (h 0 (omega arith)), sizes-at f l (i + 1) (reads-rest zeroFloat f (16384 + i) (styleSize x ∷ []) (each styleSize l) h (16384 + (i + 1)) e′))
 
-at-both : {A : Type 0} (P Q : ℕ → A → Type 0) (l : List A) (i : ℕ) → AllAt P i l → AllAt Q i l → AllAt (λ i x. P i x × Q i x) i l
-at-both P Q [] i h g = tt
-at-both P Q (x ∷ l) i h g = ((h .0, g .0), at-both P Q l (i + 1) (h .1) (g .1))
-
 module _ (T : Tables) (k : Placed) (u v : ℕ) (h : Holds T k u v) (f : Fits k (T .strings) (T .texts) u v) where
-  abbrev z : List ℕ
-  z = take u (T .strings)
+  abbrev usedStrings : List ℕ
+  usedStrings = take u (T .strings)
 
-  abbrev y : List ℕ
-  y = take v (T .texts)
+  abbrev usedTexts : List ℕ
+  usedTexts = take v (T .texts)
 
   -- extras, element by element
   extras-of :
@@ -76,37 +70,43 @@ module _ (T : Tables) (k : Placed) (u v : ℕ) (h : Holds T k u v) (f : Fits k (
       let b = all-append (Stays (T .extras)) (each laidRegion (k .regions)) (each laidCue (k .cues)) (a .1) in
       (all-each (Stays (T .extras)) laidStyle (k .styles) (a .0), all-each (Stays (T .extras)) laidRegion (k .regions) (b .0), all-each (Stays (T .extras)) laidCue (k .cues) (b .1))
 
-  params-read : (allRows (isParam (T .params) z) (length (k .params)) 0 ≡ true) × (rowsFrom (paramIn T) (length (k .params)) 0 ≡ each (shownParam (T .strings)) (k .params))
+  params-read :
+      (allRows (isParam (T .params) usedStrings) (length (k .params)) 0 ≡ true)
+      × (rowsFrom (paramIn T) (length (k .params)) 0 ≡ each (shownParam (T .strings)) (k .params))
   unfolding paramCells
-  params-read = at-mean (isParam (T .params) z) (paramIn T) (shownParam (T .strings)) (k .params) 0
-      (at-with (λ i x. Reads 0 (T .params) (i * 4) (paramCells x)) (λ i x. (isParam (T .params) z i ≡ true) × (paramIn T i ≡ shownParam (T .strings) x)) (ParamFits z) (param-read T z) (k .params) 0
-      (rows-at 4 paramCells (λ x. refl) (T .params) (k .params) 0 (h .params)) (f .params))
+  params-read =
+      rows-mean (λ i x. Reads 0 (T .params) (i * 4) (paramCells x)) (ParamFits usedStrings) (isParam (T .params) usedStrings) (paramIn T) (shownParam (T .strings))
+      (param-read T usedStrings) (k .params) 0 (rows-at 4 paramCells (λ x. refl) (T .params) (k .params) 0 (h .params)) (f .params)
 
-  regions-read : (allRows (isRegion (T .regions) (T .extras) z) (length (k .regions)) 0 ≡ true) × (rowsFrom (regionIn T) (length (k .regions)) 0 ≡ each (shownRegion (T .strings)) (k .regions))
+  regions-read :
+      (allRows (isRegion (T .regions) (T .extras) usedStrings) (length (k .regions)) 0 ≡ true)
+      × (rowsFrom (regionIn T) (length (k .regions)) 0 ≡ each (shownRegion (T .strings)) (k .regions))
   unfolding regionCells laidRegion
-  regions-read = at-mean (isRegion (T .regions) (T .extras) z) (regionIn T) (shownRegion (T .strings)) (k .regions) 0
-      (at-with (λ i x. Reads 0 (T .regions) (i * 4) (regionCells (x .region))) (λ i x. (isRegion (T .regions) (T .extras) z i ≡ true) × (regionIn T i ≡ shownRegion (T .strings) x))
-      (λ x. Stays (T .extras) (laidRegion x) × RegionFits z x) (λ i x a b. region-read T z i x a (b .0) (b .1)) (k .regions) 0
+  regions-read =
+      rows-mean (λ i x. Reads 0 (T .regions) (i * 4) (regionCells (x .region))) (λ x. Stays (T .extras) (laidRegion x) × RegionFits usedStrings x)
+      (isRegion (T .regions) (T .extras) usedStrings) (regionIn T) (shownRegion (T .strings)) (λ i x a b. region-read T usedStrings i x a (b .0) (b .1)) (k .regions) 0
       (rows-at 4 (λ x. regionCells (x .region)) (λ x. refl) (T .regions) (k .regions) 0 (h .regions))
-      (all-both (λ x. Stays (T .extras) (laidRegion x)) (RegionFits z) (k .regions) (extras-of .1) (f .regions)))
+      (all-both (λ x. Stays (T .extras) (laidRegion x)) (RegionFits usedStrings) (k .regions) (extras-of .1) (f .regions))
 
-  styles-read : (allRows (isStyle (T .styles) (T .sizes) (T .extras) z) (length (k .styles)) 0 ≡ true) × (rowsFrom (styleIn T) (length (k .styles)) 0 ≡ each (shownStyle (T .strings)) (k .styles))
+  styles-read :
+      (allRows (isStyle (T .styles) (T .sizes) (T .extras) usedStrings) (length (k .styles)) 0 ≡ true)
+      × (rowsFrom (styleIn T) (length (k .styles)) 0 ≡ each (shownStyle (T .strings)) (k .styles))
   unfolding laidStyle
-  styles-read = at-mean (isStyle (T .styles) (T .sizes) (T .extras) z) (styleIn T) (shownStyle (T .strings)) (k .styles) 0
-      (at-with (λ i x. Reads 0 (T .styles) (i * 27) (styleCells (x .style)) × (sizeCell (T .sizes) (16384 + i) ≡ styleSize x))
-      (λ i x. (isStyle (T .styles) (T .sizes) (T .extras) z i ≡ true) × (styleIn T i ≡ shownStyle (T .strings) x))
-      (λ x. Stays (T .extras) (laidStyle x) × StyleFits z x) (λ i x a b. style-read T z i x (a .0) (b .1) (a .1) (b .0)) (k .styles) 0
-      (at-both (λ i x. Reads 0 (T .styles) (i * 27) (styleCells (x .style))) (λ i x. sizeCell (T .sizes) (16384 + i) ≡ styleSize x) (k .styles) 0
-      (rows-at 27 (λ x. styleCells (x .style)) (λ x. style-long (x .style)) (T .styles) (k .styles) 0 (h .styles)) (sizes-at (T .sizes) (k .styles) 0 (h .sizes)))
-      (all-both (λ x. Stays (T .extras) (laidStyle x)) (StyleFits z) (k .styles) (extras-of .0) (f .styles)))
+  styles-read =
+      let row : ℕ → PlacedStyle → Type 0 = λ i x. Reads 0 (T .styles) (i * 27) (styleCells (x .style)) in
+      let size : ℕ → PlacedStyle → Type 0 = λ i x. sizeCell (T .sizes) (16384 + i) ≡ styleSize x in
+      rows-mean (λ i x. row i x × size i x) (λ x. Stays (T .extras) (laidStyle x) × StyleFits usedStrings x)
+      (isStyle (T .styles) (T .sizes) (T .extras) usedStrings) (styleIn T) (shownStyle (T .strings)) (λ i x a b. style-read T usedStrings i x (a .0) (b .1) (a .1) (b .0)) (k .styles) 0
+      (at-both row size (k .styles) 0 (rows-at 27 (λ x. styleCells (x .style)) (λ x. style-long (x .style)) (T .styles) (k .styles) 0 (h .styles)) (sizes-at (T .sizes) (k .styles) 0 (h .sizes)))
+      (all-both (λ x. Stays (T .extras) (laidStyle x)) (StyleFits usedStrings) (k .styles) (extras-of .0) (f .styles))
 
-  cues-mean : (areCues (T .cues) (T .extras) (T .segments) (T .sizes) z y (length (allSegments (k .cues))) 0 (length (k .cues)) 0 ≡ true)
+  cues-mean : (areCues (T .cues) (T .extras) (T .segments) (T .sizes) usedStrings usedTexts (length (allSegments (k .cues))) 0 (length (k .cues)) 0 ≡ true)
       × (rowsFrom (cueIn T) (length (k .cues)) 0 ≡ each (shownCue (T .strings) (T .texts)) (k .cues))
   unfolding laidCue
-  cues-mean = cues-read T z y (length (allSegments (k .cues))) (k .cues) 0 0 (h .cues) (h .times) (extras-of .2) (h .segments) (f .cues) (f .in-turn) (zero-add _)
+  cues-mean = cues-read T usedStrings usedTexts (length (allSegments (k .cues))) (k .cues) 0 0 (h .cues) (h .times) (extras-of .2) (h .segments) (f .cues) (f .in-turn) (zero-add _)
 
-  lang-read : OptionalRead (T .head) 5 (T .strings) z (k .«has_lang») (k .lang)
-  lang-read = optional-read (T .head) 5 (T .strings) z (k .«has_lang») (k .lang) (h .lang) (f .lang)
+  lang-read : OptionalRead (T .head) 5 (T .strings) usedStrings (k .«has_lang») (k .lang)
+  lang-read = optional-read (T .head) 5 (T .strings) usedStrings (k .«has_lang») (k .lang) (h .lang) (f .lang)
 
   limits : withinLimits (T .head) ≡ true
   unfolding withinLimits
@@ -128,17 +128,17 @@ module _ (T : Tables) (k : Placed) (u v : ℕ) (h : Holds T k u v) (f : Fits k (
         le-leb v 65536 (f .few-texts),
       )
 
-  bytes-mean : bytesMean (T .head) z y ≡ true
+  bytes-mean : bytesMean (T .head) usedStrings usedTexts ≡ true
   unfolding bytesMean
   bytes-mean = rw (f .strings, f .texts) (lang-read .fits)
 
-  rows-mean : rowsMean (T .head) (T .params) (T .styles) (T .regions) (T .sizes) (T .extras) z ≡ true
+  heads-mean : rowsMean (T .head) (T .params) (T .styles) (T .regions) (T .sizes) (T .extras) usedStrings ≡ true
   unfolding rowsMean
-  rows-mean = rw (h .many-params, h .many-styles, h .many-regions, params-read .0, styles-read .0, regions-read .0)
+  heads-mean = rw (h .many-params, h .many-styles, h .many-regions, params-read .0, styles-read .0, regions-read .0)
 
   tested : isTrack T ≡ true
   unfolding isTrack
-  tested = rw (limits, h .strings, h .texts, bytes-mean, rows-mean, h .many-segments, h .many-cues, cues-mean .0)
+  tested = rw (limits, h .strings, h .texts, bytes-mean, heads-mean, h .many-segments, h .many-cues, cues-mean .0)
 
   read : trackAt T ≡ shown k (T .strings) (T .texts)
   unfolding trackAt shown

@@ -7,3 +7,4 @@ pub mod SegmentsLaid
 pub mod CuesLaid
 pub mod LayoutLaws
 pub mod PlainExamples
+pub mod LayoutExamples

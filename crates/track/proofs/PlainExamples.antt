@@ -1,7 +1,7 @@
 -- Worked cases of plain segments and cues. Assumes nothing.
 use mathlib.Core.Path.{_≡_, refl}
 use mathlib.Core.Bool.{true, false}
-use mathlib.Core.List.{List, [], _∷_}
+use mathlib.Core.List.{[], _∷_}
 use mathlib.Core.Option.{none, some}
 use lib.IntN.{pos}
 use Rattle.track.specs.Track.{Bytes, Segments, Cue}

@@ -1,17 +1,16 @@
 -- Reading cells back, in a table of any kind of cell. Assumes nothing.
---     reads-here, reads-first, reads-rest    what is read from a place on: in a list that begins with it, and its parts
---     reads-set, reads-kept                  what was stored, and what stands where nothing was
---     rows-at                                rows of w cells, one after the other
---     at-with, at-mean                       tests and values of rows, from those of each
---     all-append, all-each, all-join, each-all, all-both    lists of facts
-use Prim.Native.Nat.{ℕ, zero, suc, _+_, _*_, _≤_, _<_}
+--     reads-here, reads-after, reads-first, reads-rest    what is read from a place on: in a list where it stands, and its parts
+--     reads-set, reads-kept                               what was stored, and what stands where nothing was
+--     rows-at, at-both, rows-mean                         rows of w cells, one after the other; their tests and values
+--     all-append, all-each, all-join, each-all, all-both  lists of facts
+use Prim.Native.Nat.{ℕ, suc, _+_, _*_, _≤_, _<_}
 use mathlib.Core.Path.{_≡_, refl, sym, ap, _∙_}
 use mathlib.Core.Bool.{Bool, true}
 use mathlib.Core.List.{List, [], _∷_, _++_}
 use mathlib.Core.Logic.{_⊎_, inl, inr}
 use native.Mathlib.Omega.{arith}
 use native.Mathlib.Nat.{zero-add, add-assoc}
-use lib.ListN.{length, getD, take, drop, length-append, List·getD-append}
+use lib.ListN.{length, getD, drop, length-append, List·getD-append}
 use lib.Seq.{sets, getD-append-add, getD-take, getD-drop}
 use Rattle.scan.proofs.Stores.{sets-part, sets-other}
 use Rattle.track.specs.Tables.{rowsFrom}
@@ -67,18 +66,19 @@ rows-at w f e t (x ∷ l) i h =
     let z : (i + 1) * w ≡ i * w + w = omega arith in
     (reads-first 0 t (i * w) (f x) (joinedCells f l) h, rows-at w f e t l (i + 1) (reads-rest 0 t (i * w) (f x) (joinedCells f l) h ((i + 1) * w) (omega arith)))
 
-pub at-with : {A : Type 0} (P R : ℕ → A → Type 0) (Q : A → Type 0) → ((i : ℕ) (x : A) → P i x → Q x → R i x) → (l : List A) (i : ℕ) → AllAt P i l → All Q l → AllAt R i l
-at-with P R Q f [] i p q = tt
-at-with P R Q f (x ∷ l) i p q = (f i x (p .0) (q .0), at-with P R Q f l (i + 1) (p .1) (q .1))
+pub at-both : {A : Type 0} (P Q : ℕ → A → Type 0) (l : List A) (i : ℕ) → AllAt P i l → AllAt Q i l → AllAt (λ i x. P i x × Q i x) i l
+at-both P Q [] i h g = tt
+at-both P Q (x ∷ l) i h g = ((h .0, g .0), at-both P Q l (i + 1) (h .1) (g .1))
 
-pub at-mean :
-    {A B : Type 0} (p : ℕ → Bool) (g : ℕ → B) (h : A → B) (l : List A) (i : ℕ) → AllAt (λ i x. (p i ≡ true) × (g i ≡ h x)) i l
-    → (allRows p (length l) i ≡ true) × (rowsFrom g (length l) i ≡ each h l)
-unfolding allRows rowsFrom each
-at-mean p g h [] i a = (refl, refl)
-at-mean p g h (x ∷ l) i a =
-    let r = at-mean p g h l (i + 1) (a .1) in
-    (rw (a .0 .0) (r .0), rw (a .0 .1, r .1))
+-- the test p and the value v of rows, where they are known of each
+module _ {A B : Type 0} (P : ℕ → A → Type 0) (Q : A → Type 0) (p : ℕ → Bool) (v : ℕ → B) (s : A → B) (f : (i : ℕ) (x : A) → P i x → Q x → (p i ≡ true) × (v i ≡ s x)) where
+  pub rows-mean : (l : List A) (i : ℕ) → AllAt P i l → All Q l → (allRows p (length l) i ≡ true) × (rowsFrom v (length l) i ≡ each s l)
+  unfolding allRows rowsFrom each
+  rows-mean [] i h g = (refl, refl)
+  rows-mean (x ∷ l) i h g =
+      let a = f i x (h .0) (g .0) in
+      let r = rows-mean l (i + 1) (h .1) (g .1) in
+      (rw (a .0) (r .0), rw (a .1, r .1))
 
 -- ---- lists of facts
 pub all-append : {A : Type 0} (P : A → Type 0) (a b : List A) → All P (a ++ b) → All P a × All P b

@@ -2,20 +2,18 @@
 --     optional-read, color-read, size-read, align-read    what a row has cells for: the test and the value
 --     four, on                                            parts of a row, and their places
 --     param-read, region-read, style-read                 a row
-use Prim.Native.Nat.{ℕ, zero, suc, _+_, _*_, _≤_, _<_}
-use mathlib.Core.Path.{_≡_, refl, sym, ap, _∙_}
-use mathlib.Core.Bool.{Bool, true, false, not}
+use Prim.Native.Nat.{ℕ, _+_, _*_, _<_}
+use mathlib.Core.Path.{_≡_, refl, _∙_}
+use mathlib.Core.Bool.{Bool, true, false, not, cond}
 use mathlib.Core.List.{List, [], _∷_, _++_}
-use mathlib.Core.Option.{Option, none, some}
 use native.Mathlib.Omega.{arith}
 use native.Mathlib.Nat.{add-zero}
 use lib.ListN.{length, getD, length-append}
 use lib.Dec.{eqb, leb}
 use lib.Ieee.{Float}
-use borrow.Author.Tests.{lt-ltb, le-leb}
+use borrow.Author.Tests.{lt-ltb}
 use Rattle.colors.specs.declared.read.Rgba.{Rgba}
 use Rattle.decimals.specs.declared.size.Size.{Size}
-use Rattle.decimals.specs.Size.{isSize}
 use Rattle.track.specs.declared.strings.Span.{Span}
 use Rattle.track.specs.declared.values.Param.{Param}
 use Rattle.track.specs.declared.values.Align.{Align}
@@ -33,6 +31,10 @@ pub flag-is : (b : Bool) → (isFlag (flag b) ≡ true) × (eqb (flag b) 1 ≡ b
 unfolding isFlag
 flag-is true = (refl, refl)
 flag-is false = (refl, refl)
+
+sign-is : (n : Bool) → (eqb (cond n 2 1) 0 ≡ false) × (eqb (cond n 2 1) 2 ≡ n) × (leb (cond n 2 1) 2 ≡ true)
+sign-is true = (refl, refl, refl)
+sign-is false = (refl, refl, refl)
 
 pub optional-long : (b : Bool) (x : Span) → length (optionalCells b x) ≡ 3
 optional-long true x = refl
@@ -98,23 +100,12 @@ module _ (t : List ℕ) (p : ℕ) where
 
   pub size-read : (v : Float) (b : Bool) (s : Size) → v ≡ sizeValue b s → Reads 0 t p (sizeCells b s) → SizeIf b s → SizeRead t p v b s
   unfolding sizeCells isSizeAt sizeAt
-  size-read v true s e h f = go (s .negative) refl
-    where
-      go : (n : Bool) → s .negative ≡ n → SizeRead t p v true s
-      go true n =
-          let a : getD t p 0 ≡ 2 = first-cell (sizeCells true s) h (omega arith) ∙ rw n in
-          let b : getD t (p + 1) 0 ≡ s .digits = h 1 (omega arith) in
-          let c : getD t (p + 2) 0 ≡ s .scale = h 2 (omega arith) in
-          let w : record { value = s .value; negative = true; digits = s .digits; scale = s .scale } ≡ s
-          = ap (λ (q : Bool). record { value = s .value; negative = q; digits = s .digits; scale = s .scale }) (sym n) in
-          record { fits = rw (a, b, c, e) (ap isSize w ∙ f refl); is = rw (a, b, c, e) (ap some w); bare = rw (a, b, c, e) (ap some w) }
-      go false n =
-          let a : getD t p 0 ≡ 1 = first-cell (sizeCells true s) h (omega arith) ∙ rw n in
-          let b : getD t (p + 1) 0 ≡ s .digits = h 1 (omega arith) in
-          let c : getD t (p + 2) 0 ≡ s .scale = h 2 (omega arith) in
-          let w : record { value = s .value; negative = false; digits = s .digits; scale = s .scale } ≡ s
-          = ap (λ (q : Bool). record { value = s .value; negative = q; digits = s .digits; scale = s .scale }) (sym n) in
-          record { fits = rw (a, b, c, e) (ap isSize w ∙ f refl); is = rw (a, b, c, e) (ap some w); bare = rw (a, b, c, e) (ap some w) }
+  size-read v true s e h f =
+      let a : getD t p 0 ≡ cond (s .negative) 2 1 = first-cell (sizeCells true s) h (omega arith) in
+      let b : getD t (p + 1) 0 ≡ s .digits = h 1 (omega arith) in
+      let c : getD t (p + 2) 0 ≡ s .scale = h 2 (omega arith) in
+      let q = sign-is (s .negative) in
+      record { fits = rw (a, b, c, e, q .0, q .1, q .2) (f refl); is = rw (a, b, c, e, q .0, q .1); bare = rw (a, b, c, e, q .0, q .1) }
   size-read v false s e h f =
       let a : getD t p 0 ≡ 0 = first-cell (sizeCells false s) h (omega arith) in
       record { fits = rw a; is = rw a; bare = rw a }

@@ -2,15 +2,14 @@
 --     Stand, stand-append      where rows of segments stand, with their times and sizes; their parts
 --     rows-many                how many rows
 --     segments-read            the test and the value
-use Prim.Native.Nat.{ℕ, zero, suc, _+_, _-_, _*_, _≤_, _<_, max}
-use mathlib.Core.Path.{_≡_, refl, sym, ap, _∙_}
-use mathlib.Core.Bool.{Bool, true, false}
+use Prim.Native.Nat.{ℕ, suc, _+_, _-_, _*_, _≤_, _<_}
+use mathlib.Core.Path.{_≡_, refl, sym, _∙_}
+use mathlib.Core.Bool.{true}
 use mathlib.Core.List.{List, [], _∷_, _++_, append-assoc}
 use mathlib.Core.Option.{Option, none, some}
 use native.Mathlib.Omega.{arith}
 use native.Mathlib.Nat.{add-zero, le-max-left, le-max-right}
 use lib.ListN.{length, getD, length-append}
-use lib.Dec.{eqb}
 use lib.IntN.{ℤ, pos}
 use lib.Ieee.{Float}
 use borrow.Author.Tests.{lt-ltb, le-leb}
@@ -21,7 +20,7 @@ use Rattle.track.specs.declared.segments.Font.{Font}
 use Rattle.track.specs.declared.segments.Segment.{Segment}
 use Rattle.track.specs.Track.{Wrapper, Segments}
 use Rattle.track.specs.Track as track
-use Rattle.track.specs.Tables.{cell, zeroFloat, sizeCell, fontAt, segmentAt, fontOf, followedBy, segmentsAt}
+use Rattle.track.specs.Tables.{cell, zeroFloat, sizeCell, fontAt, segmentAt, followedBy, segmentsAt}
 use Rattle.track.specs.Meaning.{isByte, areThree, isFont, isSegment, areSegments, given}
 use Rattle.track.specs.Layout.{Sized, joinedCells, each, optionalCells, sizeCells, fontCells, segmentCells, segmentTime, segmentSize, isSome, spanOr, sizeOr, wrapperOf, segmentRows, preorder}
 use Rattle.track.specs.Placing.{Within, WithinIf, SizeIf, FamilyFits, SizeFits, WrapperFits, SegmentsFit, depth}

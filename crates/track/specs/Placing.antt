@@ -13,7 +13,6 @@ use Rattle.colors.specs.declared.read.Rgba.{Rgba}
 use Rattle.decimals.specs.declared.size.Size.{Size}
 use Rattle.decimals.specs.Size.{isSize}
 use Rattle.track.specs.declared.strings.Span.{Span}
-use Rattle.track.specs.declared.segments.Rgb.{Rgb}
 use Rattle.track.specs.declared.values.Param.{Param}
 use Rattle.track.specs.declared.values.Extra.{Extra}
 use Rattle.track.specs.declared.values.Rows.{Rows}

@@ -1,5 +1,4 @@
 -- Plain tracks (document 01, "Limits and what is turned away"): those that are read back as they were written. Definitions alone.
-use Prim.Native.Nat.{ℕ}
 use mathlib.Core.Path.{_≡_}
 use mathlib.Core.Bool.{Bool, true, false, not, _&&_}
 use mathlib.Core.List.{List, [], _∷_}
