@@ -43,7 +43,7 @@ module _ (T : Tables) where
   shows-segments (track.timestamp t x) = rw (shows-segments x)
   shows-segments (track.wrap w c x) = rw (shows-wrapper w, shows-segments c, shows-segments x)
 
-pub cue-long : (x : Cue) → length (cueCells x) ≡ 11
+cue-long : (x : Cue) → length (cueCells x) ≡ 11
 unfolding cueCells
 cue-long x = rw (length-append, length-append, length-append, optional-long (x .«has_style») (x .style), optional-long (x .«has_region») (x .region))
 

@@ -1,6 +1,7 @@
 -- Extras that were laid into their table are read back from it. Assumes nothing.
+--     cellsOf        the cells of extras
 --     extras-read    those of one element: the test and the value
---     laid-extras    in the table of a layout, those of every element
+--     Sits, Stays, laid-extras    in the table of a layout, those of every element
 use Prim.Native.Nat.{ℕ, _+_, _*_, _≤_}
 use mathlib.Core.Path.{_≡_, refl, _∙_}
 use mathlib.Core.Bool.{true}
@@ -79,22 +80,21 @@ Sits x = (x .rows .count ≡ length (x .extras)) × (x .rows .first + x .rows .c
 abbrev pub Stays : List ℕ → Laid → Type 0
 Stays t x = Reads 0 t (x .rows .first * 3) (cellsOf (x .extras))
 
+-- rows apart, as cells
+tripled : (p m q n a b : ℕ) → a ≡ m * 3 → b ≡ n * 3 → (p + m ≤ q) ⊎ (q + n ≤ p) → (p * 3 + a ≤ q * 3) ⊎ (q * 3 + b ≤ p * 3)
+tripled p m q n a b e f (inl h) = inl (omega arith)
+tripled p m q n a b e f (inr h) = inr (omega arith)
+
 stays : (l : List Laid) (t : List ℕ) (x : Laid) → Sits x → All (λ y. Apart (x .rows) (y .rows)) l → All Sits l → Stays t x → Stays (layAll t l) x
 unfolding layAll layExtras
 stays [] t x e a s r = r
 stays (y ∷ l) t x e a s r =
-    let m : length (cellsOf (x .extras)) ≡ length (x .extras) * 3 = cells-many (x .extras) in
-    let n : length (cellsOf (y .extras)) ≡ length (y .extras) * 3 = cells-many (y .extras) in
-    let j : x .rows .count ≡ length (x .extras) = e .0 in
-    let k : y .rows .count ≡ length (y .extras) = s .0 .0 in
+    let cx = cellsOf (x .extras) in
+    let cy = cellsOf (y .extras) in
+    let m : length cx ≡ x .rows .count * 3 = cells-many (x .extras) ∙ rw (e .0) in
+    let n : length cy ≡ y .rows .count * 3 = cells-many (y .extras) ∙ rw (s .0 .0) in
     stays l _ x e (a .1) (s .1)
-    (reads-kept t (cellsOf (y .extras)) (cellsOf (x .extras)) (y .rows .first * 3) (x .rows .first * 3) (λ g h. go m n j k (a .0 (omega arith) (omega arith))) r)
-  where
-    go : length (cellsOf (x .extras)) ≡ length (x .extras) * 3 → length (cellsOf (y .extras)) ≡ length (y .extras) * 3 → x .rows .count ≡ length (x .extras)
-        → y .rows .count ≡ length (y .extras) → (x .rows .first + x .rows .count ≤ y .rows .first) ⊎ (y .rows .first + y .rows .count ≤ x .rows .first)
-        → (x .rows .first * 3 + length (cellsOf (x .extras)) ≤ y .rows .first * 3) ⊎ (y .rows .first * 3 + length (cellsOf (y .extras)) ≤ x .rows .first * 3)
-    go m n j k (inl h) = inl (omega arith)
-    go m n j k (inr h) = inr (omega arith)
+    (reads-kept t cy cx (y .rows .first * 3) (x .rows .first * 3) (λ g h. tripled _ _ _ _ _ _ m n (a .0 (omega arith) (omega arith))) r)
 
 all-stay : (l : List Laid) (t : List ℕ) → length t ≡ 24576 → All Sits l → AllApart l → All (Stays (layAll t l)) l
 unfolding layAll layExtras
@@ -114,5 +114,11 @@ laid-extras k t e s a =
     let a2 = each laidRegion (k .regions) in
     let a3 = each laidCue (k .cues) in
     let q : cueExtras (regionExtras (styleExtras t (k .styles)) (k .regions)) (k .cues) ≡ layAll t (laid k)
-    = rw (lay-styles (k .styles) t, lay-regions (k .regions) (layAll t a1), lay-cues (k .cues) (layAll (layAll t a1) a2), lay-append a1 (a2 ++ a3) t, lay-append a2 a3 (layAll t a1)) in
+    = rw (
+      lay-styles (k .styles) t,
+      lay-regions (k .regions) (layAll t a1),
+      lay-cues (k .cues) (layAll (layAll t a1) a2),
+      lay-append a1 (a2 ++ a3) t,
+      lay-append a2 a3 (layAll t a1),
+    ) in
     rw q (all-stay (laid k) t e s a)

@@ -18,10 +18,10 @@ use Rattle.track.specs.Tables.{Tables, zeroFloat, sizeCell, rowsFrom}
 use Rattle.track.specs.Meaning.{isParam, isStyle, isRegion, areCues, allRows, withinLimits, bytesMean, rowsMean, isTrack, paramIn, styleIn, regionIn, cueIn, trackAt, trackIn}
 use Rattle.track.specs.Layout.{joinedCells, each, optionalCells, paramCells, styleCells, regionCells, cueCells, cueTimes, styleSize, allSegments, filledSizes, Placed, PlacedStyle, layout}
 use Rattle.track.specs.Placing.{All, ParamFits, StyleFits, RegionFits, CueFits, Fits, laidStyle, laidRegion, laidCue, laid, shownParam, shownStyle, shownRegion, shownCue, shown}
-use Rattle.track.proofs.ReadBack.{Reads, AllAt, reads-here, reads-after, reads-first, reads-rest, rows-at, at-both, rows-mean, all-append, all-each, all-join, each-all, all-both}
+use Rattle.track.proofs.ReadBack.{Reads, AllAt, reads-here, reads-after, reads-first, reads-rest, rows-at, at-both, rows-mean, all-append, all-each, all-join, each-all, all-both, each-many}
 use Rattle.track.proofs.ExtrasLaid.{Sits, Stays, laid-extras}
 use Rattle.track.proofs.RowsLaid.{OptionalRead, optional-read, param-read, region-read, style-read, style-long}
-use Rattle.track.proofs.SegmentsLaid.{Stand, each-many, cellsIn, timeIn, sizeIn}
+use Rattle.track.proofs.SegmentsLaid.{Stand, cellsIn, timeIn, sizeIn}
 use Rattle.track.proofs.CuesLaid.{cues-read}
 
 -- tables that hold a placed track; u and v bytes are used
@@ -67,8 +67,11 @@ module _ (T : Tables) (k : Placed) (u v : ℕ) (h : Holds T k u v) (f : Fits k (
   unfolding laid
   extras-of =
       let a = all-append (Stays (T .extras)) (each laidStyle (k .styles)) (each laidRegion (k .regions) ++ each laidCue (k .cues)) (h .extras) in
-      let b = all-append (Stays (T .extras)) (each laidRegion (k .regions)) (each laidCue (k .cues)) (a .1) in
-      (all-each (Stays (T .extras)) laidStyle (k .styles) (a .0), all-each (Stays (T .extras)) laidRegion (k .regions) (b .0), all-each (Stays (T .extras)) laidCue (k .cues) (b .1))
+      let b = all-append (Stays (T .extras)) (each laidRegion (k .regions)) (each laidCue (k .cues)) (a .1) in (
+        all-each (Stays (T .extras)) laidStyle (k .styles) (a .0),
+        all-each (Stays (T .extras)) laidRegion (k .regions) (b .0),
+        all-each (Stays (T .extras)) laidCue (k .cues) (b .1),
+      )
 
   params-read :
       (allRows (isParam (T .params) usedStrings) (length (k .params)) 0 ≡ true)

@@ -1,12 +1,14 @@
 -- Reading cells back, in a table of any kind of cell. Assumes nothing.
+--     Reads, AllAt                                        cells from a place on; a fact about each row
 --     reads-here, reads-after, reads-first, reads-rest    what is read from a place on: in a list where it stands, and its parts
 --     reads-set, reads-kept                               what was stored, and what stands where nothing was
 --     rows-at, at-both, rows-mean                         rows of w cells, one after the other; their tests and values
 --     all-append, all-each, all-join, each-all, all-both  lists of facts
+--     joined-append, each-append, joined-many, each-many  lists of cells
 use Prim.Native.Nat.{ℕ, suc, _+_, _*_, _≤_, _<_}
 use mathlib.Core.Path.{_≡_, refl, sym, ap, _∙_}
 use mathlib.Core.Bool.{Bool, true}
-use mathlib.Core.List.{List, [], _∷_, _++_}
+use mathlib.Core.List.{List, [], _∷_, _++_, append-assoc}
 use mathlib.Core.Logic.{_⊎_, inl, inr}
 use native.Mathlib.Omega.{arith}
 use native.Mathlib.Nat.{zero-add, add-assoc}
@@ -64,20 +66,22 @@ rows-at w f e t [] i h = tt
 rows-at w f e t (x ∷ l) i h =
     let n : length (f x) ≡ w = e x in
     let z : (i + 1) * w ≡ i * w + w = omega arith in
-    (reads-first 0 t (i * w) (f x) (joinedCells f l) h, rows-at w f e t l (i + 1) (reads-rest 0 t (i * w) (f x) (joinedCells f l) h ((i + 1) * w) (omega arith)))
+    let m = joinedCells f l in
+    (reads-first 0 t (i * w) (f x) m h, rows-at w f e t l (i + 1) (reads-rest 0 t (i * w) (f x) m h ((i + 1) * w) (omega arith)))
 
 pub at-both : {A : Type 0} (P Q : ℕ → A → Type 0) (l : List A) (i : ℕ) → AllAt P i l → AllAt Q i l → AllAt (λ i x. P i x × Q i x) i l
 at-both P Q [] i h g = tt
 at-both P Q (x ∷ l) i h g = ((h .0, g .0), at-both P Q l (i + 1) (h .1) (g .1))
 
 -- the test p and the value v of rows, where they are known of each
-module _ {A B : Type 0} (P : ℕ → A → Type 0) (Q : A → Type 0) (p : ℕ → Bool) (v : ℕ → B) (s : A → B) (f : (i : ℕ) (x : A) → P i x → Q x → (p i ≡ true) × (v i ≡ s x)) where
-  pub rows-mean : (l : List A) (i : ℕ) → AllAt P i l → All Q l → (allRows p (length l) i ≡ true) × (rowsFrom v (length l) i ≡ each s l)
+module _ {A B : Type 0} (P : ℕ → A → Type 0) (Q : A → Type 0) (p : ℕ → Bool) (v : ℕ → B) (s : A → B) where
+  pub rows-mean :
+      ((i : ℕ) (x : A) → P i x → Q x → (p i ≡ true) × (v i ≡ s x)) → (l : List A) (i : ℕ) → AllAt P i l → All Q l → (allRows p (length l) i ≡ true) × (rowsFrom v (length l) i ≡ each s l)
   unfolding allRows rowsFrom each
-  rows-mean [] i h g = (refl, refl)
-  rows-mean (x ∷ l) i h g =
+  rows-mean f [] i h g = (refl, refl)
+  rows-mean f (x ∷ l) i h g =
       let a = f i x (h .0) (g .0) in
-      let r = rows-mean l (i + 1) (h .1) (g .1) in
+      let r = rows-mean f l (i + 1) (h .1) (g .1) in
       (rw (a .0) (r .0), rw (a .1, r .1))
 
 -- ---- lists of facts
@@ -102,3 +106,28 @@ each-all P Q f g (x ∷ l) h = (g x (h .0), each-all P Q f g l (h .1))
 pub all-both : {A : Type 0} (P Q : A → Type 0) (l : List A) → All P l → All Q l → All (λ x. P x × Q x) l
 all-both P Q [] h g = tt
 all-both P Q (x ∷ l) h g = ((h .0, g .0), all-both P Q l (h .1) (g .1))
+
+-- ---- lists of cells
+pub joined-append : {A : Type 0} (f : A → List ℕ) (a b : List A) → joinedCells f (a ++ b) ≡ joinedCells f a ++ joinedCells f b
+unfolding joinedCells
+joined-append f [] b = refl
+joined-append f (x ∷ a) b = rw (joined-append f a b, append-assoc)
+
+pub each-append : {A B : Type 0} (f : A → B) (a b : List A) → each f (a ++ b) ≡ each f a ++ each f b
+unfolding each
+each-append f [] b = refl
+each-append f (x ∷ a) b = rw (each-append f a b)
+
+pub each-many : {A B : Type 0} (f : A → B) (l : List A) → length (each f l) ≡ length l
+unfolding each
+each-many f [] = refl
+each-many f (x ∷ l) = omega (arith, each-many f l)
+
+pub joined-many : {A : Type 0} (w : ℕ) (f : A → List ℕ) → ((x : A) → length (f x) ≡ w) → (l : List A) → length (joinedCells f l) ≡ length l * w
+unfolding joinedCells
+joined-many w f e [] = omega arith
+joined-many w f e (x ∷ l) =
+    let n : length (joinedCells f l) ≡ length l * w = joined-many w f e l in
+    let m : length (f x) ≡ w = e x in
+    let k : suc (length l) * w ≡ w + length l * w = omega arith in
+    length-append (f x) (joinedCells f l) ∙ omega arith

@@ -1,7 +1,8 @@
 -- Parameters, regions and styles are read back from their rows. Assumes nothing.
---     optional-read, color-read, size-read, align-read    what a row has cells for: the test and the value
---     four, on                                            parts of a row, and their places
---     param-read, region-read, style-read                 a row
+--     flag-is, optional-read, color-read, size-read, align-read    what a row has cells for: the test and the value
+--     optional-long, size-long, style-long                        how many cells
+--     four, on                                                    parts of a row, and their places
+--     param-read, region-read, style-read                         a row
 use Prim.Native.Nat.{ℕ, _+_, _*_, _<_}
 use mathlib.Core.Path.{_≡_, refl, _∙_}
 use mathlib.Core.Bool.{Bool, true, false, not, cond}
@@ -40,7 +41,7 @@ pub optional-long : (b : Bool) (x : Span) → length (optionalCells b x) ≡ 3
 optional-long true x = refl
 optional-long false x = refl
 
-pub color-long : (b : Bool) (c : Rgba) → length (colorCells b c) ≡ 5
+color-long : (b : Bool) (c : Rgba) → length (colorCells b c) ≡ 5
 unfolding colorCells
 color-long true c = refl
 color-long false c = refl
@@ -143,7 +144,7 @@ module _ (T : Tables) (z : List ℕ) where
       (rw (a, b, c, d, f .id) (q .0), rw (a, b, c, d, q .1))
 
 -- the parts of a style's row, which begins at place p
-pub record Parts (t : List ℕ) (p : ℕ) (x : Style) : Type 0 where
+record Parts (t : List ℕ) (p : ℕ) (x : Style) : Type 0 where
   pub name : (getD t p 0 ≡ x .name .place) × (getD t (p + 0) 0 ≡ x .name .place) × (getD t (p + 1) 0 ≡ x .name .len)
   pub chain : (getD t (p + 2) 0 ≡ x .chain .place) × (getD t (p + 3) 0 ≡ x .chain .len)
   pub color : Reads 0 t (p + 4) (colorCells (x .look .«has_color») (x .look .color))

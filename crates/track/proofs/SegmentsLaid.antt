@@ -1,11 +1,11 @@
 -- Segments that stand in preorder are read back from their rows. Assumes nothing.
 --     Stand, stand-append      where rows of segments stand, with their times and sizes; their parts
 --     rows-many                how many rows
---     segments-read            the test and the value
+--     Read, segments-read      the test and the value
 use Prim.Native.Nat.{ℕ, suc, _+_, _-_, _*_, _≤_, _<_}
 use mathlib.Core.Path.{_≡_, refl, sym, _∙_}
 use mathlib.Core.Bool.{true}
-use mathlib.Core.List.{List, [], _∷_, _++_, append-assoc}
+use mathlib.Core.List.{List, [], _∷_, _++_}
 use mathlib.Core.Option.{Option, none, some}
 use native.Mathlib.Omega.{arith}
 use native.Mathlib.Nat.{add-zero, le-max-left, le-max-right}
@@ -24,34 +24,9 @@ use Rattle.track.specs.Tables.{cell, zeroFloat, sizeCell, fontAt, segmen
 use Rattle.track.specs.Meaning.{isByte, areThree, isFont, isSegment, areSegments, given}
 use Rattle.track.specs.Layout.{Sized, joinedCells, each, optionalCells, sizeCells, fontCells, segmentCells, segmentTime, segmentSize, isSome, spanOr, sizeOr, wrapperOf, segmentRows, preorder}
 use Rattle.track.specs.Placing.{Within, WithinIf, SizeIf, FamilyFits, SizeFits, WrapperFits, SegmentsFit, depth}
-use Rattle.track.proofs.ReadBack.{Reads, reads-first, reads-rest}
+use Rattle.track.proofs.ReadBack.{Reads, reads-first, reads-rest, joined-append, each-append, each-many, joined-many}
 use Rattle.track.proofs.RowsLaid.{OptionalRead, SizeRead, optional-long, size-long, optional-read, size-read, on}
 use Rattle.track.proofs.SegmentLaws.{are-none, are-more, segments-none, segments-more, is-text, is-leaf, is-plain, is-color, is-font, at-text, at-break, at-timestamp, at-bold, at-italic, at-underline, at-strike, at-color, at-font}
-
--- ---- lists
-joined-append : {A : Type 0} (f : A → List ℕ) (a b : List A) → joinedCells f (a ++ b) ≡ joinedCells f a ++ joinedCells f b
-unfolding joinedCells
-joined-append f [] b = refl
-joined-append f (x ∷ a) b = rw (joined-append f a b, append-assoc)
-
-each-append : {A B : Type 0} (f : A → B) (a b : List A) → each f (a ++ b) ≡ each f a ++ each f b
-unfolding each
-each-append f [] b = refl
-each-append f (x ∷ a) b = rw (each-append f a b)
-
-pub each-many : {A B : Type 0} (f : A → B) (l : List A) → length (each f l) ≡ length l
-unfolding each
-each-many f [] = refl
-each-many f (x ∷ l) = omega (arith, each-many f l)
-
-pub joined-many : {A : Type 0} (w : ℕ) (f : A → List ℕ) → ((x : A) → length (f x) ≡ w) → (l : List A) → length (joinedCells f l) ≡ length l * w
-unfolding joinedCells
-joined-many w f e [] = omega arith
-joined-many w f e (x ∷ l) =
-    let n : length (joinedCells f l) ≡ length l * w = joined-many w f e l in
-    let m : length (f x) ≡ w = e x in
-    let k : suc (length l) * w ≡ w + length l * w = omega arith in
-    length-append (f x) (joinedCells f l) ∙ omega arith
 
 -- ---- the cells of a segment
 abbrev pub cellsIn : Sized → List ℕ
@@ -63,7 +38,7 @@ timeIn x = segmentTime (x .segment)
 abbrev pub sizeIn : Sized → Float
 sizeIn x = segmentSize (x .segment)
 
-pub segment-long : (s : Segment) (n : ℕ) → length (segmentCells s n) ≡ 8
+segment-long : (s : Segment) (n : ℕ) → length (segmentCells s n) ≡ 8
 unfolding segmentCells fontCells
 segment-long (Segment.Text s) n = refl
 segment-long Segment.Break n = refl
@@ -102,7 +77,11 @@ module _ (t : List ℕ) (r : List ℤ) (f : List Float) where
       let u : Reads (pos 0) r i (each timeIn a ++ each timeIn b) = rw (each-append timeIn a b) at (h .times) in
       let v : Reads zeroFloat f i (each sizeIn a ++ each sizeIn b) = rw (each-append sizeIn a b) at (h .sizes) in
       let m : j * 8 ≡ i * 8 + length ca = omega arith in (
-        record { cells = reads-first 0 t (i * 8) ca cb g; times = reads-first (pos 0) r i (each timeIn a) (each timeIn b) u; sizes = reads-first zeroFloat f i (each sizeIn a) (each sizeIn b) v },
+        record {
+          cells = reads-first 0 t (i * 8) ca cb g;
+          times = reads-first (pos 0) r i (each timeIn a) (each timeIn b) u;
+          sizes = reads-first zeroFloat f i (each sizeIn a) (each sizeIn b) v;
+        },
         record {
           cells = reads-rest 0 t (i * 8) ca cb g (j * 8) m;
           times = reads-rest (pos 0) r i (each timeIn a) (each timeIn b) u j (e ∙ rw (each-many timeIn a));
@@ -144,7 +123,9 @@ module _ (t : List ℕ) (r : List ℤ) (f : List Float) where
         let n : cell 8 t i 1 ≡ 1 = h 1 (omega arith) in
         record { is = is-leaf t f z y i (omega arith) (omega arith) ∙ rw n; rows = n; joins = λ c x. rw (at-timestamp t r f i k, e) }
 
-    font-row : (n : ℕ) (a : Option Span) (s : Option Size) → Reads 0 t (i * 8) (segmentCells (wrapperOf (track.font a s)) n) → sizeCell f i ≡ segmentSize (wrapperOf (track.font a s))
+    font-row :
+        (n : ℕ) (a : Option Span) (s : Option Size) → Reads 0 t (i * 8) (segmentCells (wrapperOf (track.font a s)) n)
+        → sizeCell f i ≡ segmentSize (wrapperOf (track.font a s))
         → FamilyFits z a → SizeFits s → RowIs z y i n (λ c x. track.wrap (track.font a s) c x)
     unfolding segmentCells fontCells cell wrapperOf segmentSize isFont fontAt
     font-row n a s h e p q =
@@ -153,13 +134,18 @@ module _ (t : List ℕ) (r : List ℤ) (f : List Float) where
         let c2 = sizeCells (isSome s) (sizeOr s) in
         let g : Reads 0 t (i * 8 + 2) (c1 ++ c2) = reads-rest 0 t (i * 8) (9 ∷ n ∷ []) (c1 ++ c2) h (i * 8 + 2) refl in
         let l : i * 8 + 5 ≡ i * 8 + 2 + length c1 = omega (arith, optional-long (isSome a) (spanOr a)) in
-        let o : OptionalRead t (i * 8 + 2) z z (isSome a) (spanOr a) = optional-read t (i * 8 + 2) z z (isSome a) (spanOr a) (reads-first 0 t (i * 8 + 2) c1 c2 g) (family a p) in
-        let d : SizeRead t (i * 8 + 5) (sizeCell f i) (isSome s) (sizeOr s) = size-read t (i * 8 + 5) (sizeCell f i) (isSome s) (sizeOr s) e (reads-rest 0 t (i * 8 + 2) c1 c2 g (i * 8 + 5) l) (size s q) in
+        let ga : Reads 0 t (i * 8 + 2) c1 = reads-first 0 t (i * 8 + 2) c1 c2 g in
+        let gs : Reads 0 t (i * 8 + 5) c2 = reads-rest 0 t (i * 8 + 2) c1 c2 g (i * 8 + 5) l in
+        let o : OptionalRead t (i * 8 + 2) z z (isSome a) (spanOr a) = optional-read t (i * 8 + 2) z z (isSome a) (spanOr a) ga (family a p) in
+        let d : SizeRead t (i * 8 + 5) (sizeCell f i) (isSome s) (sizeOr s) = size-read t (i * 8 + 5) (sizeCell f i) (isSome s) (sizeOr s) e gs (size s q) in
+        let c3 = on (i * 8) 2 1 3 refl in
+        let c4 = on (i * 8) 2 2 4 refl in
+        let c6 = on (i * 8) 5 1 6 refl in
+        let c7 = on (i * 8) 5 2 7 refl in
         record {
-          is = is-font t f z y i k ∙ rw (← (on (i * 8) 2 1 3 refl), ← (on (i * 8) 2 2 4 refl), o .fits, ← (on (i * 8) 5 1 6 refl), ← (on (i * 8) 5 2 7 refl)) (d .fits);
+          is = is-font t f z y i k ∙ rw (← c3, ← c4, o .fits, ← c6, ← c7) (d .fits);
           rows = h 1 (omega arith);
-          joins =
-              λ c x. rw (at-font t r f i k, ← (on (i * 8) 2 1 3 refl), ← (on (i * 8) 2 2 4 refl), o .there, ← (on (i * 8) 5 1 6 refl), ← (on (i * 8) 5 2 7 refl), d .bare, some-span a, some-size s);
+          joins = λ c x. rw (at-font t r f i k, ← c3, ← c4, o .there, ← c6, ← c7, d .bare, some-span a, some-size s);
         }
       where
         family : (a : Option Span) → FamilyFits z a → WithinIf z (isSome a) (spanOr a)
@@ -178,20 +164,23 @@ module _ (t : List ℕ) (r : List ℤ) (f : List Float) where
         some-size none = refl
         some-size (some x) = refl
 
-    plain-row : (k n : ℕ) (s : Segment) (w : Wrapper Span) → getD t (i * 8 + 0) 0 ≡ k → getD t (i * 8 + 1) 0 ≡ n → 4 ≤ k → k ≤ 7
-        → (getD t (i * 8) 0 ≡ k → segmentAt t r f i ≡ s) → ((c x : Segments Span) → followedBy s c x ≡ track.wrap w c x) → RowIs z y i n (λ c x. track.wrap w c x)
+    plain-row :
+        (k n : ℕ) (s : Segment) (w : Wrapper Span) → Reads 0 t (i * 8) (k ∷ n ∷ 0 ∷ 0 ∷ 0 ∷ 0 ∷ 0 ∷ 0 ∷ []) → 4 ≤ k → k ≤ 7
+        → (getD t (i * 8) 0 ≡ k → segmentAt t r f i ≡ s) → ((c x : Segments Span) → followedBy s c x ≡ track.wrap w c x)
+        → RowIs z y i n (λ c x. track.wrap w c x)
     unfolding cell
-    plain-row k n s w a b lo hi e g =
-        let q : getD t (i * 8) 0 ≡ k = kind-is k a in
-        record { is = is-plain t f z y i (omega arith) (omega arith); rows = b; joins = λ c x. rw (e q) (g c x) }
+    plain-row k n s w h lo hi e g =
+        let q : getD t (i * 8) 0 ≡ k = kind-is k (h 0 (omega arith)) in
+        record { is = is-plain t f z y i (omega arith) (omega arith); rows = h 1 (omega arith); joins = λ c x. rw (e q) (g c x) }
 
-    wrapper-row : (n : ℕ) (w : Wrapper Span) → Reads 0 t (i * 8) (segmentCells (wrapperOf w) n) → sizeCell f i ≡ segmentSize (wrapperOf w) → WrapperFits z w
+    wrapper-row :
+        (n : ℕ) (w : Wrapper Span) → Reads 0 t (i * 8) (segmentCells (wrapperOf w) n) → sizeCell f i ≡ segmentSize (wrapperOf w) → WrapperFits z w
         → RowIs z y i n (λ c x. track.wrap w c x)
     unfolding wrapperOf segmentCells cell areThree isByte
-    wrapper-row n track.bold h e p = plain-row 4 n Segment.Bold track.bold (h 0 (omega arith)) (h 1 (omega arith)) (omega arith) (omega arith) (at-bold t r f i) (λ c x. refl)
-    wrapper-row n track.italic h e p = plain-row 5 n Segment.Italic track.italic (h 0 (omega arith)) (h 1 (omega arith)) (omega arith) (omega arith) (at-italic t r f i) (λ c x. refl)
-    wrapper-row n track.underline h e p = plain-row 6 n Segment.Underline track.underline (h 0 (omega arith)) (h 1 (omega arith)) (omega arith) (omega arith) (at-underline t r f i) (λ c x. refl)
-    wrapper-row n track.strike h e p = plain-row 7 n Segment.Strike track.strike (h 0 (omega arith)) (h 1 (omega arith)) (omega arith) (omega arith) (at-strike t r f i) (λ c x. refl)
+    wrapper-row n track.bold h e p = plain-row 4 n Segment.Bold track.bold h (omega arith) (omega arith) (at-bold t r f i) (λ c x. refl)
+    wrapper-row n track.italic h e p = plain-row 5 n Segment.Italic track.italic h (omega arith) (omega arith) (at-italic t r f i) (λ c x. refl)
+    wrapper-row n track.underline h e p = plain-row 6 n Segment.Underline track.underline h (omega arith) (omega arith) (at-underline t r f i) (λ c x. refl)
+    wrapper-row n track.strike h e p = plain-row 7 n Segment.Strike track.strike h (omega arith) (omega arith) (at-strike t r f i) (λ c x. refl)
     wrapper-row n (track.color v) h e p =
         let k : getD t (i * 8) 0 ≡ 8 = kind-is 8 (h 0 (omega arith)) in
         let a : cell 8 t i 2 ≡ v .r = h 2 (omega arith) in
