@@ -1,9 +1,10 @@
 -- Extras that were laid into their table are read back from it. Assumes nothing.
 --     cellsOf        the cells of extras
 --     extras-read    those of one element: the test and the value
---     Sits, Stays, laid-extras    in the table of a layout, those of every element
+--     laid-long      the table of a layout keeps its length
+--     Sits, Stays, laid-extras    and has those of every element
 use Prim.Native.Nat.{ℕ, _+_, _*_, _≤_}
-use mathlib.Core.Path.{_≡_, refl, _∙_}
+use mathlib.Core.Path.{_≡_, refl, ap, _∙_}
 use mathlib.Core.Bool.{true}
 use mathlib.Core.List.{List, [], _∷_, _++_}
 use mathlib.Core.Logic.{_⊎_, inl, inr}
@@ -106,19 +107,32 @@ all-stay (x ∷ l) t e s a =
       all-stay l t′ (length-sets t (x .rows .first * 3) (cellsOf (x .extras)) ∙ e) (s .1) (a .1),
     )
 
-pub laid-extras : (k : Placed) (t : List ℕ) → length t ≡ 24576 → All Sits (laid k) → AllApart (laid k)
-    → All (Stays (cueExtras (regionExtras (styleExtras t (k .styles)) (k .regions)) (k .cues))) (laid k)
-unfolding laid
-laid-extras k t e s a =
-    let a1 = each laidStyle (k .styles) in
-    let a2 = each laidRegion (k .regions) in
-    let a3 = each laidCue (k .cues) in
-    let q : cueExtras (regionExtras (styleExtras t (k .styles)) (k .regions)) (k .cues) ≡ layAll t (laid k)
-    = rw (
-      lay-styles (k .styles) t,
-      lay-regions (k .regions) (layAll t a1),
-      lay-cues (k .cues) (layAll (layAll t a1) a2),
-      lay-append a1 (a2 ++ a3) t,
-      lay-append a2 a3 (layAll t a1),
-    ) in
-    rw q (all-stay (laid k) t e s a)
+lay-long : (l : List Laid) (t : List ℕ) → length (layAll t l) ≡ length t
+unfolding layAll layExtras
+lay-long [] t = refl
+lay-long (x ∷ l) t = lay-long l _ ∙ length-sets t (x .rows .first * 3) (cellsOf (x .extras))
+
+-- the table of a layout
+module _ (k : Placed) (t : List ℕ) where
+  abbrev pub extrasLaid : List ℕ
+  extrasLaid = cueExtras (regionExtras (styleExtras t (k .styles)) (k .regions)) (k .cues)
+
+  lay-laid : extrasLaid ≡ layAll t (laid k)
+  unfolding laid
+  lay-laid =
+      let a = each laidStyle (k .styles) in
+      let b = each laidRegion (k .regions) in
+      let c = each laidCue (k .cues) in
+      rw (
+        lay-styles (k .styles) t,
+        lay-regions (k .regions) (layAll t a),
+        lay-cues (k .cues) (layAll (layAll t a) b),
+        lay-append a (b ++ c) t,
+        lay-append b c (layAll t a),
+      )
+
+  pub laid-long : length extrasLaid ≡ length t
+  laid-long = ap length lay-laid ∙ lay-long (laid k) t
+
+  pub laid-extras : length t ≡ 24576 → All Sits (laid k) → AllApart (laid k) → All (Stays extrasLaid) (laid k)
+  laid-extras e s a = rw lay-laid (all-stay (laid k) t e s a)

@@ -1,7 +1,8 @@
 -- A placed track that fits is what the tables mean in which it is laid out. Assumes nothing.
---     Holds, means      tables that hold a placed track mean what it shows
---     layout-holds      those of the layout hold it
---     layout-means      so they mean it
+--     Holds, tested, means    tables that hold a placed track mean what it shows
+--     layout-holds            those of the layout hold it
+--     layout-means            so they mean it
+--     layout-full, layout-checked    they are as long as they must be, and pass the check of a handed track
 use Prim.Native.Nat.{ℕ, _+_, _-_, _*_, _≤_}
 use mathlib.Core.Path.{_≡_, refl, sym, _∙_}
 use mathlib.Core.Bool.{Bool, true, false}
@@ -15,12 +16,14 @@ use lib.Ieee.{Float}
 use borrow.Author.Tests.{le-leb}
 use Rattle.track.specs.declared.strings.Span.{Span}
 use Rattle.track.specs.Tables.{Tables, zeroFloat, sizeCell, rowsFrom}
+use Rattle.track.specs.declared.check.Check.{Check}
+use Rattle.track.specs.Check.{rowsFull, restFull, isFull, checkOf}
 use Rattle.track.specs.Meaning.{isParam, isStyle, isRegion, areCues, allRows, withinLimits, bytesMean, rowsMean, isTrack, paramIn, styleIn, regionIn, cueIn, trackAt, trackIn}
 use Rattle.track.specs.Layout.{joinedCells, each, optionalCells, paramCells, styleCells, regionCells, cueCells, cueTimes, styleSize, allSegments, filledSizes, Placed, PlacedStyle, layout}
 use Rattle.track.specs.Placing.{All, ParamFits, StyleFits, RegionFits, CueFits, Fits, laidStyle, laidRegion, laidCue, laid, shownParam, shownStyle, shownRegion, shownCue, shown}
 use Rattle.track.proofs.ReadBack.{Reads, AllAt, reads-here, reads-after, reads-first, reads-rest, rows-at, at-both, rows-mean, all-append, all-each, all-join, each-all, all-both, each-many}
-use Rattle.track.proofs.ExtrasLaid.{Sits, Stays, laid-extras}
-use Rattle.track.proofs.RowsLaid.{OptionalRead, optional-read, param-read, region-read, style-read, style-long}
+use Rattle.track.proofs.ExtrasLaid.{Sits, Stays, extrasLaid, laid-long, laid-extras}
+use Rattle.track.proofs.RowsLaid.{OptionalRead, optional-long, optional-read, param-read, region-read, style-read, style-long}
 use Rattle.track.proofs.SegmentsLaid.{Stand, cellsIn, timeIn, sizeIn}
 use Rattle.track.proofs.CuesLaid.{cues-read}
 
@@ -139,7 +142,7 @@ module _ (T : Tables) (k : Placed) (u v : ℕ) (h : Holds T k u v) (f : Fits k (
   unfolding rowsMean
   heads-mean = rw (h .many-params, h .many-styles, h .many-regions, params-read .0, styles-read .0, regions-read .0)
 
-  tested : isTrack T ≡ true
+  pub tested : isTrack T ≡ true
   unfolding isTrack
   tested = rw (limits, h .strings, h .texts, bytes-mean, heads-mean, h .many-segments, h .many-cues, cues-mean .0)
 
@@ -225,3 +228,40 @@ layout-holds k z y u v f =
 pub layout-means : (k : Placed) (z y : List ℕ) (u v : ℕ) → Fits k z y u v → trackIn (layout k z y u v) ≡ some (shown k z y)
 unfolding layout
 layout-means k z y u v f = means (layout k z y u v) k u v (layout-holds k z y u v f) f
+
+-- ---- the check of a handed track
+filled-long : {A : Type 0} (d : A) (n : ℕ) (l : List A) → n ≤ length (l ++ replicate (n - length l) d)
+filled-long d n l =
+    let r = replicate (n - length l) d in
+    omega (arith, length-append l r, length-replicate (n - length l) d)
+
+sizes-long : (n m : ℕ) (a b : List Float) → n + m ≤ length (filledSizes n a ++ filledSizes m b)
+sizes-long n m a b = omega (arith, length-append (filledSizes n a) (filledSizes m b), filled-long zeroFloat n a, filled-long zeroFloat m b)
+
+head-long : (a b c d e u v : ℕ) (o : Bool) (x : Span) → 10 ≤ length (a ∷ b ∷ c ∷ d ∷ e ∷ (optionalCells o x ++ (u ∷ v ∷ [])))
+head-long a b c d e u v o x = omega (arith, length-append (optionalCells o x) (u ∷ v ∷ []), optional-long o x)
+
+module _ (k : Placed) (z y : List ℕ) (u v : ℕ) (hz : 65536 ≤ length z) (hy : 65536 ≤ length y) where
+  pub layout-full : isFull (layout k z y u v) ≡ true
+  unfolding layout isFull rowsFull restFull
+  layout-full =
+      let g = allSegments (k .cues) in
+      let x : 24576 ≤ length (extrasLaid k (replicate 24576 0)) = omega (arith, laid-long k (replicate 24576 0), length-replicate {A = ℕ} 24576 0) in
+      rw (
+        le-leb 10 _ (head-long (length (k .params)) (length (k .styles)) (length (k .regions)) (length (k .cues)) (length g) u v (k .«has_lang») (k .lang)),
+        le-leb 256 _ (filled-long 0 256 (joinedCells paramCells (k .params))),
+        le-leb 6912 _ (filled-long 0 6912 (joinedCells (λ x. styleCells (x .style)) (k .styles))),
+        le-leb 1024 _ (filled-long 0 1024 (joinedCells (λ x. regionCells (x .region)) (k .regions))),
+        le-leb 22528 _ (filled-long 0 22528 (joinedCells (λ x. cueCells (x .cue)) (k .cues))),
+        le-leb 131072 _ (filled-long 0 131072 (joinedCells cellsIn g)),
+        le-leb 24576 _ x,
+        le-leb 4096 _ (filled-long (pos 0) 4096 (cueTimes (k .cues))),
+        le-leb 16384 _ (filled-long (pos 0) 16384 (each timeIn g)),
+        le-leb 16640 _ (sizes-long 16384 256 (each sizeIn g) (each styleSize (k .styles))),
+        le-leb 65536 (length z) hz,
+        le-leb 65536 (length y) hy,
+      )
+
+  pub layout-checked : Fits k z y u v → checkOf (layout k z y u v) ≡ Check.Track
+  unfolding layout checkOf
+  layout-checked f = rw (layout-full, tested (layout k z y u v) k u v (layout-holds k z y u v f) f)

@@ -2,22 +2,22 @@
 --     Reads, AllAt                                        cells from a place on; a fact about each row
 --     reads-here, reads-after, reads-first, reads-rest    what is read from a place on: in a list where it stands, and its parts
 --     reads-set, reads-kept                               what was stored, and what stands where nothing was
---     rows-at, at-both, rows-mean                         rows of w cells, one after the other; their tests and values
+--     rows-at, row-cell, at-both, rows-mean               rows of w cells, one after the other; their cells, tests and values
 --     all-append, all-each, all-join, each-all, all-both  lists of facts
 --     joined-append, each-append, joined-many, each-many  lists of cells
-use Prim.Native.Nat.{ℕ, suc, _+_, _*_, _≤_, _<_}
+use Prim.Native.Nat.{ℕ, zero, suc, _+_, _-_, _*_, _≤_, _<_}
 use mathlib.Core.Path.{_≡_, refl, sym, ap, _∙_}
 use mathlib.Core.Bool.{Bool, true}
 use mathlib.Core.List.{List, [], _∷_, _++_, append-assoc}
 use mathlib.Core.Logic.{_⊎_, inl, inr}
 use native.Mathlib.Omega.{arith}
 use native.Mathlib.Nat.{zero-add, add-assoc}
-use lib.ListN.{length, getD, drop, length-append, List·getD-append}
+use lib.ListN.{length, getD, drop, replicate, length-append, List·getD-append}
 use lib.Seq.{sets, getD-append-add, getD-take, getD-drop}
 use Rattle.scan.proofs.Stores.{sets-part, sets-other}
-use Rattle.track.specs.Tables.{rowsFrom}
+use Rattle.track.specs.Tables.{cell, rowsFrom}
 use Rattle.track.specs.Meaning.{allRows}
-use Rattle.track.specs.Layout.{joinedCells, each}
+use Rattle.track.specs.Layout.{joinedCells, each, filled}
 use Rattle.track.specs.Placing.{All}
 
 -- the cells c stand in t from place p on; d is what is read past the end
@@ -68,6 +68,25 @@ rows-at w f e t (x ∷ l) i h =
     let z : (i + 1) * w ≡ i * w + w = omega arith in
     let m = joinedCells f l in
     (reads-first 0 t (i * w) (f x) m h, rows-at w f e t l (i + 1) (reads-rest 0 t (i * w) (f x) m h ((i + 1) * w) (omega arith)))
+
+-- the i-th of them
+at-get : {A : Type 0} (P : ℕ → A → Type 0) (d : A) (l : List A) (k i : ℕ) → AllAt P k l → i < length l → P (k + i) (getD l i d)
+at-get P d [] k i h g = absurd (omega arith)
+at-get P d (x ∷ l) k zero h g = let e : k + 0 ≡ k = omega arith in rw e (h .0)
+at-get P d (x ∷ l) k (suc i) h g = let e : k + suc i ≡ k + 1 + i = omega arith in rw e (at-get P d l (k + 1) i (h .1) (omega arith))
+
+-- cell j of row i, in a table that is filled up
+pub row-cell : {A : Type 0} (w : ℕ) (f : A → List ℕ) → ((x : A) → length (f x) ≡ w) → (d : A) (n : ℕ) (l : List A) (i j : ℕ) → i < length l → j < w
+    → cell w (filled n (joinedCells f l)) i j ≡ getD (f (getD l i d)) j 0
+unfolding cell
+row-cell w f e d n l i j h g =
+    let t = filled n (joinedCells f l) in
+    let c : 0 * w ≡ 0 = omega arith in
+    let r : Reads 0 t (0 * w) (joinedCells f l) = rw c (reads-here 0 (joinedCells f l) (replicate (n - length (joinedCells f l)) 0)) in
+    let z : 0 + i ≡ i = zero-add i in
+    let q : Reads 0 t (i * w) (f (getD l i d)) = rw z at (at-get (λ i x. Reads 0 t (i * w) (f x)) d l 0 i (rows-at w f e t l 0 r) h) in
+    let m : length (f (getD l i d)) ≡ w = e (getD l i d) in
+    q j (omega arith)
 
 pub at-both : {A : Type 0} (P Q : ℕ → A → Type 0) (l : List A) (i : ℕ) → AllAt P i l → AllAt Q i l → AllAt (λ i x. P i x × Q i x) i l
 at-both P Q [] i h g = tt

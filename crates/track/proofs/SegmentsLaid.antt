@@ -2,7 +2,7 @@
 --     Stand, stand-append      where rows of segments stand, with their times and sizes; their parts
 --     rows-many                how many rows
 --     Read, segments-read      the test and the value
-use Prim.Native.Nat.{ℕ, suc, _+_, _-_, _*_, _≤_, _<_}
+use Prim.Native.Nat.{ℕ, _+_, _-_, _*_, _≤_, _<_}
 use mathlib.Core.Path.{_≡_, refl, sym, _∙_}
 use mathlib.Core.Bool.{true}
 use mathlib.Core.List.{List, [], _∷_, _++_}
