@@ -11,3 +11,11 @@ pub mod Answers
 pub mod CueRows
 pub mod Accepted
 pub mod Valid
+pub mod ReadBack
+pub mod ExtrasLaid
+pub mod RowsLaid
+pub mod SegmentsLaid
+pub mod CuesLaid
+pub mod LayoutLaws
+pub mod PlainExamples
+pub mod LayoutExamples

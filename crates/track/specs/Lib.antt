@@ -3,3 +3,5 @@ pub mod Tables
 pub mod Meaning
 pub mod Check
 pub mod Layout
+pub mod Placing
+pub mod Plain

@@ -1,0 +1,235 @@
+-- What a placed track shows, and when it fits its tables (`Layout`). Definitions alone.
+use Prim.Native.Nat.{ℕ, _+_, _≤_, _<_, max}
+use mathlib.Core.Path.{_≡_}
+use mathlib.Core.Bool.{Bool, true, cond}
+use mathlib.Core.List.{List, [], _∷_, _++_}
+use mathlib.Core.Logic.{_⊎_}
+use mathlib.Core.Option.{Option, none, some}
+use lib.ListN.{length, take}
+use lib.Dec.{eqb}
+use Rattle.scan.specs.Part.{stringAt}
+use Rattle.scan.specs.Bytes.{attrNameByte}
+use Rattle.colors.specs.declared.read.Rgba.{Rgba}
+use Rattle.decimals.specs.declared.size.Size.{Size}
+use Rattle.decimals.specs.Size.{isSize}
+use Rattle.track.specs.declared.strings.Span.{Span}
+use Rattle.track.specs.declared.values.Param.{Param}
+use Rattle.track.specs.declared.values.Extra.{Extra}
+use Rattle.track.specs.declared.values.Rows.{Rows}
+use Rattle.track.specs.Track.{Bytes, Wrapper, Segments, Track}
+use Rattle.track.specs.Track as track
+use Rattle.track.specs.Meaning.{isSpan, every, isUtf8, bytesAt, given}
+use Rattle.track.specs.Layout.{Placed, PlacedStyle, PlacedRegion, PlacedCue, each, segmentRows, allSegments}
+
+-- ---- what it shows: z are the bytes of its strings, y those of its texts
+unfoldable pub shownExtra : List ℕ → Extra → track.Extra
+shownExtra z x = record { number = x .number; value = bytesAt z (x .value) }
+
+unfoldable pub shownParam : List ℕ → Param → track.Param
+shownParam z x = record { name = bytesAt z (x .name); value = bytesAt z (x .value) }
+
+-- a chain without bytes is none
+unfoldable pub shownChain : List ℕ → Span → Option Bytes
+shownChain z x = cond (eqb (x .len) 0) none (some (bytesAt z x))
+
+unfoldable pub shownStyle : List ℕ → PlacedStyle → track.Style
+unfolding each shownExtra shownChain
+shownStyle z x =
+    let s = x .style in
+    let l = s .look in
+    record {
+      name = bytesAt z (s .name);
+      chain = shownChain z (s .chain);
+      color = given (l .«has_color») (l .color);
+      back = given (l .«has_back») (l .back);
+      family = given (l .«has_family») (bytesAt z (l .family));
+      size = given (l .«has_size») (l .size);
+      bold = s .bold;
+      italic = s .italic;
+      underline = s .underline;
+      strike = s .strike;
+      align = s .align;
+      extras = each (shownExtra z) (x .extras);
+    }
+
+unfoldable pub shownRegion : List ℕ → PlacedRegion → track.Region
+unfolding each shownExtra
+shownRegion z x = record { id = bytesAt z (x .region .id); extras = each (shownExtra z) (x .extras) }
+
+unfoldable pub shownWrapper : List ℕ → Wrapper Span → Wrapper Bytes
+shownWrapper z track.bold = track.bold
+shownWrapper z track.italic = track.italic
+shownWrapper z track.underline = track.underline
+shownWrapper z track.strike = track.strike
+shownWrapper z (track.color c) = track.color c
+shownWrapper z (track.font none s) = track.font none s
+shownWrapper z (track.font (some a) s) = track.font (some (bytesAt z a)) s
+
+unfoldable pub shownSegments : (z y : List ℕ) → Segments Span → Segments Bytes
+unfolding shownWrapper
+shownSegments z y track.done = track.done
+shownSegments z y (track.text s x) = track.text (bytesAt y s) (shownSegments z y x)
+shownSegments z y (track.break x) = track.break (shownSegments z y x)
+shownSegments z y (track.timestamp t x) = track.timestamp t (shownSegments z y x)
+shownSegments z y (track.wrap w c x) = track.wrap (shownWrapper z w) (shownSegments z y c) (shownSegments z y x)
+
+unfoldable pub shownCue : (z y : List ℕ) → PlacedCue → track.Cue
+unfolding each shownExtra shownSegments
+shownCue z y x =
+    let c = x .cue in
+    record {
+      start = c .start;
+      end = c .end;
+      style = given (c .«has_style») (bytesAt z (c .style));
+      region = given (c .«has_region») (bytesAt z (c .region));
+      preserve = c .preserve;
+      extras = each (shownExtra z) (x .extras);
+      segments = shownSegments z y (x .segments);
+    }
+
+unfoldable pub shown : Placed → (z y : List ℕ) → Track
+unfolding each shownParam shownStyle shownRegion shownCue
+shown k z y = record {
+  lang = given (k .«has_lang») (bytesAt z (k .lang));
+  params = each (shownParam z) (k .params);
+  styles = each (shownStyle z) (k .styles);
+  regions = each (shownRegion z) (k .regions);
+  cues = each (shownCue z y) (k .cues);
+}
+
+-- ---- when it fits: z are the used bytes of the strings, y those of the texts
+abbrev pub All : {A : Type 0} → (A → Type 0) → List A → Type 0
+All P [] = Unit {0}
+All P (x ∷ l) = P x × All P l
+
+abbrev pub Within : List ℕ → Span → Type 0
+Within z x = isSpan z (x .place) (x .len) ≡ true
+
+-- what may be absent fits where it is there
+abbrev pub WithinIf : List ℕ → Bool → Span → Type 0
+WithinIf z b x = b ≡ true → Within z x
+
+abbrev pub ColorIf : Bool → Rgba → Type 0
+ColorIf b c = b ≡ true → (c .r < 256) × (c .g < 256) × (c .b < 256) × (c .a < 256)
+
+abbrev pub SizeIf : Bool → Size → Type 0
+SizeIf b s = b ≡ true → isSize s ≡ true
+
+-- extras: their numbers rise, from `least` on and below `most`
+abbrev pub Rising : List ℕ → (most least : ℕ) → List Extra → Type 0
+Rising z most least [] = Unit {0}
+Rising z most least (x ∷ l) = (least ≤ x .number) × (x .number < most) × Within z (x .value) × Rising z most (x .number + 1) l
+
+-- and the rows where they stand are as many, and within the table
+pub record ExtrasFit (z : List ℕ) (most : ℕ) (x : Rows) (l : List Extra) : Type 0 where
+  pub many : x .count ≡ length l
+  pub room : x .first + x .count ≤ 8192
+  pub rising : Rising z most 0 l
+
+pub record ParamFits (z : List ℕ) (x : Param) : Type 0 where
+  pub name : Within z (x .name)
+  pub value : Within z (x .value)
+  pub letters : every attrNameByte (stringAt z (x .name .place) (x .name .len)) ≡ true
+
+pub record StyleFits (z : List ℕ) (x : PlacedStyle) : Type 0 where
+  pub name : Within z (x .style .name)
+  pub chain : Within z (x .style .chain)
+  pub color : ColorIf (x .style .look .«has_color») (x .style .look .color)
+  pub back : ColorIf (x .style .look .«has_back») (x .style .look .back)
+  pub family : WithinIf z (x .style .look .«has_family») (x .style .look .family)
+  pub size : SizeIf (x .style .look .«has_size») (x .style .look .size)
+  pub extras : ExtrasFit z 46 (x .style .extras) (x .extras)
+
+pub record RegionFits (z : List ℕ) (x : PlacedRegion) : Type 0 where
+  pub id : Within z (x .region .id)
+  pub extras : ExtrasFit z 53 (x .region .extras) (x .extras)
+
+-- how deep segments are nested: 1 where no wrapper has any inside
+unfoldable pub depth : {S : Type 0} → Segments S → ℕ
+depth track.done = 0
+depth (track.text s x) = max 1 (depth x)
+depth (track.break x) = max 1 (depth x)
+depth (track.timestamp t x) = max 1 (depth x)
+depth (track.wrap w c x) = max (1 + depth c) (depth x)
+
+abbrev pub FamilyFits : List ℕ → Option Span → Type 0
+FamilyFits z none = Unit {0}
+FamilyFits z (some x) = Within z x
+
+abbrev pub SizeFits : Option Size → Type 0
+SizeFits none = Unit {0}
+SizeFits (some s) = isSize s ≡ true
+
+abbrev pub WrapperFits : List ℕ → Wrapper Span → Type 0
+WrapperFits z track.bold = Unit {0}
+WrapperFits z track.italic = Unit {0}
+WrapperFits z track.underline = Unit {0}
+WrapperFits z track.strike = Unit {0}
+WrapperFits z (track.color c) = (c .r < 256) × (c .g < 256) × (c .b < 256)
+WrapperFits z (track.font a s) = FamilyFits z a × SizeFits s
+
+abbrev pub SegmentsFit : (z y : List ℕ) → Segments Span → Type 0
+SegmentsFit z y track.done = Unit {0}
+SegmentsFit z y (track.text s x) = Within y s × SegmentsFit z y x
+SegmentsFit z y (track.break x) = SegmentsFit z y x
+SegmentsFit z y (track.timestamp t x) = SegmentsFit z y x
+SegmentsFit z y (track.wrap w c x) = WrapperFits z w × SegmentsFit z y c × SegmentsFit z y x
+
+pub record CueFits (z y : List ℕ) (x : PlacedCue) : Type 0 where
+  pub style : WithinIf z (x .cue .«has_style») (x .cue .style)
+  pub region : WithinIf z (x .cue .«has_region») (x .cue .region)
+  pub extras : ExtrasFit z 47 (x .cue .extras) (x .extras)
+  pub segments : SegmentsFit z y (x .segments)
+  pub nested : depth (x .segments) ≤ 512
+
+-- the segments of each cue stand after those of the one before, from row `from` on
+abbrev pub InTurn : ℕ → List PlacedCue → Type 0
+InTurn from [] = Unit {0}
+InTurn from (x ∷ l) =
+    (x .cue .segments .first ≡ from) × (x .cue .segments .count ≡ segmentRows (x .segments)) × InTurn (from + segmentRows (x .segments)) l
+
+-- rows of extras, of all elements: no two overlap, and where there are none nothing does
+pub record Laid : Type 0 where
+  pub rows : Rows
+  pub extras : List Extra
+
+unfoldable pub laidStyle : PlacedStyle → Laid
+laidStyle x = record { rows = x .style .extras; extras = x .extras }
+
+unfoldable pub laidRegion : PlacedRegion → Laid
+laidRegion x = record { rows = x .region .extras; extras = x .extras }
+
+unfoldable pub laidCue : PlacedCue → Laid
+laidCue x = record { rows = x .cue .extras; extras = x .extras }
+
+unfoldable pub laid : Placed → List Laid
+unfolding each laidStyle laidRegion laidCue
+laid k = each laidStyle (k .styles) ++ (each laidRegion (k .regions) ++ each laidCue (k .cues))
+
+abbrev pub Apart : Rows → Rows → Type 0
+Apart x y = 0 < x .count → 0 < y .count → (x .first + x .count ≤ y .first) ⊎ (y .first + y .count ≤ x .first)
+
+abbrev pub AllApart : List Laid → Type 0
+AllApart [] = Unit {0}
+AllApart (x ∷ l) = All (λ y. Apart (x .rows) (y .rows)) l × AllApart l
+
+-- u bytes of z and v bytes of y are used
+pub record Fits (k : Placed) (z y : List ℕ) (u v : ℕ) : Type 0 where
+  pub few-params : length (k .params) ≤ 64
+  pub few-styles : length (k .styles) ≤ 256
+  pub few-regions : length (k .regions) ≤ 256
+  pub few-cues : length (k .cues) ≤ 2048
+  pub few-segments : length (allSegments (k .cues)) ≤ 16384
+  pub few-strings : u ≤ 65536
+  pub few-texts : v ≤ 65536
+  pub all-strings : u ≤ length z
+  pub all-texts : v ≤ length y
+  pub strings : isUtf8 (take u z) ≡ true
+  pub texts : isUtf8 (take v y) ≡ true
+  pub lang : WithinIf (take u z) (k .«has_lang») (k .lang)
+  pub params : All (ParamFits (take u z)) (k .params)
+  pub styles : All (StyleFits (take u z)) (k .styles)
+  pub regions : All (RegionFits (take u z)) (k .regions)
+  pub cues : All (CueFits (take u z) (take v y)) (k .cues)
+  pub in-turn : InTurn 0 (k .cues)
+  pub apart : AllApart (laid k)
