@@ -23,7 +23,7 @@ use Rattle.xml.specs.declared.find.Value.the-variants.{At, Absent}
 unfoldable pub named : List ℕ → List ℕ → Bool
 named name full = sameFolded (afterLastColon full) name
 
--- the first element of that name among nodes in a row, with what stands after it; or none
+-- the first element of that name among nodes in a row: its name, attributes and content; or none
 pub data FoundElement : Type 0 where
   found : (name : List ℕ) → List tree.Attr → (content : tree.Forest) → FoundElement
   absent : FoundElement

@@ -1,7 +1,7 @@
 -- A text's tree with its entities read, and the table of its strings. Definitions alone.
 -- Document 01: "The tree reader gives it with entities read where the Rust reads them": in texts and in the values of attributes; not in
 -- sections, and in no name.
-use Prim.Native.Nat.{ℕ}
+use Prim.Native.Nat.{ℕ, _+_}
 use mathlib.Core.Bool.{cond}
 use mathlib.Core.List.{List, [], _∷_, _++_}
 use lib.ListN.{length, replicate}
@@ -11,7 +11,6 @@ use Rattle.entities.specs.Decode.{decoded}
 use Rattle.tree.specs.Trees.{Attr, Forest, nil, text, section, elem}
 use Rattle.tree.specs.Read.{Out, got, nothing, bad, meaning}
 use Rattle.scan.specs.Part.{stringAt}
-use Prim.Native.Nat.{_+_}
 
 -- ---- strings
 -- a string and its place, in the text as in the table of strings
