@@ -3,7 +3,7 @@ use lib.ListN.{getD}
 use native.Mathlib.Omega.{arith}
 use borrow.Author.Tests.{eq-eqb, ne-eqb}
 use Rattle.track.specs.Tables.{colorAt}
-use Rattle.records.proofs.Colors.{color-bytes}
+use Rattle.records.proofs.Parts.{color-bytes}
 use borrow.Author.Needs.{needs}
 use Rattle.records.proofs.cells.color_at.Statement.{statement}
 use Rattle.records.proofs.cells.color_at.Tie as tie
