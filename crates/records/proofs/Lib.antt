@@ -1,3 +1,5 @@
 -- What the proofs of several functions use.
 pub mod Parts
 pub mod Storing
+pub mod RowLaws
+pub mod Back
