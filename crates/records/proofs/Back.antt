@@ -20,10 +20,12 @@ use Rattle.track.specs.declared.values.Look.{Look}
 use Rattle.track.specs.declared.values.Style.{Style}
 use Rattle.track.specs.declared.values.Region.{Region}
 use Rattle.track.specs.declared.values.Cue.{Cue}
-use Rattle.track.specs.Tables.{cell, span, optional, zeroFloat, sizeCell, colorAt, sizeAt, alignAt, lookAt, paramAt, extraAt, styleAt, regionAt, cueAt}
-use Rattle.track.specs.Layout.{flag, spanCells, optionalCells, colorCells, sizeCells, alignCell, sizeValue, lookCells, paramCells, extraCells, styleCells, regionCells, cueCells, rowsCells, joinedCells, filled}
+use Rattle.track.specs.declared.segments.Font.{Font}
+use Rattle.track.specs.declared.segments.Segment.{Segment}
+use Rattle.track.specs.Tables.{cell, span, optional, zeroFloat, sizeCell, colorAt, sizeAt, alignAt, lookAt, paramAt, extraAt, styleAt, regionAt, cueAt, fontAt, segmentAt}
+use Rattle.track.specs.Layout.{flag, spanCells, optionalCells, colorCells, sizeCells, alignCell, sizeValue, lookCells, paramCells, extraCells, styleCells, regionCells, cueCells, rowsCells, fontCells, segmentCells, segmentTime, segmentSize, joinedCells, filled}
 use Rattle.records.proofs.Storing.{optional-wide, color-wide, look-wide}
-use Rattle.records.proofs.RowLaws.{Holds, holds-left, holds-right, holds-row, holds-laid, param-wide, extra-wide, region-wide, style-wide, cue-wide}
+use Rattle.records.proofs.RowLaws.{Holds, holds-left, holds-right, holds-row, holds-laid, param-wide, extra-wide, region-wide, style-wide, cue-wide, segment-wide}
 
 -- ---- rows
 module _ (t : List ℕ) where
@@ -191,6 +193,63 @@ cue-back t m i x h from to =
     (rw (simp add-assoc at (hg 0 (omega arith)), simp add-assoc at (hg 1 (omega arith)), simp add-assoc at (hg 2 (omega arith)))
     (rw (simp add-assoc at (he 0 (omega arith)), simp add-assoc at (he 1 (omega arith)), flag-back (x .preserve))))
 
+-- a segment, and how many rows it has
+abbrev pub cleanFont : Font → Font
+cleanFont x = record {
+  «has_family» = x .«has_family»;
+  family = spanIf (x .«has_family») (x .family);
+  «has_size» = x .«has_size»;
+  size = sizeIf (x .«has_size») (x .size);
+}
+
+abbrev pub cleanSegment : Segment → Segment
+cleanSegment (Segment.Text s) = Segment.Text s
+cleanSegment Segment.Break = Segment.Break
+cleanSegment (Segment.Timestamp t) = Segment.Timestamp t
+cleanSegment Segment.Bold = Segment.Bold
+cleanSegment Segment.Italic = Segment.Italic
+cleanSegment Segment.Underline = Segment.Underline
+cleanSegment Segment.Strike = Segment.Strike
+cleanSegment (Segment.Color c) = Segment.Color c
+cleanSegment (Segment.Font x) = Segment.Font (cleanFont x)
+
+module _ (t : List ℕ) (m : List ℤ) (f : List Float) (i : ℕ) where
+  family-back : (b : Bool) (x : Span) (p : ℕ) → Holds t p (optionalCells b x) → (eqb (getD t (p + 0) 0) 1 ≡ b) × (span (getD t (p + 1) 0) (getD t (p + 2) 0) ≡ spanIf b x)
+  family-back true x p h = (rw (h 0 (omega arith)), rw (h 1 (omega arith), h 2 (omega arith)))
+  family-back false x p h = (rw (h 0 (omega arith)), rw (h 1 (omega arith), h 2 (omega arith)))
+
+  font-size-back : (b : Bool) (s : Size) (p : ℕ) → Holds t p (sizeCells b s)
+      → (not (eqb (getD t (p + 0) 0) 0) ≡ b) × (_≡_ {A = Size} (record { value = sizeValue b s; negative = eqb (getD t (p + 0) 0) 2; digits = getD t (p + 1) 0; scale = getD t (p + 2) 0 }) (sizeIf b s))
+  unfolding sizeCells
+  font-size-back true s p h = (rw (h 0 (omega arith), sign-some (s .negative)), rw (h 0 (omega arith), sign-minus (s .negative), h 1 (omega arith), h 2 (omega arith)))
+  font-size-back false s p h = (rw (h 0 (omega arith)), rw (h 0 (omega arith), h 1 (omega arith), h 2 (omega arith)))
+
+  pub font-back : (x : Font) → Holds t (i * 8 + 2) (fontCells x) → sizeCell f i ≡ sizeValue (x .«has_size») (x .size) → fontAt t m f i ≡ cleanFont x
+  unfolding fontCells fontAt cell
+  font-back x h v =
+      let p = i * 8 in
+      let a = optionalCells (x .«has_family») (x .family) in
+      let z = sizeCells (x .«has_size») (x .size) in
+      let l : length a ≡ 3 = optional-wide (x .«has_family») (x .family) in
+      let cf = family-back (x .«has_family») (x .family) (p + 2) (holds-left t a z (p + 2) h) in
+      let cz = font-size-back (x .«has_size») (x .size) (p + 5) (after t a z (p + 2) (p + 5) h (omega (arith, l))) in
+      rw (v, simp add-assoc at (cf .1), simp add-assoc at (cz .1), simp add-assoc at (cf .0), simp add-assoc at (cz .0))
+
+  pub segment-back : (s : Segment) (n : ℕ) → Holds t (i * 8) (segmentCells s n) → getD m i (pos 0) ≡ segmentTime s → sizeCell f i ≡ segmentSize s
+      → (segmentAt t m f i ≡ cleanSegment s) × (cell 8 t i 1 ≡ n)
+  unfolding segmentAt cell segmentCells segmentTime segmentSize
+  segment-back (Segment.Text s) n h r v = (rw (h 0 (omega arith), h 2 (omega arith), h 3 (omega arith)), h 1 (omega arith))
+  segment-back Segment.Break n h r v = (rw (h 0 (omega arith)), h 1 (omega arith))
+  segment-back (Segment.Timestamp k) n h r v = (rw (h 0 (omega arith), r), h 1 (omega arith))
+  segment-back Segment.Bold n h r v = (rw (h 0 (omega arith)), h 1 (omega arith))
+  segment-back Segment.Italic n h r v = (rw (h 0 (omega arith)), h 1 (omega arith))
+  segment-back Segment.Underline n h r v = (rw (h 0 (omega arith)), h 1 (omega arith))
+  segment-back Segment.Strike n h r v = (rw (h 0 (omega arith)), h 1 (omega arith))
+  segment-back (Segment.Color c) n h r v = (rw (h 0 (omega arith), h 2 (omega arith), h 3 (omega arith), h 4 (omega arith)), h 1 (omega arith))
+  segment-back (Segment.Font x) n h r v =
+      let e : fontAt t m f i ≡ cleanFont x = font-back x (after t (9 ∷ n ∷ []) (fontCells x) (i * 8) (i * 8 + 2) h refl) v in
+      (rw (h 0 (omega arith)) (ap Segment.Font e), h 1 (omega arith))
+
 -- ---- tables
 module _ (n : ℕ) (i : ℕ) where
   pub params-back : (l : List Param) (d : Param) → i < length l → paramAt (filled n (joinedCells paramCells l)) i ≡ getD l i d
@@ -199,6 +258,11 @@ module _ (n : ℕ) (i : ℕ) where
   module _ {A : Type 0} (l : List A) (d : A) (h : i < length l) where
     pub regions-back : (g : A → Region) → regionAt (filled n (joinedCells (λ x. regionCells (g x)) l)) i ≡ g (getD l i d)
     regions-back g = region-back _ i (g (getD l i d)) (holds-row (λ x. regionCells (g x)) 4 (λ x. region-wide (g x)) d _ l i h)
+
+    pub segments-back : (g : A → Segment) (c : A → ℕ) (m : List ℤ) (f : List Float) → getD m i (pos 0) ≡ segmentTime (g (getD l i d)) → sizeCell f i ≡ segmentSize (g (getD l i d))
+        → let t = filled n (joinedCells (λ x. segmentCells (g x) (c x)) l) in (segmentAt t m f i ≡ cleanSegment (g (getD l i d))) × (cell 8 t i 1 ≡ c (getD l i d))
+    segments-back g c m f =
+        segment-back _ m f i (g (getD l i d)) (c (getD l i d)) (holds-row (λ x. segmentCells (g x) (c x)) 8 (λ x. segment-wide (g x) (c x)) d _ l i h)
 
     pub styles-back : (g : A → Style) (f : List Float) → sizeCell f (16384 + i) ≡ sizeValue (g (getD l i d) .look .«has_size») (g (getD l i d) .look .size)
         → styleAt (filled n (joinedCells (λ x. styleCells (g x)) l)) f i ≡ cleanStyle (g (getD l i d))

@@ -3,3 +3,4 @@ pub mod Parts
 pub mod Storing
 pub mod RowLaws
 pub mod Back
+pub mod Beside

@@ -1,8 +1,8 @@
 -- Tables of rows grow by a row, and hold each row that was put: what `AddPost` says of the layout. Assumes nothing.
 use Prim.Native.Nat.{ℕ, zero, suc, _+_, _-_, _*_, _≤_, _<_}
 use mathlib.Core.List.{List, [], _∷_, _++_, append-nil, append-assoc}
-use mathlib.Core.Logic.{_⊎_, inl, inr, ⊎-elim}
-use mathlib.Core.Path.{_≡_, refl, sym, ap, _∙_}
+use mathlib.Core.Logic.{_⊎_, inl, inr}
+use mathlib.Core.Path.{_≡_, refl, ap, _∙_}
 use native.Mathlib.Omega.{arith}
 use native.Mathlib.Nat.{add-assoc, suc-mul, add-mul, sub-zero, zero-sub, suc-sub-suc, mul-le-mul-right}
 use lib.ListN.{length, getD, take, drop, replicate, length-append, length-replicate, List·getD-append}
@@ -13,10 +13,11 @@ use Rattle.track.specs.declared.values.Extra.{Extra}
 use Rattle.track.specs.declared.values.Style.{Style}
 use Rattle.track.specs.declared.values.Region.{Region}
 use Rattle.track.specs.declared.values.Cue.{Cue}
-use Rattle.track.specs.Layout.{joinedCells, filled, paramCells, extraCells, styleCells, regionCells, cueCells, lookCells, optionalCells}
+use Rattle.track.specs.declared.segments.Segment.{Segment}
+use Rattle.track.specs.Layout.{joinedCells, filled, paramCells, extraCells, styleCells, regionCells, cueCells, segmentCells}
 use Rattle.records.specs.declared.cells.Added.{Added}
 use Rattle.records.specs.Posts.{AddPost}
-use Rattle.records.proofs.Storing.{optional-wide, look-wide}
+use Rattle.records.proofs.Storing.{optional-wide, size-wide, look-wide}
 
 -- ---- a table that is filled up
 drop-replicate : {A : Type 0} (k n : ℕ) (d : A) → drop k (replicate n d) ≡ replicate (n - k) d
@@ -133,3 +134,15 @@ style-wide x = simp length-append (omega (arith, simp length-append at (look-wid
 pub cue-wide : (x : Cue) → length (cueCells x) ≡ 11
 unfolding cueCells
 cue-wide x = simp length-append (rw (optional-wide (x .«has_style») (x .style), optional-wide (x .«has_region») (x .region)))
+
+pub segment-wide : (s : Segment) (n : ℕ) → length (segmentCells s n) ≡ 8
+unfolding segmentCells
+segment-wide (Segment.Text s) n = refl
+segment-wide Segment.Break n = refl
+segment-wide (Segment.Timestamp t) n = refl
+segment-wide Segment.Bold n = refl
+segment-wide Segment.Italic n = refl
+segment-wide Segment.Underline n = refl
+segment-wide Segment.Strike n = refl
+segment-wide (Segment.Color c) n = refl
+segment-wide (Segment.Font x) n = simp length-append (rw (optional-wide (x .«has_family») (x .family), size-wide (x .«has_size») (x .size)))

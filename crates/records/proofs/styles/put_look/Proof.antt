@@ -1,7 +1,4 @@
 -- `put_look` meets its contract: two colours, a family and a size, one after the other. Assumes nothing.
-use mathlib.Core.Path.{ap, _∙_}
-use lib.ListN.{length}
-use lib.Seq.{length-sets}
 use Rattle.track.specs.Layout.{optionalCells, colorCells, sizeCells, lookCells}
 use Rattle.records.proofs.Storing.{first, then, optional-wide, color-wide, size-wide}
 use borrow.Author.Needs.{needs}
