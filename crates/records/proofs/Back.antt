@@ -79,7 +79,8 @@ module _ (t : List ℕ) (p : ℕ) where
   begins : {x : ℕ} → getD t (p + 0) 0 ≡ x → getD t p 0 ≡ x
   begins e = rw add-zero at e
 
-  pub optional-back : (b : Bool) (x : Span) → Holds t p (optionalCells b x) → (eqb (getD t p 0) 1 ≡ b) × (optional (getD t p 0) (getD t (p + 1) 0) (getD t (p + 2) 0) ≡ spanIf b x)
+  pub optional-back : (b : Bool) (x : Span) → Holds t p (optionalCells b x)
+      → (eqb (getD t p 0) 1 ≡ b) × (optional (getD t p 0) (getD t (p + 1) 0) (getD t (p + 2) 0) ≡ spanIf b x)
   unfolding optional
   optional-back true x h = (rw (begins (h 0 (omega arith))), rw (begins (h 0 (omega arith)), h 1 (omega arith), h 2 (omega arith)))
   optional-back false x h = (rw (begins (h 0 (omega arith))), rw (begins (h 0 (omega arith))))
@@ -89,7 +90,8 @@ module _ (t : List ℕ) (p : ℕ) where
   color-back true c h = (rw (begins (h 0 (omega arith))), rw (begins (h 0 (omega arith)), h 1 (omega arith), h 2 (omega arith), h 3 (omega arith), h 4 (omega arith)))
   color-back false c h = (rw (begins (h 0 (omega arith))), rw (begins (h 0 (omega arith))))
 
-  pub size-back : (b : Bool) (s : Size) → Holds t p (sizeCells b s) → (not (eqb (getD t p 0) 0) ≡ b) × (sizeAt (getD t p 0) (getD t (p + 1) 0) (getD t (p + 2) 0) (sizeValue b s) ≡ sizeIf b s)
+  pub size-back : (b : Bool) (s : Size) → Holds t p (sizeCells b s)
+      → (not (eqb (getD t p 0) 0) ≡ b) × (sizeAt (getD t p 0) (getD t (p + 1) 0) (getD t (p + 2) 0) (sizeValue b s) ≡ sizeIf b s)
   unfolding sizeCells sizeAt
   size-back true s h = (rw (begins (h 0 (omega arith)), sign-some (s .negative)), rw (begins (h 0 (omega arith)), sign-some (s .negative), sign-minus (s .negative), h 1 (omega arith), h 2 (omega arith)))
   size-back false s h = (rw (begins (h 0 (omega arith))), rw (begins (h 0 (omega arith))))
@@ -170,7 +172,8 @@ cleanCue x = record {
   extras = x .extras;
 }
 
-pub cue-back : (t : List ℕ) (m : List ℤ) (i : ℕ) (x : Cue) → Holds t (i * 11) (cueCells x) → getD m (i * 2) (pos 0) ≡ x .start → getD m (i * 2 + 1) (pos 0) ≡ x .end → cueAt t m i ≡ cleanCue x
+pub cue-back : (t : List ℕ) (m : List ℤ) (i : ℕ) (x : Cue) → Holds t (i * 11) (cueCells x) → getD m (i * 2) (pos 0) ≡ x .start → getD m (i * 2 + 1) (pos 0) ≡ x .end
+    → cueAt t m i ≡ cleanCue x
 unfolding cueCells cueAt cell
 cue-back t m i x h from to =
     let p = i * 11 in
@@ -259,7 +262,8 @@ module _ (n : ℕ) (i : ℕ) where
     pub regions-back : (g : A → Region) → regionAt (filled n (joinedCells (λ x. regionCells (g x)) l)) i ≡ g (getD l i d)
     regions-back g = region-back _ i (g (getD l i d)) (holds-row (λ x. regionCells (g x)) 4 (λ x. region-wide (g x)) d _ l i h)
 
-    pub segments-back : (g : A → Segment) (c : A → ℕ) (m : List ℤ) (f : List Float) → getD m i (pos 0) ≡ segmentTime (g (getD l i d)) → sizeCell f i ≡ segmentSize (g (getD l i d))
+    pub segments-back : (g : A → Segment) (c : A → ℕ) (m : List ℤ) (f : List Float) → getD m i (pos 0) ≡ segmentTime (g (getD l i d))
+        → sizeCell f i ≡ segmentSize (g (getD l i d))
         → let t = filled n (joinedCells (λ x. segmentCells (g x) (c x)) l) in (segmentAt t m f i ≡ cleanSegment (g (getD l i d))) × (cell 8 t i 1 ≡ c (getD l i d))
     segments-back g c m f =
         segment-back _ m f i (g (getD l i d)) (c (getD l i d)) (holds-row (λ x. segmentCells (g x) (c x)) 8 (λ x. segment-wide (g x) (c x)) d _ l i h)
@@ -273,5 +277,6 @@ module _ (n : ℕ) (i : ℕ) where
     cues-back g m = cue-back _ m i (g (getD l i d)) (holds-row (λ x. cueCells (g x)) 11 (λ x. cue-wide (g x)) d _ l i h)
 
 -- extra i of a list that is laid from row k on
-pub extras-back : (t : List ℕ) (l : List Extra) (d : Extra) (k i : ℕ) → i < length l → k * 3 + length l * 3 ≤ length t → extraAt (sets t (k * 3) (joinedCells extraCells l)) (k + i) ≡ getD l i d
+pub extras-back : (t : List ℕ) (l : List Extra) (d : Extra) (k i : ℕ) → i < length l → k * 3 + length l * 3 ≤ length t
+    → extraAt (sets t (k * 3) (joinedCells extraCells l)) (k + i) ≡ getD l i d
 extras-back t l d k i h n = extra-back _ (k + i) (getD l i d) (holds-laid extraCells 3 extra-wide d t l k i h n)

@@ -139,7 +139,8 @@ module _ (s : List Float) (long : length s ≡ 16384) where
   style-size-added n l x h =
       rw (← long, sets-right (styleSize x ∷ []) s (filledSizes n (each styleSize l)) (length l)) (ap (λ (b : List Float). s ++ b) (cell-added styleSize zeroFloat n l x h))
 
-  pub style-size-back : (z : List Float) (l : List PlacedStyle) (d : PlacedStyle) (i : ℕ) → i < length l → sizeCell (s ++ (each styleSize l ++ z)) (16384 + i) ≡ styleSize (getD l i d)
+  pub style-size-back : (z : List Float) (l : List PlacedStyle) (d : PlacedStyle) (i : ℕ) → i < length l
+      → sizeCell (s ++ (each styleSize l ++ z)) (16384 + i) ≡ styleSize (getD l i d)
   style-size-back z l d i h = rw (← long) (getD-append-add s (each styleSize l ++ z) i zeroFloat ∙ cell-back styleSize z zeroFloat l d i h)
 
 -- ---- extras

@@ -26,7 +26,8 @@ drop-replicate (suc k) zero d = rw (zero-sub (suc k))
 drop-replicate (suc k) (suc n) d = rw (suc-sub-suc n k) (drop-replicate k n d)
 
 -- a run stored after what stands in it
-pub filled-more : {A : Type 0} (d : A) (l v : List A) (n : ℕ) → length l + length v ≤ n → sets (l ++ replicate (n - length l) d) (length l) v ≡ l ++ v ++ replicate (n - length (l ++ v)) d
+pub filled-more : {A : Type 0} (d : A) (l v : List A) (n : ℕ) → length l + length v ≤ n
+    → sets (l ++ replicate (n - length l) d) (length l) v ≡ l ++ v ++ replicate (n - length (l ++ v)) d
 filled-more d l v n h =
     let r = replicate (n - length l) d in
     let e : n - length (l ++ v) ≡ n - length l - length v = rw length-append (omega arith) in
@@ -105,7 +106,8 @@ module _ {A : Type 0} (f : A → List ℕ) (w : ℕ) (wide : (x : A) → length 
       rw (append-assoc, e) (getD-append-add (f x) (joinedCells f l ++ z) (i * w + j) 0 ∙ holds-row z l i (omega arith) j m)
 
   -- row k + i of a table where a list of rows is stored from row k on
-  pub holds-laid : (t : List ℕ) (l : List A) (k i : ℕ) → i < length l → k * w + length l * w ≤ length t → Holds (sets t (k * w) (joinedCells f l)) ((k + i) * w) (f (getD l i d))
+  pub holds-laid : (t : List ℕ) (l : List A) (k i : ℕ) → i < length l → k * w + length l * w ≤ length t
+      → Holds (sets t (k * w) (joinedCells f l)) ((k + i) * w) (f (getD l i d))
   holds-laid t l k i h n =
       let v = joinedCells f l in
       let a : length v ≡ length l * w = joined-length f w wide l in
