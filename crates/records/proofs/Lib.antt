@@ -4,3 +4,4 @@ pub mod Storing
 pub mod RowLaws
 pub mod Back
 pub mod Beside
+pub mod Trees
