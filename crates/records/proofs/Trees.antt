@@ -1,19 +1,22 @@
 -- Segments laid in preorder are read back as the tree that they were. Assumes nothing.
-use Prim.Native.Nat.{ℕ, zero, suc, _+_, _-_, _*_, _≤_, _<_}
-use mathlib.Core.List.{List, [], _∷_, _++_}
-use mathlib.Core.Option.{Option, none, some}
+use Prim.Native.Nat.{ℕ, zero, suc, _+_, _-_, _<_}
+use mathlib.Core.List.{List, [], _∷_, _++_, append-assoc}
+use mathlib.Core.Option.{none, some}
 use mathlib.Core.Path.{_≡_, refl, sym, ap, _∙_}
 use native.Mathlib.Omega.{arith}
 use native.Mathlib.Nat.{add-zero, zero-add, suc-add}
 use lib.IntN.{ℤ, pos}
 use lib.Ieee.{Float}
-use lib.ListN.{length, getD, length-append}
+use lib.ListN.{length, getD, length-append, List·getD-append}
+use lib.Seq.{getD-append-add}
 use Rattle.track.specs.declared.strings.Span.{Span}
 use Rattle.track.specs.declared.segments.Segment.{Segment}
 use Rattle.track.specs.Track.{Wrapper, Segments}
 use Rattle.track.specs.Track as track
-use Rattle.track.specs.Tables.{cell, segmentAt, followedBy, siblingsAt, segmentsAt}
-use Rattle.track.specs.Layout.{Sized, segmentRows, preorder, wrapperOf}
+use Rattle.track.specs.Tables.{cell, segmentAt, followedBy, siblingsAt, segmentsAt, zeroFloat, sizeCell}
+use Rattle.track.specs.Layout.{Sized, segmentRows, preorder, wrapperOf, segmentCells, segmentTime, joinedCells, each, filled, filledTimes, filledSizes, PlacedCue, allSegments}
+use Rattle.records.proofs.Back.{cleanSegment, segments-back}
+use Rattle.records.proofs.Beside.{sizedSize, cell-back}
 
 -- segments whose children are nested at most d
 abbrev pub Nested : ℕ → Segments Span → Type 0
@@ -110,3 +113,82 @@ module _ (t : List ℕ) (m : List ℤ) (f : List Float) where
   pub tree-back : (d : ℕ) (x : Segments Span) (k : ℕ) → Nested d x → Laid k (preorder x) → segmentsAt t m f (suc d) (segmentRows x) k ≡ x
   unfolding segmentsAt
   tree-back d x k n h = siblings-back d x k n h
+
+-- ---- segments as they are laid out
+pub wrapper-clean : (w : Wrapper Span) → cleanSegment (wrapperOf w) ≡ wrapperOf w
+unfolding wrapperOf
+wrapper-clean track.bold = refl
+wrapper-clean track.italic = refl
+wrapper-clean track.underline = refl
+wrapper-clean track.strike = refl
+wrapper-clean (track.color y) = refl
+wrapper-clean (track.font none none) = refl
+wrapper-clean (track.font none (some s)) = refl
+wrapper-clean (track.font (some a) none) = refl
+wrapper-clean (track.font (some a) (some s)) = refl
+
+-- absent parts are zero
+abbrev pub Clean : List Sized → Type 0
+Clean [] = Unit {0}
+Clean (s ∷ l) = (cleanSegment (s .segment) ≡ s .segment) × Clean l
+
+clean-append : (a b : List Sized) → Clean a → Clean b → Clean (a ++ b)
+clean-append [] b h g = g
+clean-append (s ∷ a) b h g = (h .0, clean-append a b (h .1) g)
+
+clean-at : (l : List Sized) (j : ℕ) (d : Sized) → Clean l → j < length l → cleanSegment (getD l j d .segment) ≡ getD l j d .segment
+clean-at [] j d h n = absurd (omega arith)
+clean-at (s ∷ l) zero d h n = h .0
+clean-at (s ∷ l) (suc j) d h n = clean-at l j d (h .1) (omega arith)
+
+pub preorder-clean : (x : Segments Span) → Clean (preorder x)
+unfolding preorder
+preorder-clean track.done = tt
+preorder-clean (track.text s x) = (refl, preorder-clean x)
+preorder-clean (track.break x) = (refl, preorder-clean x)
+preorder-clean (track.timestamp k x) = (refl, preorder-clean x)
+preorder-clean (track.wrap w c x) = (wrapper-clean w, clean-append (preorder c) (preorder x) (preorder-clean c) (preorder-clean x))
+
+-- the tables of the segments g
+abbrev pub sizedCells : Sized → List ℕ
+sizedCells x = segmentCells (x .segment) (x .rows)
+
+abbrev pub sizedTime : Sized → ℤ
+sizedTime x = segmentTime (x .segment)
+
+laid-at : (t : List ℕ) (m : List ℤ) (f : List Float) (l : List Sized) (k : ℕ)
+    → ((j : ℕ) (d : Sized) → j < length l → (segmentAt t m f (k + j) ≡ getD l j d .segment) × (cell 8 t (k + j) 1 ≡ getD l j d .rows)) → Laid t m f k l
+laid-at t m f [] k h = tt
+laid-at t m f (s ∷ l) k h =
+    let a = h 0 s (omega arith) in
+    let next = laid-at t m f l (k + 1) (λ j d n. let e : k + 1 + j ≡ k + suc j = omega arith in rw e (h (suc j) d (omega arith))) in
+    (rw add-zero at (a .0), rw add-zero at (a .1), next)
+
+module _ (n a b : ℕ) (z : List Float) where
+  pub laid-part : (p l q : List Sized) → Clean l
+      → let g = p ++ (l ++ q) in Laid (filled n (joinedCells sizedCells g)) (filledTimes a (each sizedTime g)) (filledSizes b (each sizedSize g) ++ z) (length p) l
+  laid-part p l q c =
+      laid-at _ _ _ l (length p) (λ j d h.
+      let g = p ++ (l ++ q) in
+      let i = length p + j in
+      let e : getD g i d ≡ getD l j d = getD-append-add p (l ++ q) j d ∙ List·getD-append l q d j h in
+      let w : i < length g = simp length-append (omega arith) in
+      let r = cell-back sizedTime _ (pos 0) g d i w in
+      let s : sizeCell (filledSizes b (each sizedSize g) ++ z) i ≡ sizedSize (getD g i d) = rw append-assoc (cell-back sizedSize _ zeroFloat g d i w) in
+      let k = segments-back n i g d w (λ x. x .segment) (λ x. x .rows) (filledTimes a (each sizedTime g)) (filledSizes b (each sizedSize g) ++ z) r s in
+      (k .0 ∙ ap (λ (x : Sized). cleanSegment (x .segment)) e ∙ clean-at l j d c h, k .1 ∙ ap (λ (x : Sized). x .rows) e))
+
+pub segments-append : (u v : List PlacedCue) → allSegments (u ++ v) ≡ allSegments u ++ allSegments v
+unfolding allSegments
+segments-append [] v = refl
+segments-append (x ∷ u) v = rw (segments-append u v, append-assoc)
+
+-- the segments of the cue x, among those of all cues
+pub cue-tree-back : (n a b : ℕ) (z : List Float) (u : List PlacedCue) (x : PlacedCue) (v : List PlacedCue) (d : ℕ) → Nested d (x .segments)
+    → let g = allSegments (u ++ (x ∷ v)) in
+    segmentsAt (filled n (joinedCells sizedCells g)) (filledTimes a (each sizedTime g)) (filledSizes b (each sizedSize g) ++ z) (suc d) (segmentRows (x .segments)) (length (allSegments u))
+    ≡ x .segments
+unfolding allSegments
+cue-tree-back n a b z u x v d h =
+    rw (segments-append u (x ∷ v))
+    (tree-back _ _ _ d (x .segments) (length (allSegments u)) h (laid-part n a b z (allSegments u) (preorder (x .segments)) (allSegments v) (preorder-clean (x .segments))))
