@@ -5,3 +5,4 @@ pub mod RowLaws
 pub mod Back
 pub mod Beside
 pub mod Trees
+pub mod Lots
