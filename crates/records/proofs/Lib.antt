@@ -1,2 +1,8 @@
 -- What the proofs of several functions use.
-pub mod Colors
+pub mod Parts
+pub mod Storing
+pub mod RowLaws
+pub mod Back
+pub mod Beside
+pub mod Trees
+pub mod Lots
