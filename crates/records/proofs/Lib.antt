@@ -1,3 +1,8 @@
 -- What the proofs of several functions use.
 pub mod Parts
 pub mod Storing
+pub mod Zeros
+pub mod Overwrites
+pub mod Moves
+pub mod Segmented
+pub mod Finding
