@@ -6,3 +6,4 @@ pub mod Overwrites
 pub mod Moves
 pub mod Segmented
 pub mod Finding
+pub mod SegmentRows
