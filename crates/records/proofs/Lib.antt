@@ -6,4 +6,5 @@ pub mod Overwrites
 pub mod Moves
 pub mod Segmented
 pub mod Finding
+pub mod FoundRows
 pub mod SegmentRows
