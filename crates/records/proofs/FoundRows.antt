@@ -6,16 +6,18 @@ use mathlib.Core.List.{List}
 use mathlib.Core.Option.{none, some}
 use native.Mathlib.Omega.{arith}
 use native.Mathlib.Nat.{add-zero}
-use lib.ListN.{getD}
+use lib.ListN.{length, getD}
 use lib.Dec.{eqb}
-use borrow.Author.Tests.{eqb-true, eqb-false, ne-eqb}
+use lib.Ieee.{Float}
+use borrow.Author.Tests.{eqb-true, eqb-false, ne-eqb, leb-true}
 use Rattle.scan.specs.Names.{sameBytes}
 use Rattle.track.specs.Tables.{Tables, cell, rowsFrom, styleAt, regionAt}
 use Rattle.track.specs.Layout.{isSome}
-use Rattle.track.specs.Meaning.{styleIn, regionIn}
+use Rattle.track.specs.Meaning.{isSpan, styleStrings, isStyle, isRegion, styleIn, regionIn}
 use Rattle.unicode.proofs.Utf8Laws.{by-test}
+use Rattle.decimals.proofs.Tests.{both}
 use Rattle.records.specs.declared.find.Found.{Found}
-use Rattle.records.specs.Find.{isNamed, firstRow, firstWith, firstThat, isEmpty, chainFrom, extrasFrom, findStyle, findChain, findExtras, findRegion, foundIn}
+use Rattle.records.specs.Find.{isNamed, firstRow, firstWith, firstThat, isEmpty, chainFrom, extrasFrom, findStyle, findChain, findExtras, findRegion, foundIn, Named}
 use Rattle.records.proofs.Finding.{firstOf, named, namedWith, firstRow-of, firstWith-of}
 
 -- rows that pass a test as their values pass another
@@ -110,3 +112,18 @@ module _ (T : Tables) (name : List ℕ) (n : ℕ) where
   pub region-found : findRegion name (rowsFrom (regionIn T) n 0) ≡ foundIn (regionIn T) (firstRow (T .regions) (T .strings) name 4 n 0)
   unfolding findRegion
   region-found = rw (firstRow-of (T .regions) (T .strings) name 4 n 0) (first-that (regionIn T) _ _ (region-named T name) n 0)
+
+-- ---- the rows of a checked track can be searched; z are the bytes that are used of a table of strings
+span-within : (z y : List ℕ) (p n : ℕ) → isSpan z p n ≡ true → length z ≤ length y → p + n ≤ length y
+unfolding isSpan
+span-within z y p n h l = let e : p + n ≤ length z = leb-true (p + n) (length z) (both _ _ (both _ _ h .0) .0) in omega arith
+
+pub styles-named : (t : List ℕ) (f : List Float) (e z y : List ℕ) (n : ℕ) → ((i : ℕ) → i < n → isStyle t f e z i ≡ true) → n * 27 ≤ length t → length z ≤ length y → Named t y 27 n
+unfolding isStyle styleStrings
+styles-named t f e z y n h r l =
+    record { two = omega arith; rows = r; within = λ i k. span-within z y _ _ (both _ _ (both _ _ (both _ _ (both _ _ (both _ _ (h i k) .0) .0) .0) .0) .0) l }
+
+pub regions-named : (t e z y : List ℕ) (n : ℕ) → ((i : ℕ) → i < n → isRegion t e z i ≡ true) → n * 4 ≤ length t → length z ≤ length y → Named t y 4 n
+unfolding isRegion cell
+regions-named t e z y n h r l =
+    record { two = omega arith; rows = r; within = λ i k. rw add-zero at (span-within z y _ _ (both _ _ (h i k) .0) l) }

@@ -1,10 +1,10 @@
 -- Rows of segments in their three tables: a wrapper is put before rows that stand already, and a segment after them. Assumes nothing.
-use Prim.Native.Nat.{ℕ, _+_, _-_, _*_, _≤_}
+use Prim.Native.Nat.{ℕ, suc, _+_, _-_, _*_, _≤_}
 use mathlib.Core.Path.{_≡_, refl, sym, ap, _∙_}
 use mathlib.Core.List.{List, [], _∷_, _++_, append-nil, append-assoc}
 use native.Mathlib.Omega.{arith}
-use native.Mathlib.Nat.{add-comm, suc-mul, add-mul, one-mul, mul-one}
-use lib.ListN.{length, take, drop, length-append, length-drop, take-append-drop}
+use native.Mathlib.Nat.{add-zero, add-suc, suc-add, add-comm, suc-mul, add-mul, one-mul, mul-one}
+use lib.ListN.{length, set, take, drop, length-append, length-drop, take-append-drop}
 use lib.Seq.{sets, sets-eq, length-take-le, take-append-seam, take-at, drop-at, drop-drop, drop-append-add}
 use lib.IntN.{ℤ}
 use Rattle.track.specs.declared.strings.Span.{Span}
@@ -13,7 +13,7 @@ use Rattle.track.specs.Track.{Wrapper, Segments}
 use Rattle.track.specs.Track as track
 use Rattle.track.specs.Layout.{Sized, wrapperOf, segmentRows, preorder, joinedCells, each, segmentCells}
 use Rattle.scan.specs.Part.{part}
-use Rattle.records.specs.Siblings.{joined, rowCells, cellsOf}
+use Rattle.records.specs.Siblings.{joined, wrapped, wrapperRows, rowCells, cellsOf}
 use Rattle.records.proofs.Overwrites.{font-wide}
 
 -- ---- lists of cells, of any type
@@ -23,6 +23,11 @@ module _ {A : Type 0} where
   sets-at p a b r i h e =
       let last : drop (i + length b) (p ++ (a ++ r)) ≡ r = rw (← (append-assoc p a r)) (drop-at (p ++ a) r (i + length b) (rw length-append (omega arith))) in
       sets-eq b (p ++ (a ++ r)) i (simp length-append (omega arith)) ∙ rw (take-at p (a ++ r) i h, last, append-assoc)
+
+  -- what is stored after a run
+  pub sets-after : (a b t : List A) (i : ℕ) → sets (sets t i a) (i + length a) b ≡ sets t i (a ++ b)
+  sets-after [] b t i = rw (add-zero i)
+  sets-after (x ∷ a) b t i = rw (add-suc i (length a), ← (suc-add i (length a))) (sets-after a b (set t i x) (suc i))
 
   -- the body is moved by as many cells as the head has, and the head put before it
   pub put-before : (pre body head rest t t′ t″ : List A) (at by : ℕ) → t ≡ pre ++ (body ++ rest) → length pre ≡ at → length head ≡ by → by ≤ length rest
@@ -94,6 +99,21 @@ joined-assoc (track.break x) g h = rw (joined-assoc x g h)
 joined-assoc (track.timestamp t x) g h = rw (joined-assoc x g h)
 joined-assoc (track.wrap w c x) g h = rw (joined-assoc x g h)
 
+pub rows-wrapped : (l : List (Wrapper Span)) (f : Segments Span) → segmentRows (wrapped l f) ≡ length l + segmentRows f
+unfolding wrapped segmentRows
+rows-wrapped [] f = omega arith
+rows-wrapped (x ∷ l) f = let i = rows-wrapped l f in omega arith
+
+pub preorder-wrapped : (l : List (Wrapper Span)) (f : Segments Span) → preorder (wrapped l f) ≡ wrapperRows l (segmentRows f) ++ preorder f
+unfolding wrapped wrapperRows preorder
+preorder-wrapped [] f = refl
+preorder-wrapped (x ∷ l) f = rw (rows-wrapped l f, append-nil (preorder (wrapped l f)), preorder-wrapped l f)
+
+wrappers-length : (l : List (Wrapper Span)) (n : ℕ) → length (wrapperRows l n) ≡ length l
+unfolding wrapperRows
+wrappers-length [] n = refl
+wrappers-length (x ∷ l) n = rw (wrappers-length l n)
+
 -- ---- their rows in a table of cells of any type, w cells to a row
 unfoldable pub laid : {A : Type 0} → (Sized → List A) → List Sized → List A
 laid g [] = []
@@ -109,13 +129,9 @@ module _ {A : Type 0} (g : Sized → List A) where
   laid-append [] b = refl
   laid-append (x ∷ a) b = rw (laid-append a b, append-assoc)
 
-  pub laid-wrap : (x : Wrapper Span) (f : Segments Span) → laid g (preorder (track.wrap x f track.done)) ≡ g (wrapperRow x f) ++ laid g (preorder f)
-  unfolding laid preorder
-  laid-wrap x f = rw (append-nil (preorder f))
-
-  laid-one : (l : List A) (x : Sized) → l ++ laid g (x ∷ []) ≡ l ++ g x
+  laid-one : (x : Sized) → laid g (x ∷ []) ≡ g x
   unfolding laid
-  laid-one l x = rw (append-nil (g x))
+  laid-one x = append-nil (g x)
 
   module _ (w : ℕ) (wide : (x : Sized) → length (g x) ≡ w) where
     laid-length : (l : List Sized) → length (laid g l) ≡ length l * w
@@ -129,16 +145,35 @@ module _ {A : Type 0} (g : Sized → List A) where
     rows-length : (f : Segments Span) → length (laid g (preorder f)) ≡ segmentRows f * w
     rows-length f = rw (← (preorder-length f)) (laid-length (preorder f))
 
-    -- rows shifted by one, and a wrapper put before them
+    -- rows shifted by as many as there are in r, and those put before them
+    pub before-rows : (pre rest t t′ t″ : List A) (r : List Sized) (f h : Segments Span) (at end : ℕ) → preorder h ≡ r ++ preorder f
+        → t ≡ pre ++ (laid g (preorder f) ++ rest) → length pre ≡ at * w → end ≡ at + segmentRows f → length r * w ≤ length rest
+        → t′ ≡ sets t ((at + length r) * w) (take (end * w - at * w) (drop (at * w) t)) → t″ ≡ sets t′ (at * w) (laid g r)
+        → t″ ≡ pre ++ (laid g (preorder h) ++ drop (length r * w) rest)
+    before-rows pre rest t t′ t″ r f h at end o e p n k e′ e″ =
+        let wide-all = rows-length f in
+        let next : (at + length r) * w ≡ at * w + length r * w = add-mul at (length r) w in
+        let all : end * w ≡ at * w + segmentRows f * w = rw (n, add-mul at (segmentRows f) w) in
+        let many : end * w - at * w ≡ length (laid g (preorder f)) = omega arith in
+        rw (o, laid-append r (preorder f), append-assoc)
+        (put-before pre (laid g (preorder f)) (laid g r) rest t t′ t″ (at * w) (length r * w) e p (laid-length r) k (rw (next, many) at e′) e″)
+
+    -- one wrapper
     pub wrap-rows : (pre rest t t′ t″ : List A) (x : Wrapper Span) (f : Segments Span) (at end : ℕ) → t ≡ pre ++ (laid g (preorder f) ++ rest) → length pre ≡ at * w
         → end ≡ at + segmentRows f → w ≤ length rest → t′ ≡ sets t ((at + 1) * w) (take (end * w - at * w) (drop (at * w) t))
         → t″ ≡ sets t′ (at * w) (g (wrapperRow x f)) → t″ ≡ pre ++ (laid g (preorder (track.wrap x f track.done)) ++ drop w rest)
+    unfolding preorder
     wrap-rows pre rest t t′ t″ x f at end e p n k e′ e″ =
-        let wide-all = rows-length f in
-        let next : (at + 1) * w ≡ at * w + w = rw (add-mul at 1 w, one-mul w) in
-        let all : end * w ≡ at * w + segmentRows f * w = rw (n, add-mul at (segmentRows f) w) in
-        let many : end * w - at * w ≡ length (laid g (preorder f)) = omega arith in
-        rw (laid-wrap x f, append-assoc) (put-before pre (laid g (preorder f)) (g (wrapperRow x f)) rest t t′ t″ (at * w) w e p (wide (wrapperRow x f)) k (rw (next, many) at e′) e″)
+        let o : preorder (track.wrap x f track.done) ≡ (wrapperRow x f ∷ []) ++ preorder f = rw (append-nil (preorder f)) in
+        rw (one-mul w) at (before-rows pre rest t t′ t″ (wrapperRow x f ∷ []) f (track.wrap x f track.done) at end o e p n (rw (one-mul w) k) e′ (rw (laid-one (wrapperRow x f)) e″))
+
+    -- several, the first outermost
+    pub wrap-all : (pre rest t t′ t″ : List A) (l : List (Wrapper Span)) (f : Segments Span) (at end : ℕ) → t ≡ pre ++ (laid g (preorder f) ++ rest) → length pre ≡ at * w
+        → end ≡ at + segmentRows f → length l * w ≤ length rest → t′ ≡ sets t ((at + length l) * w) (take (end * w - at * w) (drop (at * w) t))
+        → t″ ≡ sets t′ (at * w) (laid g (wrapperRows l (segmentRows f))) → t″ ≡ pre ++ (laid g (preorder (wrapped l f)) ++ drop (length l * w) rest)
+    wrap-all pre rest t t′ t″ l f at end e p n k e′ e″ =
+        let many : length (wrapperRows l (segmentRows f)) ≡ length l = wrappers-length l (segmentRows f) in
+        rw many at (before-rows pre rest t t′ t″ (wrapperRows l (segmentRows f)) f (wrapped l f) at end (preorder-wrapped l f) e p n (rw many k) (rw many e′) e″)
 
     -- a row put after them
     pub add-row : (pre rest t t′ : List A) (f h : Segments Span) (x : Sized) (at n : ℕ) → preorder h ≡ x ∷ [] → t ≡ pre ++ (laid g (preorder f) ++ rest)
@@ -147,7 +182,7 @@ module _ {A : Type 0} (g : Sized → List A) where
     add-row pre rest t t′ f h x at n o e p m k e′ =
         let wide-all = rows-length f in
         let all : n * w ≡ at * w + segmentRows f * w = rw (m, add-mul at (segmentRows f) w) in
-        let rows : laid g (preorder (joined f h)) ≡ laid g (preorder f) ++ g x = rw (preorder-joined f h, laid-append (preorder f) (preorder h), o) (laid-one (laid g (preorder f)) x) in
+        let rows : laid g (preorder (joined f h)) ≡ laid g (preorder f) ++ g x = rw (preorder-joined f h, laid-append (preorder f) (preorder h), o, laid-one x) in
         rw rows (put-after pre (laid g (preorder f)) (g x) rest t t′ (n * w) w e (omega arith) (wide x) k e′)
 
 -- ---- in the three tables
@@ -169,18 +204,26 @@ laid-cells [] = refl
 laid-cells (x ∷ l) = rw (laid-cells l)
 
 module _ (pre rest t t′ : List ℕ) (f : Segments Span) (at n : ℕ) (e : t ≡ pre ++ (cellsOf (preorder f) ++ rest)) (p : length pre ≡ at * 8)
-    (m : n ≡ at + segmentRows f) (k : 8 ≤ length rest) where
+    (m : n ≡ at + segmentRows f) where
   -- `shift_segments` by one and `put_segment` of a wrapper
-  pub wrap-cells : (t″ : List ℕ) (x : Wrapper Span) → t′ ≡ sets t ((at + 1) * 8) (part (at * 8) (n * 8) t) → t″ ≡ sets t′ (at * 8) (rowCells (wrapperRow x f))
+  pub wrap-cells : (t″ : List ℕ) (x : Wrapper Span) → 8 ≤ length rest → t′ ≡ sets t ((at + 1) * 8) (part (at * 8) (n * 8) t) → t″ ≡ sets t′ (at * 8) (rowCells (wrapperRow x f))
       → t″ ≡ pre ++ (cellsOf (preorder (track.wrap x f track.done)) ++ drop 8 rest)
-  wrap-cells t″ x e′ e″ =
+  wrap-cells t″ x k e′ e″ =
       rw (← (laid-cells (preorder (track.wrap x f track.done))))
       (wrap-rows rowCells 8 (λ y. segment-wide (y .segment) (y .rows)) pre rest t t′ t″ x f at n (rw (laid-cells (preorder f)) e) p m k e′ e″)
 
+  -- the same by as many as there are wrappers
+  pub wrap-all-cells : (t″ : List ℕ) (l : List (Wrapper Span)) → length l * 8 ≤ length rest → t′ ≡ sets t ((at + length l) * 8) (part (at * 8) (n * 8) t)
+      → t″ ≡ sets t′ (at * 8) (cellsOf (wrapperRows l (segmentRows f))) → t″ ≡ pre ++ (cellsOf (preorder (wrapped l f)) ++ drop (length l * 8) rest)
+  wrap-all-cells t″ l k e′ e″ =
+      rw (← (laid-cells (preorder (wrapped l f))))
+      (wrap-all rowCells 8 (λ y. segment-wide (y .segment) (y .rows)) pre rest t t′ t″ l f at n (rw (laid-cells (preorder f)) e) p m k e′
+      (rw (laid-cells (wrapperRows l (segmentRows f))) e″))
+
   -- `add_segment` of one that has one row
-  pub add-cells : (h : Segments Span) (x : Sized) → preorder h ≡ x ∷ [] → t′ ≡ sets t (n * 8) (rowCells x)
+  pub add-cells : (h : Segments Span) (x : Sized) → preorder h ≡ x ∷ [] → 8 ≤ length rest → t′ ≡ sets t (n * 8) (rowCells x)
       → t′ ≡ pre ++ (cellsOf (preorder (joined f h)) ++ drop 8 rest)
-  add-cells h x o e′ =
+  add-cells h x o k e′ =
       rw (← (laid-cells (preorder (joined f h))))
       (add-row rowCells 8 (λ y. segment-wide (y .segment) (y .rows)) pre rest t t′ f h x at n o (rw (laid-cells (preorder f)) e) p m k e′)
 
@@ -200,15 +243,22 @@ each-joined v f g =
     (laid-append (λ (x : Sized). v x ∷ []) (preorder f) (preorder g))
 
 module _ {A : Type 0} (v : Sized → A) (pre rest t t′ : List A) (f : Segments Span) (at n : ℕ) (e : t ≡ pre ++ (each v (preorder f) ++ rest)) (p : length pre ≡ at)
-    (m : n ≡ at + segmentRows f) (k : 1 ≤ length rest) where
-  pub wrap-each : (t″ : List A) (x : Wrapper Span) → t′ ≡ sets t (at + 1) (take (n - at) (drop at t)) → t″ ≡ sets t′ at (v (wrapperRow x f) ∷ [])
+    (m : n ≡ at + segmentRows f) where
+  pub wrap-each : (t″ : List A) (x : Wrapper Span) → 1 ≤ length rest → t′ ≡ sets t (at + 1) (take (n - at) (drop at t)) → t″ ≡ sets t′ at (v (wrapperRow x f) ∷ [])
       → t″ ≡ pre ++ (each v (preorder (track.wrap x f track.done)) ++ drop 1 rest)
-  wrap-each t″ x e′ e″ =
+  wrap-each t″ x k e′ e″ =
       rw (← (laid-each v (preorder (track.wrap x f track.done))))
       (wrap-rows (λ (y : Sized). v y ∷ []) 1 (λ y. refl) pre rest t t′ t″ x f at n (rw (laid-each v (preorder f)) e) (rw mul-one p) m k (simp mul-one e′) (rw mul-one e″))
 
-  pub add-each : (h : Segments Span) (x : Sized) → preorder h ≡ x ∷ [] → t′ ≡ sets t n (v x ∷ []) → t′ ≡ pre ++ (each v (preorder (joined f h)) ++ drop 1 rest)
-  add-each h x o e′ =
+  pub wrap-all-each : (t″ : List A) (l : List (Wrapper Span)) → length l ≤ length rest → t′ ≡ sets t (at + length l) (take (n - at) (drop at t))
+      → t″ ≡ sets t′ at (each v (wrapperRows l (segmentRows f))) → t″ ≡ pre ++ (each v (preorder (wrapped l f)) ++ drop (length l) rest)
+  wrap-all-each t″ l k e′ e″ =
+      rw (← (laid-each v (preorder (wrapped l f))))
+      (rw (mul-one (length l)) at (wrap-all (λ (y : Sized). v y ∷ []) 1 (λ y. refl) pre rest t t′ t″ l f at n (rw (laid-each v (preorder f)) e) (rw mul-one p) m
+      (rw mul-one k) (simp mul-one e′) (rw (mul-one at, laid-each v (wrapperRows l (segmentRows f))) e″)))
+
+  pub add-each : (h : Segments Span) (x : Sized) → preorder h ≡ x ∷ [] → 1 ≤ length rest → t′ ≡ sets t n (v x ∷ []) → t′ ≡ pre ++ (each v (preorder (joined f h)) ++ drop 1 rest)
+  add-each h x o k e′ =
       rw (← (laid-each v (preorder (joined f h))))
       (add-row (λ (y : Sized). v y ∷ []) 1 (λ y. refl) pre rest t t′ f h x at n o (rw (laid-each v (preorder f)) e) (rw mul-one p) m k (rw mul-one e′))
 
