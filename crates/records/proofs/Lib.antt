@@ -8,3 +8,6 @@ pub mod Segmented
 pub mod Finding
 pub mod FoundRows
 pub mod SegmentRows
+pub mod RowLaws
+pub mod Back
+pub mod Beside

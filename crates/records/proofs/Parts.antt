@@ -15,7 +15,8 @@ use mir.Val.{hbits, toZ, ofZ}
 use Rattle.decimals.proofs.Tests.{both}
 use Rattle.track.specs.Meaning.{isColor, areThree, isByte}
 
-pub color-bytes : (t : List ℕ) (i : ℕ) → isColor t i ≡ true → getD t i 0 ≡ 1 → (getD t (i + 1) 0 < 256) × (getD t (i + 2) 0 < 256) × (getD t (i + 3) 0 < 256) × (getD t (i + 4) 0 < 256)
+pub color-bytes : (t : List ℕ) (i : ℕ) → isColor t i ≡ true → getD t i 0 ≡ 1
+    → (getD t (i + 1) 0 < 256) × (getD t (i + 2) 0 < 256) × (getD t (i + 3) 0 < 256) × (getD t (i + 4) 0 < 256)
 unfolding isColor areThree isByte
 color-bytes t i h e =
     let two : i + 1 + 1 ≡ i + 2 = omega arith in

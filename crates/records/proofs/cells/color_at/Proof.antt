@@ -24,7 +24,10 @@ shared-slice-read-t10 : tie.Need-shared-slice-read-t10
 shared-slice-read-t10 c = search needs
 
 cast-t11 : tie.Need-cast-t11
-cast-t11 c = omega (arith, (color-bytes (c .before .before .before .args .cells .now) (c .before .before .before .args .at) (c .before .before .before .pre .1) (c .before .if1 .taken)) .0)
+cast-t11 c =
+    let c1 = c .before in
+    let c3 = c1 .before .before in
+    omega (arith, (color-bytes (c3 .args .cells .now) (c3 .args .at) (c3 .pre .1) (c1 .if1 .taken)) .0)
 
 add-t12 : tie.Need-add-t12
 add-t12 c = search needs
@@ -36,7 +39,10 @@ shared-slice-read-t15 : tie.Need-shared-slice-read-t15
 shared-slice-read-t15 c = search needs
 
 cast-t16 : tie.Need-cast-t16
-cast-t16 c = omega (arith, (color-bytes (c .before .before .before .before .args .cells .now) (c .before .before .before .before .args .at) (c .before .before .before .before .pre .1) (c .before .before .if1 .taken)) .1)
+cast-t16 c =
+    let c2 = c .before .before in
+    let c4 = c2 .before .before in
+    omega (arith, (color-bytes (c4 .args .cells .now) (c4 .args .at) (c4 .pre .1) (c2 .if1 .taken)) .1)
 
 add-t17 : tie.Need-add-t17
 add-t17 c = search needs
@@ -48,7 +54,10 @@ shared-slice-read-t20 : tie.Need-shared-slice-read-t20
 shared-slice-read-t20 c = search needs
 
 cast-t21 : tie.Need-cast-t21
-cast-t21 c = omega (arith, (color-bytes (c .before .before .before .before .before .args .cells .now) (c .before .before .before .before .before .args .at) (c .before .before .before .before .before .pre .1) (c .before .before .before .if1 .taken)) .2)
+cast-t21 c =
+    let c3 = c .before .before .before in
+    let c5 = c3 .before .before in
+    omega (arith, (color-bytes (c5 .args .cells .now) (c5 .args .at) (c5 .pre .1) (c3 .if1 .taken)) .2)
 
 add-t22 : tie.Need-add-t22
 add-t22 c = search needs
@@ -60,11 +69,17 @@ shared-slice-read-t25 : tie.Need-shared-slice-read-t25
 shared-slice-read-t25 c = search needs
 
 cast-t26 : tie.Need-cast-t26
-cast-t26 c = omega (arith, (color-bytes (c .before .before .before .before .before .before .args .cells .now) (c .before .before .before .before .before .before .args .at) (c .before .before .before .before .before .before .pre .1) (c .before .before .before .before .if1 .taken)) .3)
+cast-t26 c =
+    let c4 = c .before .before .before .before in
+    let c6 = c4 .before .before in
+    omega (arith, (color-bytes (c6 .args .cells .now) (c6 .args .at) (c6 .pre .1) (c4 .if1 .taken)) .3)
 
 returns : tie.Need-returns
 unfolding colorAt
-returns c = rw (eq-eqb (getD (c .before .before .before .before .before .before .args .cells .now) (c .before .before .before .before .before .before .args .at) 0) 1 (c .before .before .before .before .if1 .taken))
+returns c =
+    let c4 = c .before .before .before .before in
+    let c6 = c4 .before .before in
+    rw (eq-eqb (getD (c6 .args .cells .now) (c6 .args .at) 0) 1 (c4 .if1 .taken))
 
 returns-2 : tie.Need-returns-2
 unfolding colorAt

@@ -23,7 +23,10 @@ span-at-requires c κs = search needs
 
 returns : tie.Need-returns
 unfolding optional
-returns c = c .span-at .ensures ∙ (let two : c .before .before .before .before .args .at + 1 + 1 ≡ c .before .before .before .before .args .at + 2 = omega arith in rw (two, eq-eqb (getD (c .before .before .before .before .args .cells .now) (c .before .before .before .before .args .at) 0) 1 (c .before .if1 .taken)))
+returns c =
+    let s = c .before .before .before .before .args in
+    let two : s .at + 1 + 1 ≡ s .at + 2 = omega arith in
+    c .span-at .ensures ∙ rw (two, eq-eqb (getD (s .cells .now) (s .at) 0) 1 (c .before .if1 .taken))
 
 returns-2 : tie.Need-returns-2
 unfolding optional

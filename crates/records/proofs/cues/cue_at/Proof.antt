@@ -81,8 +81,16 @@ rows-at-requires-2 c κs = search needs
 returns : tie.Need-returns
 unfolding cell cueAt
 returns c =
-    let s = c .before .before .before .before .before .before .before .before .before .before .args in
-    rw (same-time (getD (s .times .now) (s .i * 2) (pos 0)) (c .before .before .before .before .before .before .before .before .t8 .given), same-time (getD (s .times .now) (s .i * 2 + 1) (pos 0)) (c .before .before .before .before .before .before .before .t13 .given), c .before .before .before .before .before .optional-at .ensures, c .before .before .before .optional-at2 .ensures, c .before .rows-at .ensures, c .rows-at2 .ensures)
+    let c1 = c .before in
+    let c3 = c1 .before .before in
+    let c5 = c3 .before .before in
+    let c7 = c5 .before .before in
+    let c8 = c7 .before in
+    let c10 = c8 .before .before in
+    let s = c10 .args in
+    let from = same-time (getD (s .times .now) (s .i * 2) (pos 0)) (c8 .t8 .given) in
+    let to = same-time (getD (s .times .now) (s .i * 2 + 1) (pos 0)) (c7 .t13 .given) in
+    rw (from, to, c5 .optional-at .ensures, c3 .optional-at2 .ensures, c1 .rows-at .ensures, c .rows-at2 .ensures)
     (simp (add-assoc, add-zero))
 
 pub cue-at-spec : {M : Type 1} → statement M

@@ -34,27 +34,39 @@ add-put-rows : tie.Need-add-put-rows
 add-put-rows c = search needs
 
 put-rows-requires : tie.Need-put-rows-requires
-put-rows-requires c κs = (simp length-set (omega arith), c .before .before .before .before .before .before .before .before .before .before .before .before .before .before .before .pre .3)
+put-rows-requires c κs =
+    let c15 = c .before .before .before .before .before .before .before .before .before .before .before .before .before .before .before in
+    (simp length-set (omega arith), c15 .pre .3)
 
 add-put-rows-2 : tie.Need-add-put-rows-2
 add-put-rows-2 c = search needs
 
 put-rows-requires-2 : tie.Need-put-rows-requires-2
 put-rows-requires-2 c κs =
-    let e : length (c .before .before .before .put-rows .last .0) ≡ length (c .before .before .before .before .before .before .before .before .put-optional2 .last .0) = ap length (c .before .before .before .put-rows .ensures) ∙ simp (length-sets, length-set) in
-    let f : length (c .before .before .before .before .before .before .before .before .put-optional2 .last .0) ≡ length (c .before .before .before .before .before .before .before .before .before .before .before .before .put-optional .last .0) = ap length (c .before .before .before .before .before .before .before .before .put-optional2 .ensures) ∙ simp length-sets in
-    let g : length (c .before .before .before .before .before .before .before .before .before .before .before .before .put-optional .last .0) ≡ length (c .before .before .before .before .before .before .before .before .before .before .before .before .before .before .before .before .before .before .before .args .cues .now) = ap length (c .before .before .before .before .before .before .before .before .before .before .before .before .put-optional .ensures) ∙ simp length-sets in
-    (omega (arith, e, f, g, c .before .before .before .before .before .before .before .before .before .before .before .before .before .before .before .before .before .before .before .pre .0), c .before .before .before .before .before .before .before .before .before .before .before .before .before .before .before .before .before .before .before .pre .4)
+    let c3 = c .before .before .before in
+    let c8 = c3 .before .before .before .before .before in
+    let c12 = c8 .before .before .before .before in
+    let c19 = c12 .before .before .before .before .before .before .before in
+    let e : length (c3 .put-rows .last .0) ≡ length (c8 .put-optional2 .last .0) = ap length (c3 .put-rows .ensures) ∙ simp (length-sets, length-set) in
+    let f : length (c8 .put-optional2 .last .0) ≡ length (c12 .put-optional .last .0) = ap length (c8 .put-optional2 .ensures) ∙ simp length-sets in
+    let g : length (c12 .put-optional .last .0) ≡ length (c19 .args .cues .now) = ap length (c12 .put-optional .ensures) ∙ simp length-sets in
+    (omega (arith, e, f, g, c19 .pre .0), c19 .pre .4)
 
 returns : tie.Need-returns
 unfolding cueCells
 returns c =
-    let s = c .before .before .before .before .before .before .before .before .before .before .before .before .before .before .before .before .before .before .before .before .before .before in
-    let x = s .args .x in
-    let a = first (s .args .cues .now) (s .args .at) (optionalCells (x .«has_style») (x .style)) (c .before .before .before .before .before .before .before .before .before .before .before .before .before .before .before .put-optional .ensures) (optional-wide (x .«has_style») (x .style)) in
-    let b = then a (optionalCells (x .«has_region») (x .region)) (c .before .before .before .before .before .before .before .before .before .before .before .put-optional2 .ensures) (optional-wide (x .«has_region») (x .region)) in
-    let d = then (then-cell b (c .before .before .before .before .before .before .before .before .flag-cell .ensures)) (rowsCells (x .segments)) (c .before .before .before .before .before .before .put-rows .ensures) refl in
-    rw append-snoc at ((then d (rowsCells (x .extras)) (c .before .before .put-rows2 .ensures) refl) .is)
+    let c2 = c .before .before in
+    let c6 = c2 .before .before .before .before in
+    let c8 = c6 .before .before in
+    let c11 = c8 .before .before .before in
+    let c15 = c11 .before .before .before .before in
+    let c22 = c15 .before .before .before .before .before .before .before in
+    let s = c22 .args in
+    let x = s .x in
+    let a = first (s .cues .now) (s .at) (optionalCells (x .«has_style») (x .style)) (c15 .put-optional .ensures) (optional-wide (x .«has_style») (x .style)) in
+    let b = then a (optionalCells (x .«has_region») (x .region)) (c11 .put-optional2 .ensures) (optional-wide (x .«has_region») (x .region)) in
+    let d = then (then-cell b (c8 .flag-cell .ensures)) (rowsCells (x .segments)) (c6 .put-rows .ensures) refl in
+    rw append-snoc at ((then d (rowsCells (x .extras)) (c2 .put-rows2 .ensures) refl) .is)
 
 same-length : tie.Need-same-length
 same-length c = ap length (returns c) ∙ simp length-sets

@@ -34,7 +34,13 @@ same-length c = search needs
 
 returns-2 : tie.Need-returns-2
 unfolding paramCells
-returns-2 c = (omega arith, refl, (then (first (c .before .before .before .before .before .before .before .before .before .before .before .before .args .params .now) (c .before .before .before .before .before .before .before .before .before .before .before .before .args .n * 4) (spanCells (c .before .before .before .before .before .before .before .before .before .before .before .before .args .x .name)) (c .before .before .before .before .before .before .put-span .ensures) refl) (spanCells (c .before .before .before .before .before .before .before .before .before .before .before .before .args .x .value)) (c .before .before .put-span2 .ensures) refl) .is)
+returns-2 c =
+    let c2 = c .before .before in
+    let c6 = c2 .before .before .before .before in
+    let c12 = c6 .before .before .before .before .before .before in
+    let s = c12 .args in
+    let a = first (s .params .now) (s .n * 4) (spanCells (s .x .name)) (c6 .put-span .ensures) refl in
+    (omega arith, refl, (then a (spanCells (s .x .value)) (c2 .put-span2 .ensures) refl) .is)
 
 pub add-param-spec : {M : Type 1} → statement M
 add-param-spec =

@@ -34,7 +34,11 @@ same-length c = ap length (c .before .before .put-span .ensures) ∙ simp (lengt
 
 returns : tie.Need-returns
 unfolding extraCells
-returns c = (then (first (c .before .before .before .before .before .before .before .args .extras .now) (c .before .before .before .before .before .before .before .args .i * 3) (c .before .before .before .before .before .before .before .args .x .number ∷ []) refl refl) (spanCells (c .before .before .before .before .before .before .before .args .x .value)) (c .before .before .put-span .ensures) refl) .is
+returns c =
+    let c2 = c .before .before in
+    let c7 = c2 .before .before .before .before .before in
+    let s = c7 .args in
+    (then (first (s .extras .now) (s .i * 3) (s .x .number ∷ []) refl refl) (spanCells (s .x .value)) (c2 .put-span .ensures) refl) .is
 
 pub put-extra-spec : {M : Type 1} → statement M
 put-extra-spec =

@@ -34,7 +34,13 @@ same-length c = search needs
 
 returns-2 : tie.Need-returns-2
 unfolding regionCells
-returns-2 c = (omega arith, refl, (then (first (c .before .before .before .before .before .before .before .before .before .before .before .before .args .regions .now) (c .before .before .before .before .before .before .before .before .before .before .before .before .args .n * 4) (spanCells (c .before .before .before .before .before .before .before .before .before .before .before .before .args .x .id)) (c .before .before .before .before .before .before .put-span .ensures) refl) (rowsCells (c .before .before .before .before .before .before .before .before .before .before .before .before .args .x .extras)) (c .before .before .put-rows .ensures) refl) .is)
+returns-2 c =
+    let c2 = c .before .before in
+    let c6 = c2 .before .before .before .before in
+    let c12 = c6 .before .before .before .before .before .before in
+    let s = c12 .args in
+    let a = first (s .regions .now) (s .n * 4) (spanCells (s .x .id)) (c6 .put-span .ensures) refl in
+    (omega arith, refl, (then a (rowsCells (s .x .extras)) (c2 .put-rows .ensures) refl) .is)
 
 pub add-region-spec : {M : Type 1} → statement M
 add-region-spec =

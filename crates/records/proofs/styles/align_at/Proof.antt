@@ -22,7 +22,9 @@ returns-4 c = rw (c .match .keys4)
 
 returns-5 : tie.Need-returns-5
 unfolding alignAt
-returns-5 c = let x = c .before .args .c in let r = c .match .rest in rw (ne-eqb x 1 (r .0 .0 .0 .1), ne-eqb x 2 (r .0 .0 .1), ne-eqb x 3 (r .0 .1), ne-eqb x 4 (r .1))
+returns-5 c =
+    let c1 = c .before in
+    let x = c1 .args .c in let r = c .match .rest in rw (ne-eqb x 1 (r .0 .0 .0 .1), ne-eqb x 2 (r .0 .0 .1), ne-eqb x 3 (r .0 .1), ne-eqb x 4 (r .1))
 
 pub align-at-spec : {M : Type 1} → statement M
 align-at-spec = tie.close (tie.spec returns returns-2 returns-3 returns-4 returns-5)

@@ -91,7 +91,12 @@ shared-slice-read-t32 c = search needs
 
 returns : tie.Need-returns
 unfolding lookAt
-returns c = rw (c .before .before .before .before .before .color-at .ensures, c .before .before .before .color-at2 .ensures, c .before .optional-at .ensures, c .before .before .before .before .before .before .before .size-at .ensures) (simp add-assoc)
+returns c =
+    let c1 = c .before in
+    let c3 = c1 .before .before in
+    let c5 = c3 .before .before in
+    let c7 = c5 .before .before in
+    rw (c5 .color-at .ensures, c3 .color-at2 .ensures, c1 .optional-at .ensures, c7 .size-at .ensures) (simp add-assoc)
 
 pub look-at-spec : {M : Type 1} → statement M
 look-at-spec =

@@ -1,7 +1,4 @@
 -- `put_look` meets its contract: two colours, a family and a size, one after the other. Assumes nothing.
-use mathlib.Core.Path.{ap, _∙_}
-use lib.ListN.{length}
-use lib.Seq.{length-sets}
 use Rattle.track.specs.Layout.{optionalCells, colorCells, sizeCells, lookCells}
 use Rattle.records.proofs.Storing.{first, then, optional-wide, color-wide, size-wide}
 use borrow.Author.Needs.{needs}
@@ -35,12 +32,17 @@ same-length c = search needs
 returns : tie.Need-returns
 unfolding lookCells
 returns c =
-    let s = c .before .before .before .before .before .before .before .before .before .before .before .before .before .before .before .before .before .before .before .before .before in
-    let x = s .args .x in
-    let a = first (s .args .styles .now) (s .args .at) (colorCells (x .«has_color») (x .color)) (c .before .before .before .before .before .before .before .before .before .before .before .before .before .before .put-color .ensures) (color-wide (x .«has_color») (x .color)) in
-    let b = then a (colorCells (x .«has_back») (x .back)) (c .before .before .before .before .before .before .before .before .before .before .put-color2 .ensures) (color-wide (x .«has_back») (x .back)) in
-    let d = then b (optionalCells (x .«has_family») (x .family)) (c .before .before .before .before .before .before .put-optional .ensures) (optional-wide (x .«has_family») (x .family)) in
-    (then d (sizeCells (x .«has_size») (x .size)) (c .before .before .put-size .ensures) (size-wide (x .«has_size») (x .size))) .is
+    let c2 = c .before .before in
+    let c6 = c2 .before .before .before .before in
+    let c10 = c6 .before .before .before .before in
+    let c14 = c10 .before .before .before .before in
+    let c21 = c14 .before .before .before .before .before .before .before in
+    let s = c21 .args in
+    let x = s .x in
+    let a = first (s .styles .now) (s .at) (colorCells (x .«has_color») (x .color)) (c14 .put-color .ensures) (color-wide (x .«has_color») (x .color)) in
+    let b = then a (colorCells (x .«has_back») (x .back)) (c10 .put-color2 .ensures) (color-wide (x .«has_back») (x .back)) in
+    let d = then b (optionalCells (x .«has_family») (x .family)) (c6 .put-optional .ensures) (optional-wide (x .«has_family») (x .family)) in
+    (then d (sizeCells (x .«has_size») (x .size)) (c2 .put-size .ensures) (size-wide (x .«has_size») (x .size))) .is
 
 pub put-look-spec : {M : Type 1} → statement M
 put-look-spec =

@@ -93,13 +93,23 @@ put-rows-requires c κs = (simp length-set (omega arith), c .before .before .bef
 returns : tie.Need-returns
 unfolding styleCells
 returns c =
-    let s = c .before .before .before .before .before .before .before .before .before .before .before .before .before .before .before .before .before .before .before .before .before .before .before .before .before .before in
-    let x = s .args .x in
-    let a = first (s .args .styles .now) (s .args .at) (spanCells (x .name)) (c .before .before .before .before .before .before .before .before .before .before .before .before .before .before .before .before .before .before .before .put-span .ensures) refl in
-    let b = then a (spanCells (x .chain)) (c .before .before .before .before .before .before .before .before .before .before .before .before .before .before .before .put-span2 .ensures) refl in
-    let d = then b (lookCells (x .look)) (c .before .before .before .before .before .before .before .before .before .before .before .put-look .ensures) (look-wide (x .look)) in
-    let f = then-cell (then-cell (then-cell (then-cell d (c .before .before .before .before .before .before .before .before .flag-cell .ensures)) (c .before .before .before .before .before .before .before .flag-cell2 .ensures)) (c .before .before .before .before .before .before .flag-cell3 .ensures)) (c .before .before .before .before .before .flag-cell4 .ensures) in
-    simp append-snoc at ((then (then-cell f (c .before .before .before .before .align-cell .ensures)) (rowsCells (x .extras)) (c .before .before .put-rows .ensures) refl) .is)
+    let c2 = c .before .before in
+    let c4 = c2 .before .before in
+    let c5 = c4 .before in
+    let c6 = c5 .before in
+    let c7 = c6 .before in
+    let c8 = c7 .before in
+    let c11 = c8 .before .before .before in
+    let c15 = c11 .before .before .before .before in
+    let c19 = c15 .before .before .before .before in
+    let c26 = c19 .before .before .before .before .before .before .before in
+    let s = c26 .args in
+    let x = s .x in
+    let a = first (s .styles .now) (s .at) (spanCells (x .name)) (c19 .put-span .ensures) refl in
+    let b = then a (spanCells (x .chain)) (c15 .put-span2 .ensures) refl in
+    let d = then b (lookCells (x .look)) (c11 .put-look .ensures) (look-wide (x .look)) in
+    let f = then-cell (then-cell (then-cell (then-cell d (c8 .flag-cell .ensures)) (c7 .flag-cell2 .ensures)) (c6 .flag-cell3 .ensures)) (c5 .flag-cell4 .ensures) in
+    simp append-snoc at ((then (then-cell f (c4 .align-cell .ensures)) (rowsCells (x .extras)) (c2 .put-rows .ensures) refl) .is)
 
 same-length : tie.Need-same-length
 same-length c = ap length (returns c) ∙ simp length-sets

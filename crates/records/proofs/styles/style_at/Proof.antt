@@ -90,8 +90,14 @@ rows-at-requires c κs = search needs
 returns : tie.Need-returns
 unfolding cell styleAt
 returns c =
-    let s = c .before .before .before .before .before .before .before .before .before .before .before .before .before in
-    rw (c .before .before .before .before .before .before .span-at .ensures, c .before .before .before .before .before .span-at2 .ensures, c .before .before .before .before .before .before .before .before .before .look-at .ensures, within-any nan zeroFloat (s .args .sizes .now) (16384 + s .args .i) (omega arith), c .before .before .before .before .before .before .before .align-at .ensures, c .rows-at .ensures)
+    let c5 = c .before .before .before .before .before in
+    let c6 = c5 .before in
+    let c7 = c6 .before in
+    let c9 = c7 .before .before in
+    let c13 = c9 .before .before .before .before in
+    let s = c13 .args in
+    let v = within-any nan zeroFloat (s .sizes .now) (16384 + s .i) (omega arith) in
+    rw (c6 .span-at .ensures, c5 .span-at2 .ensures, c9 .look-at .ensures, v, c7 .align-at .ensures, c .rows-at .ensures)
     (simp (add-assoc, add-zero))
 
 pub style-at-spec : {M : Type 1} → statement M
