@@ -14,7 +14,8 @@ use Rattle.track.specs.Track as track
 use Rattle.track.specs.Layout.{Sized, wrapperOf, segmentRows, preorder, joinedCells, each, segmentCells}
 use Rattle.scan.specs.Part.{part}
 use Rattle.records.specs.Siblings.{joined, wrapped, wrapperRows, rowCells, cellsOf}
-use Rattle.records.proofs.Overwrites.{font-wide}
+use Rattle.records.proofs.RowLaws.{joined-append, segment-wide}
+use Rattle.records.proofs.Beside.{each-append}
 
 -- ---- lists of cells, of any type
 module _ {A : Type 0} where
@@ -186,18 +187,6 @@ module _ {A : Type 0} (g : Sized → List A) where
         rw rows (put-after pre (laid g (preorder f)) (g x) rest t t′ (n * w) w e (omega arith) (wide x) k e′)
 
 -- ---- in the three tables
-pub segment-wide : (s : Segment) (n : ℕ) → length (segmentCells s n) ≡ 8
-unfolding segmentCells
-segment-wide (Segment.Text s) n = refl
-segment-wide Segment.Break n = refl
-segment-wide (Segment.Timestamp t) n = refl
-segment-wide Segment.Bold n = refl
-segment-wide Segment.Italic n = refl
-segment-wide Segment.Underline n = refl
-segment-wide Segment.Strike n = refl
-segment-wide (Segment.Color c) n = refl
-segment-wide (Segment.Font x) n = rw (font-wide x)
-
 laid-cells : (l : List Sized) → laid rowCells l ≡ cellsOf l
 unfolding laid joinedCells
 laid-cells [] = refl
@@ -228,8 +217,7 @@ module _ (pre rest t t′ : List ℕ) (f : Segments Span) (at n : ℕ) (e : t �
       (add-row rowCells 8 (λ y. segment-wide (y .segment) (y .rows)) pre rest t t′ f h x at n o (rw (laid-cells (preorder f)) e) p m k e′)
 
 pub cells-joined : (f g : Segments Span) → cellsOf (preorder (joined f g)) ≡ cellsOf (preorder f) ++ cellsOf (preorder g)
-cells-joined f g =
-    rw (← (laid-cells (preorder (joined f g))), ← (laid-cells (preorder f)), ← (laid-cells (preorder g)), preorder-joined f g) (laid-append rowCells (preorder f) (preorder g))
+cells-joined f g = rw (preorder-joined f g) (joined-append rowCells (preorder f) (preorder g))
 
 -- tables with one cell to a row: times and sizes
 laid-each : {A : Type 0} (v : Sized → A) (l : List Sized) → laid (λ (x : Sized). v x ∷ []) l ≡ each v l
@@ -238,9 +226,7 @@ laid-each v [] = refl
 laid-each v (x ∷ l) = rw (laid-each v l)
 
 pub each-joined : {A : Type 0} (v : Sized → A) (f g : Segments Span) → each v (preorder (joined f g)) ≡ each v (preorder f) ++ each v (preorder g)
-each-joined v f g =
-    rw (← (laid-each v (preorder (joined f g))), ← (laid-each v (preorder f)), ← (laid-each v (preorder g)), preorder-joined f g)
-    (laid-append (λ (x : Sized). v x ∷ []) (preorder f) (preorder g))
+each-joined v f g = rw (preorder-joined f g) (each-append v (preorder f) (preorder g))
 
 module _ {A : Type 0} (v : Sized → A) (pre rest t t′ : List A) (f : Segments Span) (at n : ℕ) (e : t ≡ pre ++ (each v (preorder f) ++ rest)) (p : length pre ≡ at)
     (m : n ≡ at + segmentRows f) where
