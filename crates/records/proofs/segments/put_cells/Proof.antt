@@ -121,7 +121,8 @@ returns c =
     let a = c .before .before .before .before .before .before .before .before .before .before .before .before .args in
     let g = c .before .before .before .before .before .before .before .before .before .s .given in
     rw (g .1)
-    (kind-over (0 ∷ 0 ∷ []) (spanCells (g .0 .0)) (0 ∷ 0 ∷ 0 ∷ 0 ∷ []) (a .segments .now) _ _ (a .at) 1 (a .rows) (c .before .before .before .before .before .before .put-kind .ensures) (c .before .before .put-span .ensures) refl)
+    (kind-over (0 ∷ 0 ∷ []) (spanCells (g .0 .0)) (0 ∷ 0 ∷ 0 ∷ 0 ∷ []) (a .segments .now) _ _ (a .at) 1 (a .rows)
+    (c .before .before .before .before .before .before .put-kind .ensures) (c .before .before .put-span .ensures) refl)
 
 same-length-2 : tie.Need-same-length-2
 same-length-2 c = search needs
@@ -180,7 +181,8 @@ returns-8 c =
     let a = c .before .before .before .before .before .before .before .before .before .before .before .args in
     let g = c .before .before .before .before .before .before .before .before .s3 .given in
     rw (g .1)
-    (kind-over (0 ∷ 0 ∷ 0 ∷ []) (g .0 .0 .r ∷ g .0 .0 .g ∷ g .0 .0 .b ∷ []) (0 ∷ 0 ∷ 0 ∷ []) (a .segments .now) _ _ (a .at) 8 (a .rows) (c .before .before .before .before .before .put-kind8 .ensures)
+    (kind-over (0 ∷ 0 ∷ 0 ∷ []) (g .0 .0 .r ∷ g .0 .0 .g ∷ g .0 .0 .b ∷ []) (0 ∷ 0 ∷ 0 ∷ []) (a .segments .now) _ _ (a .at) 8 (a .rows)
+    (c .before .before .before .before .before .put-kind8 .ensures)
     (simp (add-two, add-three, add-four)) refl)
 
 same-length-9 : tie.Need-same-length-9
@@ -192,7 +194,8 @@ returns-9 c =
     let a = c .before .before .before .before .before .before .before .before .before .before .before .before .args in
     let g = c .before .before .before .before .before .before .before .before .before .s4 .given in
     rw (g .1, ← (append-nil (fontCells (g .0 .0))))
-    (kind-over (0 ∷ 0 ∷ 0 ∷ 0 ∷ 0 ∷ 0 ∷ []) (fontCells (g .0 .0)) [] (a .segments .now) _ _ (a .at) 9 (a .rows) (c .before .before .before .before .before .before .put-kind9 .ensures) (c .before .before .put-font .ensures)
+    (kind-over (0 ∷ 0 ∷ 0 ∷ 0 ∷ 0 ∷ 0 ∷ []) (fontCells (g .0 .0)) [] (a .segments .now) _ _ (a .at) 9 (a .rows)
+    (c .before .before .before .before .before .before .put-kind9 .ensures) (c .before .before .put-font .ensures)
     (sym (font-wide (g .0 .0))))
 
 pub put-cells-spec : {M : Type 1} → statement M
