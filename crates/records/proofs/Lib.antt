@@ -12,3 +12,4 @@ pub mod RowLaws
 pub mod Back
 pub mod Beside
 pub mod Standing
+pub mod Trees

@@ -16,6 +16,7 @@ use Rattle.scan.specs.Part.{part}
 use Rattle.records.specs.Siblings.{joined, wrapped, wrapperRows, rowCells, cellsOf}
 use Rattle.records.proofs.RowLaws.{joined-append, segment-wide}
 use Rattle.records.proofs.Beside.{each-append}
+use Rattle.records.proofs.Trees.{preorder-length}
 
 -- ---- lists of cells, of any type
 module _ {A : Type 0} where
@@ -67,17 +68,6 @@ preorder-joined (track.text s x) g = rw (preorder-joined x g)
 preorder-joined (track.break x) g = rw (preorder-joined x g)
 preorder-joined (track.timestamp t x) g = rw (preorder-joined x g)
 preorder-joined (track.wrap w c x) g = rw (preorder-joined x g, append-assoc)
-
-pub preorder-length : (f : Segments Span) → length (preorder f) ≡ segmentRows f
-unfolding preorder segmentRows
-preorder-length track.done = refl
-preorder-length (track.text s x) = let i = preorder-length x in omega arith
-preorder-length (track.break x) = let i = preorder-length x in omega arith
-preorder-length (track.timestamp t x) = let i = preorder-length x in omega arith
-preorder-length (track.wrap w c x) =
-    let i = preorder-length c in
-    let j = preorder-length x in
-    simp length-append (omega arith)
 
 pub rows-joined : (f g : Segments Span) → segmentRows (joined f g) ≡ segmentRows f + segmentRows g
 rows-joined f g =

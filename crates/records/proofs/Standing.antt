@@ -13,7 +13,8 @@ use Rattle.track.specs.Layout.{Sized, wrapperOf, segmentRows, preorder, joinedC
 use Rattle.records.specs.Siblings.{joined, rowCells, cellsOf, timesOf, floatsOf, Three, Stands, Room, later, andThese, Shifted, Put}
 use Rattle.records.proofs.RowLaws.{joined-length, segment-wide}
 use Rattle.records.proofs.Beside.{each-length}
-use Rattle.records.proofs.SegmentRows.{preorder-length, rows-joined, cells-joined, each-joined, wrap-cells, wrap-each, add-cells, add-each}
+use Rattle.records.proofs.Trees.{preorder-length}
+use Rattle.records.proofs.SegmentRows.{rows-joined, cells-joined, each-joined, wrap-cells, wrap-each, add-cells, add-each}
 
 abbrev timeOf : Sized → ℤ
 timeOf x = segmentTime (x .segment)
