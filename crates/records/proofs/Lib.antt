@@ -1,8 +1,16 @@
 -- What the proofs of several functions use.
 pub mod Parts
 pub mod Storing
+pub mod Zeros
+pub mod Overwrites
+pub mod Moves
+pub mod Segmented
+pub mod Finding
+pub mod FoundRows
+pub mod SegmentRows
 pub mod RowLaws
 pub mod Back
 pub mod Beside
+pub mod Standing
 pub mod Trees
 pub mod Lots

@@ -1,11 +1,14 @@
 -- Rows found by name. Definitions alone. Names compare byte by byte, as the Rust's keys and `style` do.
 use Prim.Native.Nat.{ℕ, zero, suc, _+_, _*_, _≤_, _<_}
-use mathlib.Core.Bool.{Bool, cond, not, _&&_}
-use mathlib.Core.List.{List}
+use mathlib.Core.Bool.{Bool, true, false, cond, not, _&&_}
+use mathlib.Core.List.{List, [], _∷_}
+use mathlib.Core.Option.{Option, none, some}
 use lib.ListN.{length, getD}
 use lib.Dec.{eqb}
 use Rattle.scan.specs.Names.{sameBytes}
 use Rattle.scan.specs.Part.{stringAt}
+use Rattle.track.specs.Track.{Extra, Style, Region}
+use Rattle.track.specs.Layout.{isSome}
 use Rattle.records.specs.declared.find.Found.{Found}
 
 -- the string whose place and length stand at cell i is this
@@ -30,3 +33,45 @@ pub record Named (t z : List ℕ) (w n : ℕ) : Type 0 where
   pub two : 2 ≤ w
   pub rows : n * w ≤ length t
   pub within : (i : ℕ) → i < n → getD t (i * w) 0 + getD t (i * w + 1) 0 ≤ length z
+
+-- ---- the same of a track
+-- the first of a list that passes the test
+unfoldable pub firstThat : {A : Type 0} → (A → Bool) → List A → Option A
+firstThat p [] = none
+firstThat p (x ∷ l) = cond (p x) (some x) (firstThat p l)
+
+abbrev pub isEmpty : {A : Type 0} → List A → Bool
+isEmpty [] = true
+isEmpty (x ∷ l) = false
+
+abbrev pub chainFrom : Option Style → Option (List ℕ)
+chainFrom none = none
+chainFrom (some x) = x .chain
+
+abbrev pub extrasFrom : Option Style → List Extra
+extrasFrom none = []
+extrasFrom (some x) = x .extras
+
+-- the Rust's `style`: the first of this name
+unfoldable pub findStyle : List ℕ → List Style → Option Style
+unfolding firstThat
+findStyle name l = firstThat (λ (x : Style). sameBytes (x .name) name) l
+
+-- the first chain, and the first extras that are not empty, of styles of this name
+unfoldable pub findChain : List ℕ → List Style → Option (List ℕ)
+unfolding firstThat
+findChain name l = chainFrom (firstThat (λ (x : Style). isSome (x .chain) && sameBytes (x .name) name) l)
+
+unfoldable pub findExtras : List ℕ → List Style → List Extra
+unfolding firstThat
+findExtras name l = extrasFrom (firstThat (λ (x : Style). not (isEmpty (x .extras)) && sameBytes (x .name) name) l)
+
+-- the first region of this id
+unfoldable pub findRegion : List ℕ → List Region → Option Region
+unfolding firstThat
+findRegion id l = firstThat (λ (x : Region). sameBytes (x .id) id) l
+
+-- what is found, of rows that are known by f
+abbrev pub foundIn : {A : Type 0} → (ℕ → A) → Found → Option A
+foundIn f (Found.Row i) = some (f i)
+foundIn f Found.Nothing = none

@@ -1,2 +1,3 @@
 pub mod Posts
 pub mod Find
+pub mod Siblings
