@@ -9,8 +9,5 @@ pub mod Finding
 pub mod FoundRows
 pub mod SegmentRows
 pub mod RowLaws
-pub mod Back
 pub mod Beside
 pub mod Standing
-pub mod Trees
-pub mod Lots

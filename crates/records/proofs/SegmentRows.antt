@@ -16,7 +16,7 @@ use Rattle.scan.specs.Part.{part}
 use Rattle.records.specs.Siblings.{joined, wrapped, wrapperRows, rowCells, cellsOf}
 use Rattle.records.proofs.RowLaws.{joined-append, segment-wide}
 use Rattle.records.proofs.Beside.{each-append}
-use Rattle.records.proofs.Trees.{preorder-length}
+use Rattle.track.proofs.SegmentsLaid.{rows-many}
 
 -- ---- lists of cells, of any type
 module _ {A : Type 0} where
@@ -72,7 +72,7 @@ preorder-joined (track.wrap w c x) g = rw (preorder-joined x g, append-assoc)
 pub rows-joined : (f g : Segments Span) → segmentRows (joined f g) ≡ segmentRows f + segmentRows g
 rows-joined f g =
     let e : length (preorder (joined f g)) ≡ length (preorder f) + length (preorder g) = rw (preorder-joined f g) (length-append (preorder f) (preorder g)) in
-    rw (preorder-length (joined f g), preorder-length f, preorder-length g) at e
+    rw (rows-many (joined f g), rows-many f, rows-many g) at e
 
 pub joined-done : {S : Type 0} (f : Segments S) → joined f track.done ≡ f
 unfolding joined
@@ -134,7 +134,7 @@ module _ {A : Type 0} (g : Sized → List A) where
         rw (length-append, suc-mul) (omega arith)
 
     rows-length : (f : Segments Span) → length (laid g (preorder f)) ≡ segmentRows f * w
-    rows-length f = rw (← (preorder-length f)) (laid-length (preorder f))
+    rows-length f = rw (← (rows-many f)) (laid-length (preorder f))
 
     -- rows shifted by as many as there are in r, and those put before them
     pub before-rows : (pre rest t t′ t″ : List A) (r : List Sized) (f h : Segments Span) (at end : ℕ) → preorder h ≡ r ++ preorder f

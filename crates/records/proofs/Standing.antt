@@ -13,7 +13,7 @@ use Rattle.track.specs.Layout.{Sized, wrapperOf, segmentRows, preorder, joinedC
 use Rattle.records.specs.Siblings.{joined, rowCells, cellsOf, timesOf, floatsOf, Three, Stands, Room, later, andThese, Shifted, Put}
 use Rattle.records.proofs.RowLaws.{joined-length, segment-wide}
 use Rattle.records.proofs.Beside.{each-length}
-use Rattle.records.proofs.Trees.{preorder-length}
+use Rattle.track.proofs.SegmentsLaid.{rows-many}
 use Rattle.records.proofs.SegmentRows.{rows-joined, cells-joined, each-joined, wrap-cells, wrap-each, add-cells, add-each}
 
 abbrev timeOf : Sized → ℤ
@@ -23,10 +23,10 @@ abbrev floatOf : Sized → Float
 floatOf x = segmentSize (x .segment)
 
 cells-length : (f : Segments Span) → length (cellsOf (preorder f)) ≡ segmentRows f * 8
-cells-length f = joined-length rowCells 8 (λ y. segment-wide (y .segment) (y .rows)) (preorder f) ∙ rw (preorder-length f)
+cells-length f = joined-length rowCells 8 (λ y. segment-wide (y .segment) (y .rows)) (preorder f) ∙ rw (rows-many f)
 
 each-rows : {A : Type 0} (v : Sized → A) (f : Segments Span) → length (each v (preorder f)) ≡ segmentRows f
-each-rows v f = each-length v (preorder f) ∙ preorder-length f
+each-rows v f = each-length v (preorder f) ∙ rows-many f
 
 -- none, at a row
 pub stands-start : (pre rest t : Three) (at : ℕ) → (length (pre .cells) ≡ at * 8) × (length (pre .times) ≡ at) × (length (pre .floats) ≡ at)
@@ -61,7 +61,7 @@ module _ (pre rest : Three) (at n : ℕ) (f : Segments Span) (t : Three) (s : St
   pub stands-add : (t′ : Three) (h : Segments Span) (x : Sized) → preorder h ≡ x ∷ [] → Room 1 rest → Put n (x .rows) (x .segment) t t′
       → Stands pre (later 1 rest) at (n + 1) (joined f h) t′
   stands-add t′ h x o r p =
-      let one : segmentRows h ≡ 1 = sym (preorder-length h) ∙ rw o in
+      let one : segmentRows h ≡ 1 = sym (rows-many h) ∙ rw o in
       record {
         count = omega (arith, s .count, rows-joined f h);
         before = s .before;
