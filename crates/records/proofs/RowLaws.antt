@@ -1,13 +1,12 @@
--- Tables of rows grow by a row, and hold each row that was put: what `AddPost` says of the layout. Assumes nothing.
+-- Tables of rows grow by a row: what `AddPost` says of the layout. Assumes nothing.
+--     filled-more, row-added, table-grown     one more; param-wide … segment-wide     how many cells a row has
 use Prim.Native.Nat.{ℕ, zero, suc, _+_, _-_, _*_, _≤_, _<_}
 use mathlib.Core.List.{List, [], _∷_, _++_, append-nil, append-assoc}
-use mathlib.Core.Logic.{_⊎_, inl, inr}
 use mathlib.Core.Path.{_≡_, refl, ap, _∙_}
 use native.Mathlib.Omega.{arith}
 use native.Mathlib.Nat.{add-assoc, suc-mul, add-mul, sub-zero, zero-sub, suc-sub-suc, mul-le-mul-right}
 use lib.ListN.{length, getD, take, drop, replicate, length-append, length-replicate, List·getD-append}
 use lib.Seq.{sets, sets-eq, length-take-le, take-append-seam, drop-append-add, getD-append-add}
-use Rattle.scan.proofs.Stores.{sets-other}
 use Rattle.track.specs.declared.values.Param.{Param}
 use Rattle.track.specs.declared.values.Extra.{Extra}
 use Rattle.track.specs.declared.values.Style.{Style}
@@ -65,56 +64,6 @@ module _ {A : Type 0} (f : A → List ℕ) (w : ℕ) (wide : (x : A) → length 
   table-grown most l x t t′ m e p =
       let h : suc (length l) * w ≤ most * w = mul-le-mul-right w (p .0) in
       (p .2 ∙ rw e (row-added (most * w) l x (rw suc-mul at h)), p .1 ∙ rw length-append)
-
--- ---- rows read back: the table t has the cells r from cell p on
-abbrev pub Holds : List ℕ → ℕ → List ℕ → Type 0
-Holds t p r = (j : ℕ) → j < length r → getD t (p + j) 0 ≡ getD r j 0
-
--- of two pieces each
-pub holds-left : (t a b : List ℕ) (p : ℕ) → Holds t p (a ++ b) → Holds t p a
-holds-left t a b p h j l = h j (rw length-append (omega arith)) ∙ List·getD-append a b 0 j l
-
-pub holds-right : (t a b : List ℕ) (p : ℕ) → Holds t p (a ++ b) → Holds t (p + length a) b
-holds-right t a b p h j l = ap (λ (k : ℕ). getD t k 0) (add-assoc p (length a) j) ∙ h (length a + j) (rw length-append (omega arith)) ∙ getD-append-add a b j 0
-
--- a piece of a piece
-pub holds-in : (t v r : List ℕ) (p q : ℕ) → Holds t p v → Holds v q r → q + length r ≤ length v → Holds t (p + q) r
-holds-in t v r p q h g n j l = ap (λ (k : ℕ). getD t k 0) (add-assoc p q j) ∙ h (q + j) (omega arith) ∙ g j l
-
--- what is stored stands there, and the rest stays
-pub holds-stored : (t v : List ℕ) (p : ℕ) → p + length v ≤ length t → Holds (sets t p v) p v
-holds-stored t v p h j l =
-    let a : length (take p t) ≡ p = length-take-le p t (omega arith) in
-    let e : p + j ≡ length (take p t) + j = omega arith in
-    rw (sets-eq v t p h, append-assoc, e) (getD-append-add (take p t) (v ++ drop (p + length v) t) j 0 ∙ List·getD-append v (drop (p + length v) t) 0 j l)
-
-pub holds-kept : (t v r : List ℕ) (i p : ℕ) → (p + length r ≤ i) ⊎ (i + length v ≤ p) → Holds t p r → Holds (sets t i v) p r
-holds-kept t v r i p (inl n) h j l = sets-other v t i (p + j) (inl (omega arith)) ∙ h j l
-holds-kept t v r i p (inr n) h j l = sets-other v t i (p + j) (inr (omega arith)) ∙ h j l
-
-module _ {A : Type 0} (f : A → List ℕ) (w : ℕ) (wide : (x : A) → length (f x) ≡ w) (d : A) where
-  -- row i of a list of rows, whatever follows
-  pub holds-row : (z : List ℕ) (l : List A) (i : ℕ) → i < length l → Holds (joinedCells f l ++ z) (i * w) (f (getD l i d))
-  unfolding joinedCells
-  holds-row z [] i h j m = absurd (omega arith)
-  holds-row z (x ∷ l) zero h j m =
-      let e : 0 * w + j ≡ j = omega arith in
-      rw (append-assoc, e) (List·getD-append (f x) (joinedCells f l ++ z) 0 j m)
-  holds-row z (x ∷ l) (suc i) h j m =
-      let a = wide x in
-      let e : suc i * w + j ≡ length (f x) + (i * w + j) = rw suc-mul (omega arith) in
-      rw (append-assoc, e) (getD-append-add (f x) (joinedCells f l ++ z) (i * w + j) 0 ∙ holds-row z l i (omega arith) j m)
-
-  -- row k + i of a table where a list of rows is stored from row k on
-  pub holds-laid : (t : List ℕ) (l : List A) (k i : ℕ) → i < length l → k * w + length l * w ≤ length t
-      → Holds (sets t (k * w) (joinedCells f l)) ((k + i) * w) (f (getD l i d))
-  holds-laid t l k i h n =
-      let v = joinedCells f l in
-      let a : length v ≡ length l * w = joined-length f w wide l in
-      let b = wide (getD l i d) in
-      let m : suc i * w ≤ length l * w = mul-le-mul-right w h in
-      let r : Holds v (i * w) (f (getD l i d)) = rw append-nil at (holds-row [] l i h) in
-      rw add-mul (holds-in (sets t (k * w) v) v (f (getD l i d)) (k * w) (i * w) (holds-stored t v (k * w) (omega arith)) r (omega (arith, rw suc-mul at m)))
 
 -- ---- how many cells a row has
 pub param-wide : (x : Param) → length (paramCells x) ≡ 4
