@@ -1,7 +1,7 @@
 -- The theorem of the crate: of every text within the limits 1 to 3, what `parse_xml` leaves shows the tree that the grammar derives, with its
 -- entities read; or it refuses with the first number that the text meets. Assumes nothing.
 --     parsed, parsed-is              what the tables show is what the grammar's reader answers
---     takes-exactly, gives-that-tree, refuses-exactly   the demand
+--     takes-exactly, gives-that-tree, refuses-exactly   the demand; parsed-derived: of a text that derives a tree, it shows that tree
 --     small-strings, small-nodes, small-attrs, too-long, not-utf8   the numbers 1 to 3, in this order
 --     answers-tree, answers-refused  the program's answer tells which it is
 --     left-shows                     the tree that the tables show is that of `parsed`
@@ -100,6 +100,9 @@ module _ (s : List ℕ) (n m z : ℕ) where
     -- the tree given is that tree with its entities read
     pub gives-that-tree : (f g : Forest) → Derives s f → parsed s n m z ≡ tree g → g ≡ decodeForest decoded f
     gives-that-tree f g d e = grammar.gives-that-tree decoded s f g d (sym parsed-is ∙ e)
+
+    pub parsed-derived : (f : Forest) → Derives s f → parsed s n m z ≡ tree (decodeForest decoded f)
+    parsed-derived f d = let x = takes-exactly .1 (f, d) in x .1 ∙ ap tree (gives-that-tree f (x .0) d (x .1))
 
     -- the number answered is the first that is met
     pub refuses-exactly : (i p : ℕ) → (parsed s n m z ≡ refused i p) ↔ FirstMet 64 8192 8192 s i p
