@@ -1,12 +1,12 @@
 -- How many attributes the first top-level tt of a text has. Definitions alone.
-use Prim.Native.Nat.{ℕ}
+use Prim.Native.Nat.{ℕ, _≤_}
+use mathlib.Core.Path.{_≡_}
 use mathlib.Core.List.{List, [], _∷_}
 use lib.ListN.{length}
 use Rattle.entities.specs.Decode.{decoded}
+use Rattle.tree.specs.Posts.{Fits}
 use Rattle.grammar.specs.Tree.{Forest}
-use Rattle.grammar.specs.Demand.{Result, tree, refused, decodeForest}
-use Rattle.derivation.specs.Strings.{resultIn}
-use Rattle.xml.specs.Reading.{raw, readOut, stringsOf}
+use Rattle.grammar.specs.Demand.{Derives, decodeForest}
 use Rattle.xml.specs.Find.{FoundElement, found, absent, findElement}
 
 abbrev pub tt : List ℕ
@@ -16,15 +16,13 @@ unfoldable pub attributes : FoundElement → ℕ
 attributes (found name l content) = length l
 attributes absent = 0
 
--- in a tree
+-- in a tree: 0 if it has no top-level tt
 unfoldable pub countIn : Forest → ℕ
-countIn f = attributes (findElement tt (decodeForest decoded f))
+countIn f = attributes (findElement tt f)
 
--- in what a tree reader answers: 0 after a refusal
-unfoldable pub count : Result → ℕ
-count (tree f) = attributes (findElement tt f)
-count (refused number place) = 0
-
--- what the tables of n, m and z cells show after `parse_xml` of s: a tree, or a number and its place
-abbrev pub shown : List ℕ → ℕ → ℕ → ℕ → Result
-shown s n m z = resultIn (stringsOf z s (raw s n m z)) (readOut s (raw s n m z))
+-- r is the count in the tree that the text s derives, with its entities read; 0 if it derives none. The tables have n, m and z cells: it is
+-- 0 too where the text meets one of document 01's numbers 1 to 3.
+pub record Counts (s : List ℕ) (n m z r : ℕ) : Type 0 where
+  pub derived : (f : Forest) → Derives s f → Fits s n m → 65536 ≤ z → r ≡ countIn (decodeForest decoded f)
+  pub underived : ((f : Forest) → ¬ Derives s f) → r ≡ 0
+  pub unfit : ¬ (Fits s n m × (65536 ≤ z)) → r ≡ 0

@@ -1,11 +1,6 @@
 // The example of README.md: the contracts of `xml` compose, with no induction of one's own.
-ghost use mathlib.Core.Path.{_≡_};
-ghost use Prim.Native.Nat.{_≤_};
 ghost use lib.ListN.{length};
-ghost use Rattle.tree.specs.Posts.{Fits};
-ghost use Rattle.grammar.specs.Tree.{Forest};
-ghost use Rattle.grammar.specs.Demand.{Derives};
-ghost use Rattle.example.specs.Count.{shown, count, countIn};
+ghost use Rattle.example.specs.Count.{Counts};
 use tree::Answer;
 use xml::Found;
 
@@ -16,8 +11,7 @@ pub fn root_attributes(
     attrs: &mut [u32],
     strings: &mut [u8],
 ) -> usize
-    ensures { λ r. ⌜ r ≡ count (shown (now (text .entry)) (length (now (nodes .entry))) (length (now (attrs .entry))) (length (now (strings .entry)))) ⌝ }
-    ensures { λ r. ⌜ ((f : Forest) → Derives (now (text .entry)) f → Fits (now (text .entry)) (length (now (nodes .entry))) (length (now (attrs .entry))) → 65536 ≤ length (now (strings .entry)) → r ≡ countIn f) ⌝ }
+    ensures { λ r. ⌜ Counts (now (text .entry)) (length (now (nodes .entry))) (length (now (attrs .entry))) (length (now (strings .entry))) r ⌝ }
 {
     let Answer::Tree { nodes: n, attrs: m } = xml::parse_xml(text, nodes, attrs, strings) else {
         return 0; // document 01's number and place are in the answer, and every table is zero

@@ -2,8 +2,8 @@
 --     left-stands, left-listed      the rows of the tree's nodes and of its attributes stand in the tables
 --     left-length, left-placed      its strings stand in order within the table of strings
 --     left-string                   each with its entities read at its place
---     left-holds                    the same of all three, as the searches take it
---     left-count, left-siblings     where the answer is a tree, its count of nodes is that of the tree's, and these rows are siblings
+--     left-holds                    the three at once, as the searches take them
+--     left-count, left-siblings     where the answer is a tree, its count of nodes is the tree's, and these rows are siblings
 use Prim.Native.Nat.{ℕ, _+_, _≤_, _<_}
 use mathlib.Core.Path.{_≡_, refl, sym, ap, _∙_}
 use mathlib.Core.Bool.{Bool, true, false}
@@ -16,6 +16,7 @@ use Rattle.tree.specs.Trees.{Forest, size, attrsOf, rows, attrRows, spans, InOr
 use Rattle.tree.specs.Read.{Out, got, nothing, bad, meaning, answerOf, nodesOf, attrCells}
 use Rattle.tree.specs.Walks.{treeOf, Stands, Listed}
 use Rattle.tree.proofs.Places.{in-higher, meaning-placed}
+use Rattle.tree.specs.declared.answers.Answer.{Answer}
 use Rattle.tree.specs.declared.answers.Answer.the-variants.{Tree}
 use Rattle.scan.specs.Part.{stringAt}
 use Rattle.xml.specs.Find.{Holds, Siblings}
@@ -23,7 +24,7 @@ use Rattle.xml.specs.Reading.{Placed, strings, lay, readForest, raw, rea
 use Rattle.xml.proofs.Lays.{lay-length}
 use Rattle.xml.proofs.PassForests.{size-read}
 use Rattle.xml.proofs.FindLaws.{siblings-of}
-use Rattle.xml.proofs.Parsing.{raw-small, raw-enough, short-text}
+use Rattle.xml.proofs.Parsing.{raw-small, raw-enough, short-text, Left}
 use Rattle.xml.proofs.Shown.{order-read, string-stands}
 
 -- ---- rows
@@ -98,13 +99,18 @@ module _ (s : List ℕ) (n m z : ℕ) where
         let x : w ≡ lay (replicate z 0) (strings s f) = rw g at e in
         rw x (string-stands s f 0 z (r .0) (r .1) none i h)
 
-  -- ---- for the searches
-  pub left-count : (i j : ℕ) → answerOf (raw s n m z) ≡ Tree i j → 0 + size (treeOf (readOut s (raw s n m z))) ≡ i
-  left-count i j e = omega (arith, count-of s (raw s n m z) i j e)
+-- ---- by the promises of `parse_xml` at once, for the searches
+module _ (s : List ℕ) (n m z : ℕ) {r : Answer} {t u w : List ℕ} (l : Left s n m z (raw s n m z) r t u w) where
+  pub left-holds : Holds t u w 0 0 (treeOf (readOut s (raw s n m z)))
+  left-holds = record {
+    stands = left-stands s n m z t (l .1 .0);
+    listed = left-listed s n m z u (l .1 .1 .0);
+    lo = 0;
+    placed = left-placed s n m z w (l .1 .1 .1);
+  }
 
-  module _ {t u w : List ℕ} (nodes : t ≡ nodesOf n (readOut s (raw s n m z))) (attrs : u ≡ attrCells m (readOut s (raw s n m z))) (bytes : w ≡ stringsOf z s (raw s n m z)) where
-    pub left-holds : Holds t u w 0 0 (treeOf (readOut s (raw s n m z)))
-    left-holds = record { stands = left-stands t nodes; listed = left-listed u attrs; lo = 0; placed = left-placed w bytes }
+  pub left-count : {i j : ℕ} → r ≡ Tree i j → 0 + size (treeOf (readOut s (raw s n m z))) ≡ i
+  left-count {i} {j} e = omega (arith, count-of s (raw s n m z) i j (sym (l .0) ∙ e))
 
-    pub left-siblings : (i j : ℕ) → answerOf (raw s n m z) ≡ Tree i j → Siblings t w 0 i
-    left-siblings i j e = rw (left-count i j e) at (siblings-of left-holds)
+  pub left-siblings : {i j : ℕ} → r ≡ Tree i j → Siblings t w 0 i
+  left-siblings e = rw (left-count e) at (siblings-of left-holds)

@@ -1,9 +1,6 @@
--- `root_attributes` meets its promises: each way through it is a law of `Counting`.
-use mathlib.Core.Path.{sym, ap, _∙_}
-use lib.ListN.{length}
-use Rattle.xml.specs.declared.find.Element.{Element}
-use Rattle.xml.proofs.Tables.{left-count, left-stands, left-siblings}
-use Rattle.example.proofs.Counting.{promised, on-refusal, on-nothing, on-row, row-there}
+-- `root_attributes` meets its promise: each way through it is a law of `Counting`.
+use Rattle.xml.proofs.Tables.{left-siblings}
+use Rattle.example.proofs.Counting.{on-refusal, on-nothing, on-row, row-there}
 use borrow.Author.Needs.{needs}
 use Rattle.example.proofs.root_attributes.Statement.{statement}
 use Rattle.example.proofs.root_attributes.Tie as tie
@@ -27,46 +24,19 @@ same-length-3 : tie.Need-same-length-3
 same-length-3 c = search needs
 
 returns : tie.Need-returns
-returns c =
-    let p = c .before .before .before .before .before .before .before .before in
-    let a = p .before .before .before .before .before .before .before .before .args in
-    let s = a .text .now in
-    let x = length (a .nodes .now) in
-    let y = length (a .attrs .now) in
-    let z = length (a .strings .now) in
-    let q = p .parse-xml .ensures in
-    promised s x y z _ (on-refusal s x y z _ (sym (q .0) ∙ c .enum-told .given .1))
+returns c = on-refusal _ _ _ _ (c .before .before .before .before .before .before .before .before .parse-xml .ensures) (c .enum-told .given .1)
 
 slice-aggregate-find-element : tie.Need-slice-aggregate-find-element
 slice-aggregate-find-element c = search needs
 
 find-element-requires : tie.Need-find-element-requires
-find-element-requires c κs =
-    let p = c .before .before .before .before .before .before .before .before .before .before .before .before in
-    let a = p .before .before .before .before .before .before .before .before .args in
-    let s = a .text .now in
-    let x = length (a .nodes .now) in
-    let y = length (a .attrs .now) in
-    let z = length (a .strings .now) in
-    let q = p .parse-xml .ensures in
-    let e = sym (q .0) ∙ c .before .before .before .before .n .given .1 in
-    left-siblings s x y z (q .1 .0) (q .1 .1 .0) (q .1 .1 .1) _ _ e
+find-element-requires c κs = left-siblings _ _ _ _ (c .before .before .before .before .before .before .before .before .before .before .before .before .parse-xml .ensures) (c .before .before .before .before .n .given .1)
 
 enum-known-k : tie.Need-enum-known-k
 enum-known-k c = search needs
 
 element-at-requires : tie.Need-element-at-requires
-element-at-requires c κs =
-    let p = c .before .before .before .before .before .before .before .before .before .before .before .before .before .before .before .before .before in
-    let a = p .before .before .before .before .before .before .before .before .args in
-    let s = a .text .now in
-    let x = length (a .nodes .now) in
-    let y = length (a .attrs .now) in
-    let z = length (a .strings .now) in
-    let q = p .parse-xml .ensures in
-    let e = sym (q .0) ∙ c .before .before .before .before .before .before .before .before .before .n .given .1 in
-    let f = c .before .before .before .before .find-element .ensures 0 _ (left-stands s x y z _ (q .1 .0)) (left-count s x y z _ _ e) in
-    row-there s x y z _ _ e (q .1 .0) (q .1 .1 .0) (q .1 .1 .1) _ (sym f ∙ c .before .before .k .given .1)
+element-at-requires c κs = row-there _ _ _ _ (c .before .before .before .before .before .before .before .before .before .before .before .before .before .before .before .before .before .parse-xml .ensures) (c .before .before .before .before .before .before .before .before .before .n .given .1) (c .before .before .before .before .find-element .ensures) (c .before .before .k .given .1)
 
 enum-told-2 : tie.Need-enum-told-2
 enum-told-2 c = search needs
@@ -81,17 +51,7 @@ same-length-6 : tie.Need-same-length-6
 same-length-6 c = search needs
 
 returns-2 : tie.Need-returns-2
-returns-2 c =
-    let p = c .before .before .before .before .before .before .before .before .before .before .before .before .before .before .before .before .before .before in
-    let a = p .before .before .before .before .before .before .before .before .args in
-    let s = a .text .now in
-    let x = length (a .nodes .now) in
-    let y = length (a .attrs .now) in
-    let z = length (a .strings .now) in
-    let q = p .parse-xml .ensures in
-    let e = sym (q .0) ∙ c .before .before .before .before .before .before .before .before .before .before .n .given .1 in
-    let f = c .before .before .before .before .before .find-element .ensures 0 _ (left-stands s x y z _ (q .1 .0)) (left-count s x y z _ _ e) in
-    promised s x y z _ (ap (λ (d : Element). d .many) (c .element-at .ensures) ∙ on-row s x y z _ _ e (q .1 .0) (q .1 .1 .0) (q .1 .1 .1) _ (sym f ∙ c .before .before .before .k .given .1))
+returns-2 c = on-row _ _ _ _ (c .before .before .before .before .before .before .before .before .before .before .before .before .before .before .before .before .before .before .parse-xml .ensures) (c .before .before .before .before .before .before .before .before .before .before .n .given .1) (c .before .before .before .before .before .find-element .ensures) (c .before .before .before .k .given .1) (c .element-at .ensures)
 
 same-length-7 : tie.Need-same-length-7
 same-length-7 c = search needs
@@ -103,17 +63,7 @@ same-length-9 : tie.Need-same-length-9
 same-length-9 c = search needs
 
 returns-3 : tie.Need-returns-3
-returns-3 c =
-    let p = c .before .before .before .before .before .before .before .before .before .before .before .before .before .before .before in
-    let a = p .before .before .before .before .before .before .before .before .args in
-    let s = a .text .now in
-    let x = length (a .nodes .now) in
-    let y = length (a .attrs .now) in
-    let z = length (a .strings .now) in
-    let q = p .parse-xml .ensures in
-    let e = sym (q .0) ∙ c .before .before .before .before .before .before .before .n .given .1 in
-    let f = c .before .before .find-element .ensures 0 _ (left-stands s x y z _ (q .1 .0)) (left-count s x y z _ _ e) in
-    promised s x y z _ (on-nothing s x y z _ _ e (q .1 .0) (q .1 .1 .0) (q .1 .1 .1) (sym f ∙ c .enum-told2 .given .1))
+returns-3 c = on-nothing _ _ _ _ (c .before .before .before .before .before .before .before .before .before .before .before .before .before .before .before .parse-xml .ensures) (c .before .before .before .before .before .before .before .n .given .1) (c .before .before .find-element .ensures) (c .enum-told2 .given .1)
 
 pub root-attributes-spec : {M : Type 1} → statement M
 root-attributes-spec =
