@@ -3,8 +3,9 @@
 --     holds-alone, siblings-of, owned-of, has-row     what the searches require
 --     is-element-text, is-element-section, is-element-elem   what `isElement` says of a row
 --     find-nothing, find-found                        what `findRow` says of the tree
+--     many-shown                                      as many attributes are shown as there are
 --     value-shown, value-absent, absent-value, value-at      what `findValue` says of the attributes
-use Prim.Native.Nat.{ℕ, _+_, _≤_, _<_}
+use Prim.Native.Nat.{ℕ, suc, _+_, _≤_, _<_}
 use mathlib.Core.Path.{_≡_, refl, sym, ap, _∙_}
 use mathlib.Core.Bool.{true, false}
 use mathlib.Core.List.{List, [], _∷_, _++_, append-assoc}
@@ -197,6 +198,12 @@ find-found {t} {u} {z} {name} {i} {a} {k} (elem p n l c f) h e =
           matches = w;
           is = rw w;
         })
+
+-- ---- how many attributes there are
+pub many-shown : (z : List ℕ) (l : List Attr) → length (attrsIn z l) ≡ length l
+unfolding attrsIn
+many-shown z [] = refl
+many-shown z (x ∷ l) = ap suc (many-shown z l)
 
 -- ---- what `findValue` says of the attributes
 -- a value as the strings have it

@@ -2,7 +2,9 @@
 --     left-stands, left-listed      the rows of the tree's nodes and of its attributes stand in the tables
 --     left-length, left-placed      its strings stand in order within the table of strings
 --     left-string                   each with its entities read at its place
-use Prim.Native.Nat.{ℕ, _≤_, _<_}
+--     left-holds                    the three at once, as the searches take them
+--     left-count, left-siblings     where the answer is a tree, its count of nodes is the tree's, and these rows are siblings
+use Prim.Native.Nat.{ℕ, _+_, _≤_, _<_}
 use mathlib.Core.Path.{_≡_, refl, sym, ap, _∙_}
 use mathlib.Core.Bool.{Bool, true, false}
 use mathlib.Core.List.{List}
@@ -14,10 +16,15 @@ use Rattle.tree.specs.Trees.{Forest, size, attrsOf, rows, attrRows, spans, InOr
 use Rattle.tree.specs.Read.{Out, got, nothing, bad, meaning, answerOf, nodesOf, attrCells}
 use Rattle.tree.specs.Walks.{treeOf, Stands, Listed}
 use Rattle.tree.proofs.Places.{in-higher, meaning-placed}
+use Rattle.tree.specs.declared.answers.Answer.{Answer}
+use Rattle.tree.specs.declared.answers.Answer.the-variants.{Tree}
 use Rattle.scan.specs.Part.{stringAt}
+use Rattle.xml.specs.Find.{Holds, Siblings}
 use Rattle.xml.specs.Reading.{Placed, strings, lay, readForest, raw, readOut, stringsOf}
 use Rattle.xml.proofs.Lays.{lay-length}
-use Rattle.xml.proofs.Parsing.{raw-small, raw-enough, short-text}
+use Rattle.xml.proofs.PassForests.{size-read}
+use Rattle.xml.proofs.FindLaws.{siblings-of}
+use Rattle.xml.proofs.Parsing.{raw-small, raw-enough, short-text, Left}
 use Rattle.xml.proofs.Shown.{order-read, string-stands}
 
 -- ---- rows
@@ -39,6 +46,13 @@ unfolding stringsOf
 length-of z s (got f q k a) = lay-length (strings s f) (replicate z 0) ∙ length-replicate {A = ℕ} z 0
 length-of z s (nothing q) = length-replicate {A = ℕ} z 0
 length-of z s (bad i q) = length-replicate {A = ℕ} z 0
+
+-- ---- counts
+count-of : (s : List ℕ) (o : Out) (i j : ℕ) → answerOf o ≡ Tree i j → size (treeOf (readOut s o)) ≡ i
+unfolding answerOf treeOf readOut size
+count-of s (got f q k a) i j e = size-read s f ∙ cc
+count-of s (nothing q) i j e = cc
+count-of s (bad n p) i j e = let d : _≡_ {A = ℕ} 0 1 = cc in absurd (omega arith)
 
 module _ (s : List ℕ) (n m z : ℕ) where
   -- a forest was read: it is the text's, and the text is no longer than the table of strings
@@ -84,3 +98,19 @@ module _ (s : List ℕ) (n m z : ℕ) where
         let r = forest-read f q k a g in
         let x : w ≡ lay (replicate z 0) (strings s f) = rw g at e in
         rw x (string-stands s f 0 z (r .0) (r .1) none i h)
+
+-- ---- by the promises of `parse_xml` at once, for the searches
+module _ (s : List ℕ) (n m z : ℕ) {r : Answer} {t u w : List ℕ} (l : Left s n m z (raw s n m z) r t u w) where
+  pub left-holds : Holds t u w 0 0 (treeOf (readOut s (raw s n m z)))
+  left-holds = record {
+    stands = left-stands s n m z t (l .1 .0);
+    listed = left-listed s n m z u (l .1 .1 .0);
+    lo = 0;
+    placed = left-placed s n m z w (l .1 .1 .1);
+  }
+
+  pub left-count : {i j : ℕ} → r ≡ Tree i j → 0 + size (treeOf (readOut s (raw s n m z))) ≡ i
+  left-count {i} {j} e = omega (arith, count-of s (raw s n m z) i j (sym (l .0) ∙ e))
+
+  pub left-siblings : {i j : ℕ} → r ≡ Tree i j → Siblings t w 0 i
+  left-siblings e = rw (left-count e) at (siblings-of left-holds)

@@ -1,16 +1,19 @@
 -- The theorem of the crate: of every text within the limits 1 to 3, what `parse_xml` leaves shows the tree that the grammar derives, with its
 -- entities read; or it refuses with the first number that the text meets. Assumes nothing.
 --     parsed, parsed-is              what the tables show is what the grammar's reader answers
---     takes-exactly, gives-that-tree, refuses-exactly   the demand
---     small-strings, small-nodes, small-attrs, too-long, not-utf8   the numbers 1 to 3, in this order
+--     takes-exactly, gives-that-tree, refuses-exactly   the demand; parsed-derived: of a text that derives a tree, it shows that tree
+--     small-strings, small-nodes, small-attrs, too-long, not-utf8   the numbers 1 to 3, in this order; taken-fits: a text that is taken meets none
 --     answers-tree, answers-refused  the program's answer tells which it is
 --     left-shows                     the tree that the tables show is that of `parsed`
 use Prim.Native.Nat.{ℕ, _≤_, _<_}
 use mathlib.Core.Path.{_≡_, refl, sym, ap, ap₂, _∙_}
+use mathlib.Core.Bool.{Bool, true, false}
 use mathlib.Core.Logic.{_↔_}
 use mathlib.Core.List.{List}
 use native.Mathlib.Omega.{arith}
 use lib.ListN.{length}
+use lib.Dec.{ltb}
+use borrow.Author.Tests.{ltb-true, ltb-false}
 use Rattle.entities.specs.Decode.{decoded}
 use Rattle.tree.specs.Trees as placed
 use Rattle.tree.specs.Trees.{spans, InOrder}
@@ -101,6 +104,9 @@ module _ (s : List ℕ) (n m z : ℕ) where
     pub gives-that-tree : (f g : Forest) → Derives s f → parsed s n m z ≡ tree g → g ≡ decodeForest decoded f
     gives-that-tree f g d e = grammar.gives-that-tree decoded s f g d (sym parsed-is ∙ e)
 
+    pub parsed-derived : (f : Forest) → Derives s f → parsed s n m z ≡ tree (decodeForest decoded f)
+    parsed-derived f d = let x = takes-exactly .1 (f, d) in x .1 ∙ ap tree (gives-that-tree f (x .0) d (x .1))
+
     -- the number answered is the first that is met
     pub refuses-exactly : (i p : ℕ) → (parsed s n m z ≡ refused i p) ↔ FirstMet 64 8192 8192 s i p
     refuses-exactly i p =
@@ -127,6 +133,30 @@ module _ (s : List ℕ) (n m z : ℕ) where
 
     pub not-utf8 : 49152 ≤ n → 32768 ≤ m → length s ≤ 65536 → utf8End s < length s → parsed s n m z ≡ refused 3 (utf8End s)
     not-utf8 h g l b = turned-away 3 (utf8End s) (raw-enough s n m z enough ∙ whole.not-utf8 s n m (utf8End s) h g l refl b)
+
+  -- a text that is taken meets none of the three
+  pub taken-fits : (g : Forest) → parsed s n m z ≡ tree g → Fits s n m × (65536 ≤ z)
+  taken-fits g e = by (ltb z 65536) (ltb n 49152) (ltb m 32768) (ltb 65536 (length s)) (ltb (utf8End s) (length s)) refl refl refl refl refl
+    where
+      no : {A : Type 0} (i p : ℕ) → parsed s n m z ≡ refused i p → A
+      no i p x = let d : _≡_ {A = ℕ} 0 1 = cc in absurd (omega arith)
+
+      by : (a b c d k : Bool) → ltb z 65536 ≡ a → ltb n 49152 ≡ b → ltb m 32768 ≡ c → ltb 65536 (length s) ≡ d → ltb (utf8End s) (length s) ≡ k → Fits s n m × (65536 ≤ z)
+      by true b c d k v w x y u = no 1 0 (small-strings (ltb-true z 65536 v))
+      by false true c d k v w x y u = no 1 0 (small-nodes (ltb-false z 65536 v) (ltb-true n 49152 w))
+      by false false true d k v w x y u = no 1 0 (small-attrs (ltb-false z 65536 v) (ltb-false n 49152 w) (ltb-true m 32768 x))
+      by false false false true k v w x y u = no 2 0 (too-long (ltb-false z 65536 v) (ltb-false n 49152 w) (ltb-false m 32768 x) (ltb-true 65536 (length s) y))
+      by false false false false true v w x y u =
+          no 3 (utf8End s) (not-utf8 (ltb-false z 65536 v) (ltb-false n 49152 w) (ltb-false m 32768 x) (ltb-false 65536 (length s) y) (ltb-true (utf8End s) (length s) u))
+      by false false false false false v w x y u = (
+        record {
+          long = ltb-false n 49152 w;
+          wide = ltb-false m 32768 x;
+          short = ltb-false 65536 (length s) y;
+          valid = ltb-false (utf8End s) (length s) u;
+        },
+        ltb-false z 65536 v,
+      )
 
   -- ---- the answer
   pub answers-tree : ((i : ℕ) × (j : ℕ) × (answerOf (raw s n m z) ≡ Tree i j)) ↔ ((g : Forest) × (parsed s n m z ≡ tree g))

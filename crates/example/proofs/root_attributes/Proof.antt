@@ -1,0 +1,91 @@
+-- `root_attributes` meets its promise: each way through it is a law of `Counting`.
+use Rattle.xml.proofs.Tables.{left-siblings}
+use Rattle.example.proofs.Counting.{on-refusal, on-nothing, on-row, row-there}
+use borrow.Author.Needs.{needs}
+use Rattle.example.proofs.root_attributes.Statement.{statement}
+use Rattle.example.proofs.root_attributes.Tie as tie
+
+parse-xml-requires : tie.Need-parse-xml-requires
+parse-xml-requires c κs = search needs
+
+enum-known-n : tie.Need-enum-known-n
+enum-known-n c = search needs
+
+enum-told : tie.Need-enum-told
+enum-told c = search needs
+
+same-length : tie.Need-same-length
+same-length c = search needs
+
+same-length-2 : tie.Need-same-length-2
+same-length-2 c = search needs
+
+same-length-3 : tie.Need-same-length-3
+same-length-3 c = search needs
+
+returns : tie.Need-returns
+returns c = on-refusal _ _ _ _ (c .before .before .before .before .before .before .before .before .parse-xml .ensures) (c .enum-told .given .1)
+
+slice-aggregate-find-element : tie.Need-slice-aggregate-find-element
+slice-aggregate-find-element c = search needs
+
+find-element-requires : tie.Need-find-element-requires
+find-element-requires c κs = left-siblings _ _ _ _ (c .before .before .before .before .before .before .before .before .before .before .before .before .parse-xml .ensures) (c .before .before .before .before .n .given .1)
+
+enum-known-k : tie.Need-enum-known-k
+enum-known-k c = search needs
+
+element-at-requires : tie.Need-element-at-requires
+element-at-requires c κs = row-there _ _ _ _ (c .before .before .before .before .before .before .before .before .before .before .before .before .before .before .before .before .before .parse-xml .ensures) (c .before .before .before .before .before .before .before .before .before .n .given .1) (c .before .before .before .before .find-element .ensures) (c .before .before .k .given .1)
+
+enum-told-2 : tie.Need-enum-told-2
+enum-told-2 c = search needs
+
+same-length-4 : tie.Need-same-length-4
+same-length-4 c = search needs
+
+same-length-5 : tie.Need-same-length-5
+same-length-5 c = search needs
+
+same-length-6 : tie.Need-same-length-6
+same-length-6 c = search needs
+
+returns-2 : tie.Need-returns-2
+returns-2 c = on-row _ _ _ _ (c .before .before .before .before .before .before .before .before .before .before .before .before .before .before .before .before .before .before .parse-xml .ensures) (c .before .before .before .before .before .before .before .before .before .before .n .given .1) (c .before .before .before .before .before .find-element .ensures) (c .before .before .before .k .given .1) (c .element-at .ensures)
+
+same-length-7 : tie.Need-same-length-7
+same-length-7 c = search needs
+
+same-length-8 : tie.Need-same-length-8
+same-length-8 c = search needs
+
+same-length-9 : tie.Need-same-length-9
+same-length-9 c = search needs
+
+returns-3 : tie.Need-returns-3
+returns-3 c = on-nothing _ _ _ _ (c .before .before .before .before .before .before .before .before .before .before .before .before .before .before .before .parse-xml .ensures) (c .before .before .before .before .before .before .before .n .given .1) (c .before .before .find-element .ensures) (c .enum-told2 .given .1)
+
+pub root-attributes-spec : {M : Type 1} → statement M
+root-attributes-spec =
+    tie.close
+    (tie.spec
+    parse-xml-requires
+    enum-known-n
+    enum-told
+    same-length
+    same-length-2
+    same-length-3
+    returns
+    slice-aggregate-find-element
+    find-element-requires
+    enum-known-k
+    element-at-requires
+    enum-told-2
+    same-length-4
+    same-length-5
+    same-length-6
+    returns-2
+    same-length-7
+    same-length-8
+    same-length-9
+    returns-3)
