@@ -3,9 +3,10 @@
 --     run-here, run-on, run-out      where a run ends, by the byte at its place
 --     run-ind                        what each byte that passes keeps holds where the run ends
 --     run-low, run-high, run-stops, run-all   what follows for every run
+--     passes-more, run-over, skips-more   bytes that all pass are passed over at once
 --     run-length                     a run as the length of a beginning
 --     ends-here, ends-out            what a loop over bytes ensures where it ends
-use Prim.Native.Nat.{ℕ, suc, _+_, _≤_, _<_}
+use Prim.Native.Nat.{ℕ, zero, suc, _+_, _-_, _≤_, _<_}
 use mathlib.Core.Path.{_≡_, refl, sym, subst, _∙_}
 use mathlib.Core.Bool.{Bool, true, false}
 use mathlib.Core.List.{List}
@@ -18,7 +19,7 @@ use lib.Dec.{eqb}
 use borrow.Author.Tests.{eqb-true, eqb-false, ne-eqb, le-leb, lt-leb}
 use Rattle.scan.specs.Loop.{halt, more}
 use Rattle.scan.specs.Bytes.{blank, nameByte, attrNameByte, digitByte, runTurn, runEnd, runLength}
-use Rattle.scan.specs.Posts.{Ends}
+use Rattle.scan.specs.Posts.{Ends, Passes, Skips}
 use Rattle.scan.proofs.Loop.{loop-out, loop-halt, loop-more, loop-ind, halt-inj, more-inj, halt≢more, more≢halt}
 
 -- ---- a byte's class
@@ -135,6 +136,21 @@ run-length t s p l = sym (run-ind t s (λ i. (i ≤ length s) × (p + runLength 
     ends i h j =
         let d : runLength t (drop i s) ≡ 0 = rw (drop-of-length-le s h) in
         omega (arith, d, j .1)
+
+-- ---- blocks of bytes that pass
+pub passes-more : (t : ℕ → Bool) (s : List ℕ) (p e e′ : ℕ) → e′ ≡ e + 1 → Passes t s p e → t (getD s e 0) ≡ true → Passes t s p e′
+passes-more t s p e e′ w b g k l h = by (eqb k e) refl
+  where
+    by : (x : Bool) → eqb k e ≡ x → t (getD s k 0) ≡ true
+    by true z = rw (eqb-true k e z) g
+    by false z = let n : k ≡ e → ⊥ = eqb-false k e z in b k l (omega arith)
+
+pub run-over : (t : ℕ → Bool) (s : List ℕ) (n i e : ℕ) → e ≡ i + n → e ≤ length s → Passes t s i e → runEnd t s i ≡ runEnd t s e
+run-over t s zero i e w h b = let z : e ≡ i = omega arith in rw z
+run-over t s (suc n) i e w h b = run-on t s i (omega arith) (b i (omega arith) (omega arith)) ∙ run-over t s n (i + 1) e (omega arith) h (λ k l q. b k (omega arith) q)
+
+pub skips-more : (t : ℕ → Bool) (s : List ℕ) (p i e : ℕ) → i ≤ e → e ≤ length s → Skips t s p i → Passes t s i e → Skips t s p e
+skips-more t s p i e l h k b = record { after = omega (arith, k .after); within = h; same = k .same ∙ run-over t s (e - i) i e (omega arith) h b }
 
 -- ---- what the loops over bytes ensure where they end
 module _ (t : ℕ → Bool) (s : List ℕ) (p i : ℕ) (l : p ≤ i) (w : runEnd t s p ≡ runEnd t s i) where

@@ -1,16 +1,19 @@
 -- Laws of marks. Assumes nothing.
-use Prim.Native.Nat.{ℕ, _+_, _≤_, _<_}
-use mathlib.Core.Path.{_≡_, sym, _∙_}
-use mathlib.Core.Bool.{true, false}
+use Prim.Native.Nat.{ℕ, zero, suc, _+_, _-_, _≤_, _<_}
+use mathlib.Core.Path.{_≡_, refl, sym, _∙_}
+use mathlib.Core.Bool.{Bool, true, false, false≢true}
 use mathlib.Core.List.{List}
 use native.Mathlib.Omega.{arith}
 use native.Mathlib.Numerals.{add-one}
 use lib.ListN.{length, getD, drop, drop-of-length-le}
 use lib.Seq.{drop-cons}
-use borrow.Author.Tests.{lt-ltb, le-ltb, eq-eqb, ne-eqb}
+use lib.Dec.{eqb, ltb}
+use borrow.Author.Tests.{lt-ltb, le-ltb, ltb-true, ltb-false, eq-eqb, ne-eqb, eqb-true, eqb-false, not-true}
+use Rattle.scan.specs.Bytes.{other, runEnd}
 use Rattle.scan.specs.Marks.{startsAt, seekTurn, seek, past}
-use Rattle.scan.specs.Posts.{Found, Passed}
+use Rattle.scan.specs.Posts.{Ends, Found, Passed}
 use Rattle.scan.proofs.Loop.{loop-out, loop-halt, loop-more}
+use Rattle.scan.proofs.Runs.{run-all}
 
 -- ---- a mark at i, from its j-th byte on
 module _ (s m : List ℕ) (i j : ℕ) where
@@ -52,7 +55,77 @@ module _ (m s : List ℕ) (i : ℕ) where
   unfolding past
   past-none r e h = rw (← e, le-ltb r (length s) h)
 
+-- ---- a mark that stands at a place stands there byte by byte
+module _ (s m : List ℕ) (i j : ℕ) (h : j < length m) where
+  pub mark-here : startsAt s i (drop j m) ≡ true → (i < length s) × (getD s i 0 ≡ getD m j 0)
+  mark-here e = by (ltb i (length s)) refl (eqb (getD s i 0) (getD m j 0)) refl
+    where
+      by : (x : Bool) → ltb i (length s) ≡ x → (y : Bool) → eqb (getD s i 0) (getD m j 0) ≡ y → (i < length s) × (getD s i 0 ≡ getD m j 0)
+      by true u true w = (ltb-true i (length s) u, eqb-true _ _ w)
+      by true u false w = absurd (false≢true (sym (mark-off s m i j h (ltb-true i (length s) u) (eqb-false _ _ w)) ∙ e))
+      by false u y w = absurd (false≢true (sym (mark-end s m i j h (ltb-false i (length s) u)) ∙ e))
+
+mark-at : (s m : List ℕ) (p n q k : ℕ) → q ≡ p + n → k ≡ n → n ≤ length m → startsAt s p m ≡ true → startsAt s q (drop k m) ≡ true
+mark-at s m p zero q k u w h e =
+    let z : q ≡ p = omega arith in
+    rw (z, w) e
+mark-at s m p (suc n) q k u w h e =
+    let f : startsAt s (p + n) (drop n m) ≡ true = mark-at s m p n (p + n) n refl refl (omega arith) e in
+    let g = mark-here s m (p + n) n (omega arith) f in
+    let z : q ≡ p + n + 1 = omega arith in
+    let y : k ≡ n + 1 = omega arith in
+    rw (z, y) (sym (mark-on s m (p + n) n (omega arith) (g .0) (g .1)) ∙ f)
+
+module _ (s m : List ℕ) (j n : ℕ) (h : n < length m) where
+  stands : startsAt s j m ≡ true → (j + n < length s) × (getD s (j + n) 0 ≡ getD m n 0)
+  stands e = mark-here s m (j + n) n h (mark-at s m j n (j + n) n refl refl (omega arith) e)
+
+  -- where one of its bytes differs, or lies beyond the text, it does not stand
+  pub mark-not : (getD s (j + n) 0 ≡ getD m n 0 → ⊥) → startsAt s j m ≡ false
+  mark-not d = by (startsAt s j m) refl
+    where
+      by : (x : Bool) → startsAt s j m ≡ x → startsAt s j m ≡ false
+      by true e = absurd (d (stands e .1))
+      by false e = e
+
+  pub mark-beyond : length s ≤ j + n → startsAt s j m ≡ false
+  mark-beyond l = by (startsAt s j m) refl
+    where
+      by : (x : Bool) → startsAt s j m ≡ x → startsAt s j m ≡ false
+      by true e = let f = stands e .0 in absurd (omega arith)
+      by false e = e
+
+-- places where it does not stand are passed over at once
+seek-pass : (m s : List ℕ) (k i e : ℕ) → e ≡ i + k → e ≤ length s → ((j : ℕ) → i ≤ j → j < e → startsAt s j m ≡ false) → seek m s i ≡ seek m s e
+seek-pass m s zero i e w h b = let z : e ≡ i = omega arith in rw z
+seek-pass m s (suc k) i e w h b = seek-on m s i (omega arith) (b i (omega arith) (omega arith)) ∙ seek-pass m s k (i + 1) e (omega arith) h (λ j l q. b j (omega arith) q)
+
+module _ (m s : List ℕ) (n i : ℕ) (h : n < length m) where
+  -- the search goes on where the mark's n-th byte stands next
+  pub seek-far : (q r : ℕ) → (getD s (i + n) 0 ≡ getD m n 0 → ⊥) → q ≡ i + n + 1 → Ends (other (getD m n 0)) s q r → seek m s i ≡ seek m s (r - n)
+  seek-far q r d w f = seek-pass m s (r - n - i) i (r - n) (omega (arith, f .after)) (omega (arith, f .within)) (λ j l g. mark-not s m j n h (differs j l g (eqb j i) refl))
+    where
+      differs : (j : ℕ) → i ≤ j → j < r - n → (x : Bool) → eqb j i ≡ x → getD s (j + n) 0 ≡ getD m n 0 → ⊥
+      differs j l g true z = let y : j ≡ i = eqb-true j i z in rw y d
+      differs j l g false z =
+          let y : j ≡ i → ⊥ = eqb-false j i z in
+          let u : j + n < runEnd (other (getD m n 0)) s q = omega (arith, f .is) in
+          eqb-false _ _ (not-true _ (run-all (other (getD m n 0)) s q (j + n) (omega arith) u))
+
+  pub seek-short : i ≤ length s → length s ≤ i + n → seek m s i ≡ length s
+  seek-short l g = seek-pass m s (length s - i) i (length s) (omega arith) (omega arith) (λ j a b. mark-beyond s m j n h (omega arith)) ∙ seek-out m s (length s) (omega arith)
+
 -- ---- what the searches ensure where they end
+pub found-empty : (m s : List ℕ) (p : ℕ) → length m ≡ 0 → p ≤ length s → Found m s p p
+found-empty m s p z l = record { is = sym (by (ltb p (length s)) refl); after = omega arith; within = l; whole = λ k. omega arith }
+  where
+    by : (x : Bool) → ltb p (length s) ≡ x → seek m s p ≡ p
+    by true u = seek-here m s p (ltb-true p (length s) u) (mark-out s m p 0 (omega arith))
+    by false u = seek-out m s p (ltb-false p (length s) u)
+
+pub found-none : (m s : List ℕ) (p i n : ℕ) → p ≤ i → seek m s p ≡ seek m s i → n < length m → i ≤ length s → length s ≤ i + n → Found m s p (length s)
+found-none m s p i n l w h a b = record { is = sym (w ∙ seek-short m s n i h a b); after = omega arith; within = omega arith; whole = λ k. absurd (omega arith) }
+
 module _ (m s : List ℕ) (p i : ℕ) (l : p ≤ i) (w : seek m s p ≡ seek m s i) where
   pub found-here : i < length s → startsAt s i m ≡ true → i + length m ≤ length s → Found m s p i
   found-here h e g = record { is = sym (w ∙ seek-here m s i h e); after = l; within = omega arith; whole = λ k. g }

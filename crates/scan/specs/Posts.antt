@@ -17,6 +17,16 @@ pub record Ends (t : ℕ → Bool) (s : List ℕ) (p r : ℕ) : Type 0 where
   pub within : r ≤ length s
   pub stops : r < length s → t (getD s r 0) ≡ false
 
+-- the bytes from p up to e pass the test
+abbrev pub Passes : (ℕ → Bool) → List ℕ → ℕ → ℕ → Type 0
+Passes t s p e = (k : ℕ) → p ≤ k → k < e → t (getD s k 0) ≡ true
+
+-- the run of bytes from p that pass the test ends where the run from r does
+pub record Skips (t : ℕ → Bool) (s : List ℕ) (p r : ℕ) : Type 0 where
+  pub after : p ≤ r
+  pub within : r ≤ length s
+  pub same : runEnd t s p ≡ runEnd t s r
+
 -- r says whether the mark stands at p
 pub record Marked (m s : List ℕ) (p : ℕ) (r : Bool) : Type 0 where
   pub is : r ≡ startsAt s p m

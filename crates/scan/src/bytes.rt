@@ -1,10 +1,11 @@
 // Classes of bytes, and where a run of them ends. A byte is classified by a `match`, which compiles
 // to a few comparisons: these loops are the hot path of reading.
 ghost use mathlib.Core.Path.{_≡_};
-ghost use Prim.Native.Nat.{_≤_};
+ghost use mathlib.Core.Bool.{false};
+ghost use Prim.Native.Nat.{_+_, _≤_};
 ghost use lib.ListN.{length};
 ghost use Rattle.scan.specs.Bytes.{blank, nameByte, attrNameByte, digitByte, member, isOut, other};
-ghost use Rattle.scan.specs.Posts.{Ends};
+ghost use Rattle.scan.specs.Posts.{Ends, Passes, Skips};
 
 // The classes that the grammar names.
 pub enum Class {
@@ -69,8 +70,19 @@ pub fn is_of(class: Class, b: u8) -> bool
     }
 }
 
-// Where the run of bytes of the class ends.
+// Where the run of bytes of the class ends. A text is long as a rule.
 pub fn over(src: &[u8], pos: usize, class: Class) -> usize
+    requires { ⌜ pos ≤ length (now src) ⌝ }
+    ensures { λ r. ⌜ Ends (member class) (now (src .entry)) pos r ⌝ }
+{
+    match class {
+        Class::Text => find_far(src, pos, b'<'),
+        _ => over_each(src, pos, class),
+    }
+}
+
+// The same byte by byte: for runs that are short as a rule.
+fn over_each(src: &[u8], pos: usize, class: Class) -> usize
     requires { ⌜ pos ≤ length (now src) ⌝ }
     ensures { λ r. ⌜ Ends (member class) (now (src .entry)) pos r ⌝ }
 {
@@ -105,6 +117,53 @@ pub fn find_byte(src: &[u8], pos: usize, b: u8) -> usize
     ensures { λ r. ⌜ Ends (other b) (now (src .entry)) pos r ⌝ }
 {
     let mut i = pos;
+    while i < src.len() {
+        if src[i] == b {
+            return i;
+        }
+        i += 1;
+    }
+    i
+}
+
+// Is the byte among the 16 from the place on? Its loop has no early way out, so the compiler takes
+// the 16 at once.
+fn has_byte(src: &[u8], pos: usize, b: u8) -> bool
+    requires { ⌜ pos + 16 ≤ length (now src) ⌝ }
+    ensures { λ r. ⌜ (r ≡ false → Passes (other b) (now (src .entry)) pos (pos + 16)) ⌝ }
+{
+    let mut has = false;
+    let mut i = 0;
+    while i < 16 {
+        if src[pos + i] == b {
+            has = true;
+        }
+        i += 1;
+    }
+    has
+}
+
+// Where the blocks of 16 bytes without the byte end.
+fn skip_blocks(src: &[u8], pos: usize, b: u8) -> usize
+    requires { ⌜ pos ≤ length (now src) ⌝ }
+    ensures { λ r. ⌜ Skips (other b) (now (src .entry)) pos r ⌝ }
+{
+    let mut i = pos;
+    while 16 <= src.len() - i {
+        if has_byte(src, i, b) {
+            return i;
+        }
+        i += 16;
+    }
+    i
+}
+
+// The first place of the byte, or the length, by blocks: where it is far as a rule.
+pub fn find_far(src: &[u8], pos: usize, b: u8) -> usize
+    requires { ⌜ pos ≤ length (now src) ⌝ }
+    ensures { λ r. ⌜ Ends (other b) (now (src .entry)) pos r ⌝ }
+{
+    let mut i = skip_blocks(src, pos, b);
     while i < src.len() {
         if src[i] == b {
             return i;

@@ -24,19 +24,27 @@ pub fn starts_with(src: &[u8], pos: usize, mark: &[u8]) -> bool
     true
 }
 
-// The first place of the mark, or the length.
+// The first place of the mark, or the length: where its last byte stands it is compared.
 pub fn find_seq(src: &[u8], pos: usize, mark: &[u8]) -> usize
     requires { ⌜ pos ≤ length (now src) ⌝ }
     ensures { λ r. ⌜ Found (now (mark .entry)) (now (src .entry)) pos r ⌝ }
 {
-    let mut i = pos;
-    while i < src.len() {
-        if starts_with(src, i, mark) {
-            return i;
-        }
-        i += 1;
+    if mark.len() == 0 {
+        return pos;
     }
-    i
+    let n = mark.len() - 1;
+    let mut i = pos;
+    while n < src.len() - i {
+        if src[i + n] == mark[n] {
+            if starts_with(src, i, mark) {
+                return i;
+            }
+            i += 1;
+        } else {
+            i = crate::bytes::find_far(src, i + n + 1, mark[n]) - n;
+        }
+    }
+    src.len()
 }
 
 // The place after the first mark, or the length.

@@ -1,56 +1,24 @@
--- `over` meets its contract. The loop's invariant: the run from `pos` ends where the run from `i` does. The measure is what is left of the text.
-use Prim.Native.Nat.{_-_, _≤_}
-use mathlib.Core.Path.{_≡_, refl, sym, _∙_}
-use native.Mathlib.Omega.{arith}
+-- `over` meets its contract: a text ends at its first `<`, and the other runs are read byte by byte.
 use borrow.Author.Needs.{needs}
-use borrow.Author.Tests.{not-true, not-false}
-use lib.ListN.{length}
-use Rattle.scan.specs.Bytes.{member, runEnd}
-use Rattle.scan.proofs.Runs.{run-on, ends-here, ends-out}
+use Rattle.scan.specs.Bytes.{textByte}
 use Rattle.scan.proofs.bytes.over.Statement.{statement}
 use Rattle.scan.proofs.bytes.over.Tie as tie
 
-abbrev Inv-loop : tie.InvT-loop
-Inv-loop src pos class i₀ i = (i ≤ length src) × (pos ≤ i) × (runEnd (member class) src pos ≡ runEnd (member class) src i)
+enum-told : tie.Need-enum-told
+enum-told c = search needs
 
-abbrev μ-loop : tie.MeasureT-loop
-μ-loop src pos class i₀ i = length src - i
+find-far-requires : tie.Need-find-far-requires
+find-far-requires c κs = search needs
 
-loop-holds : tie.Need-loop-holds Inv-loop μ-loop
-loop-holds c = (omega arith, omega arith, refl)
+over-each-requires : tie.Need-over-each-requires
+over-each-requires c κs = search needs
 
-shared-slice-read-is-of : tie.Need-shared-slice-read-is-of Inv-loop μ-loop
-shared-slice-read-is-of c = omega arith
+returns : tie.Need-returns
+unfolding textByte
+returns c = rw (c .before .enum-told .given .1) (c .find-far .ensures)
 
-is-of-requires : tie.Need-is-of-requires Inv-loop μ-loop
-is-of-requires c κs = search needs
-
-returns : tie.Need-returns Inv-loop μ-loop
-returns c = ends-here (member (c .before .before .before .before .before .before .args .class)) (c .before .before .before .before .before .before .args .src .now) _ _ (c .before .before .before .before .loop .inv .1) (c .before .before .before .before .loop .inv .2) (c .before .before .before .loop-test .taken) (sym (c .before .is-of .ensures) ∙ not-true _ (c .if1 .taken))
-
-add-i : tie.Need-add-i Inv-loop μ-loop
-add-i c = omega arith
-
-loop-less : tie.Need-loop-less Inv-loop μ-loop
-loop-less c = omega arith
-
-loop-again : tie.Need-loop-again Inv-loop μ-loop
-loop-again c = (omega arith, omega arith, c .before .before .before .before .loop .inv .2 ∙ run-on (member (c .before .before .before .before .before .before .args .class)) (c .before .before .before .before .before .before .args .src .now) _ (c .before .before .before .loop-test .taken) (sym (c .before .is-of .ensures) ∙ not-false _ (c .if1 .left)))
-
-returns-2 : tie.Need-returns-2 Inv-loop μ-loop
-returns-2 c = ends-out (member (c .before .before .before .args .class)) (c .before .before .before .args .src .now) _ _ (c .before .loop .inv .1) (c .before .loop .inv .2) (c .before .loop .inv .0) (c .loop-test .left)
+returns-2 : tie.Need-returns-2
+returns-2 c = search needs
 
 pub over-spec : {M : Type 1} → statement M
-over-spec =
-    tie.close
-    (tie.spec
-    Inv-loop
-    μ-loop
-    loop-holds
-    shared-slice-read-is-of
-    is-of-requires
-    returns
-    add-i
-    loop-less
-    loop-again
-    returns-2)
+over-spec = tie.close (tie.spec enum-told find-far-requires over-each-requires returns returns-2)
