@@ -19,3 +19,4 @@ pub mod CuesLaid
 pub mod LayoutLaws
 pub mod PlainExamples
 pub mod LayoutExamples
+pub mod Listed
