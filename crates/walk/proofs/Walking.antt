@@ -1,15 +1,17 @@
 -- Laws of a walk over segments. Assumes nothing.
---     text-step                                               the text of rows is that of the first, of its children and of the rest
---     text-within, walk-readable                              a text is within the table; the first row can be read
---     Walking                                                 what the program has written so far
---     walking-start, walking-step, walking-done               and how it goes on
+--     text-none, text-step                                    the text of no rows; of rows, it is that of the first, of its children and of the rest
+--     own-none                                                wrappers and timestamps have none of their own
+--     text-within                                             a text stands within its table
+--     Walking, walking-start, walking-step, walking-done      what the program has written so far, and how it goes on
+--     first, walking-own                                      what it needs to know of the next row, and of the place behind its own text
 --     walking-full, walking-torn                              where a segment's own text, or its children's, does not fit
-use Prim.Native.Nat.{ℕ, zero, suc, _+_, _-_, _*_, _≤_, _<_}
-use mathlib.Core.Path.{_≡_, refl, sym, ap, _∙_}
-use mathlib.Core.Bool.{Bool, true, false}
-use mathlib.Core.List.{List, [], _∷_, _++_, append-nil, append-assoc}
+--     walk-inside                                             what is inside a row can be walked too
+use Prim.Native.Nat.{ℕ, _+_, _-_, _≤_, _<_}
+use mathlib.Core.Path.{_≡_, refl, ap, _∙_}
+use mathlib.Core.Bool.{true}
+use mathlib.Core.List.{List, [], _++_, append-nil, append-assoc}
 use native.Mathlib.Omega.{arith}
-use lib.ListN.{length, getD, length-append}
+use lib.ListN.{length, length-append}
 use lib.Seq.{sets, length-sets}
 use lib.IntN.{ℤ}
 use lib.Ieee.{Float}
@@ -20,27 +22,27 @@ use Rattle.track.specs.declared.segments.Segment.{Segment}
 use Rattle.track.specs.Track.{Segments}
 use Rattle.track.specs.Track as track
 use Rattle.track.specs.Tables.{cell, segmentAt, segmentsAt, followedBy}
-use Rattle.track.specs.Meaning.{isSegment, areSegments}
+use Rattle.track.specs.Meaning.{areSegments}
 use Rattle.track.proofs.Spans.{span-within}
 use Rattle.track.proofs.SegmentLaws.{Walk, walk, segments-none, segments-more, Holds, segment-holds}
 use Rattle.walk.specs.Text.{plainText, ownText, TextWithin, WalkReady}
 
 -- a segment, its children and its later siblings; one without children has one row
 followed :
-    (z y : List ℕ) (m : ℕ) (s : Segment) (c x : Segments Span) → Holds z y m s → (m ≡ 1 → c ≡ track.done)
-    → plainText y (followedBy s c x) ≡ ownText y s ++ (plainText y c ++ plainText y x)
+    (z y v : List ℕ) (m : ℕ) (s : Segment) (c x : Segments Span) → Holds z y m s → (m ≡ 1 → c ≡ track.done)
+    → plainText v (followedBy s c x) ≡ ownText v s ++ (plainText v c ++ plainText v x)
 unfolding plainText ownText
-followed z y m (Segment.Text s) c x h e = rw (e (h .0))
-followed z y m Segment.Break c x h e = rw (e h)
-followed z y m (Segment.Timestamp t) c x h e = rw (e h)
-followed z y m Segment.Bold c x h e = refl
-followed z y m Segment.Italic c x h e = refl
-followed z y m Segment.Underline c x h e = refl
-followed z y m Segment.Strike c x h e = refl
-followed z y m (Segment.Color k) c x h e = refl
-followed z y m (Segment.Font k) c x h e = refl
+followed z y v m (Segment.Text s) c x h e = rw (e (h .0))
+followed z y v m Segment.Break c x h e = rw (e h)
+followed z y v m (Segment.Timestamp t) c x h e = rw (e h)
+followed z y v m Segment.Bold c x h e = refl
+followed z y v m Segment.Italic c x h e = refl
+followed z y v m Segment.Underline c x h e = refl
+followed z y v m Segment.Strike c x h e = refl
+followed z y v m (Segment.Color k) c x h e = refl
+followed z y v m (Segment.Font k) c x h e = refl
 
-text-none : (y : List ℕ) (t : List ℕ) (r : List ℤ) (f : List Float) (d i : ℕ) → plainText y (segmentsAt t r f d 0 i) ≡ []
+pub text-none : (y : List ℕ) (t : List ℕ) (r : List ℤ) (f : List Float) (d i : ℕ) → plainText y (segmentsAt t r f d 0 i) ≡ []
 unfolding plainText
 text-none y t r f d i = rw (segments-none t r f d i)
 
@@ -77,11 +79,12 @@ own-none y s at o h e g =
 
 -- the first of n rows from row i on
 module _ (t : List ℕ) (r : List ℤ) (f : List Float) (z y : List ℕ) (d n i : ℕ) (w : Walk t f z y d n i) (m : ℕ) (q : m ≡ cell 8 t i 1) (s : Segment) (p : s ≡ segmentAt t r f i) where
+  -- in any bytes v
   pub text-step :
-      plainText y (segmentsAt t r f d n i)
-      ≡ ownText y s ++ (plainText y (segmentsAt t r f (d - 1) (m - 1) (i + 1)) ++ plainText y (segmentsAt t r f d (n - m) (i + m)))
-  text-step =
-      rw (q, p, segments-more t r f d n i (w .deep) (w .least) (w .most)) (followed z y (cell 8 t i 1) (segmentAt t r f i) _ _ (segment-holds t r f z y i (w .is)) alone)
+      (v : List ℕ) → plainText v (segmentsAt t r f d n i)
+      ≡ ownText v s ++ (plainText v (segmentsAt t r f (d - 1) (m - 1) (i + 1)) ++ plainText v (segmentsAt t r f d (n - m) (i + m)))
+  text-step v =
+      rw (q, p, segments-more t r f d n i (w .deep) (w .least) (w .most)) (followed z y v (cell 8 t i 1) (segmentAt t r f i) _ _ (segment-holds t r f z y i (w .is)) alone)
     where
       alone : cell 8 t i 1 ≡ 1 → segmentsAt t r f (d - 1) (cell 8 t i 1 - 1) (i + 1) ≡ track.done
       alone e = let k : cell 8 t i 1 - 1 ≡ 0 = omega arith in rw k (segments-none t r f (d - 1) (i + 1))
@@ -133,7 +136,7 @@ module _ (t : List ℕ) (r : List ℤ) (f : List Float) (y : List ℕ) (from n d
       module _ (m : ℕ) (q : m ≡ cell 8 t i 1) (s : Segment) (p : s ≡ segmentAt t r f i) where
         whole : plainText y (segmentsAt t r f d n from)
             ≡ g .done ++ (ownText y s ++ (plainText y (segmentsAt t r f (d - 1) (m - 1) (i + 1)) ++ plainText y (segmentsAt t r f d (from + n - i - m) (i + m))))
-        whole = g .rest ∙ ap (λ (l : List ℕ). g .done ++ l) (text-step t r f (g .strings) y d (from + n - i) i first m q s p)
+        whole = g .rest ∙ ap (λ (l : List ℕ). g .done ++ l) (text-step t r f (g .strings) y d (from + n - i) i first m q s p y)
 
         long : length (plainText y (segmentsAt t r f d n from))
             ≡ length (g .done) + (length (ownText y s) + (length (plainText y (segmentsAt t r f (d - 1) (m - 1) (i + 1))) + length (plainText y (segmentsAt t r f d (from + n - i - m) (i + m)))))

@@ -53,7 +53,7 @@ TextWithin y Segment.Strike = Unit {0}
 TextWithin y (Segment.Color c) = Unit {0}
 TextWithin y (Segment.Font x) = Unit {0}
 
--- the n rows from row i on are segments, nested at most d, within their tables; for some strings z and used texts that are a part of y
+-- the n rows from row i on are segments, nested at most d, within their tables; y are the used texts, and the used strings are some
 pub record WalkReady (t : List ℕ) (r : List ℤ) (f : List Float) (y : List ℕ) (i n d : ℕ) : Type 0 where
   pub strings : List ℕ
   pub are : areSegments t f strings y d n i ≡ true

@@ -56,7 +56,17 @@ pub fn plain_text(
                 to = next;
             }
         }
-        match plain_text(segments, reveal, sizes, texts, i + 1, rows - 1, room - 1, out, to) {
+        match plain_text(
+            segments,
+            reveal,
+            sizes,
+            texts,
+            i + 1,
+            rows - 1,
+            room - 1,
+            out,
+            to,
+        ) {
             Written::Full => {
                 return Written::Full;
             }

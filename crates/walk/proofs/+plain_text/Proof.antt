@@ -1,6 +1,6 @@
 -- `plain_text` meets its contract. The measure is the room that is left. The loop's invariant: the text of the rows before `i` stands from `at` up to
 -- `to`; its measure is how many rows are left.
-use mathlib.Core.Path.{_≡_, refl, sym, _∙_}
+use mathlib.Core.Path.{_≡_, refl}
 use native.Mathlib.Omega.{arith}
 use borrow.Author.Needs.{needs}
 use Rattle.track.specs.Tables.{cell}
@@ -80,10 +80,11 @@ plain-text-same-length t c = search needs
 plain-text-returns : (t : ℕ) → plain-text-lts.Need-returns (claims t) (plain-text-at t) plain-text.Post plain-text-Inv-loop plain-text-μ-loop
 unfolding cell
 plain-text-returns t c =
-    let a = c .before .before .before .before .before .before .before .before .before .before .before .before .before .before .args in
-    let l = c .before .before .before .before .before .before .before .before .before .loop in
+    let d = c .before .before .before .before .before .before in
+    let a = d .before .before .before .before .before .before .before .before .args in
+    let l = d .before .before .before .loop in
     let h : l .i < a .from + a .n = omega arith in
-    walking-full _ _ _ _ _ _ _ _ _ _ _ _ (l .inv) h _ (c .before .before .before .before .before .before .before .get .ensures) _ (c .before .before .before .before .before .before .segment-at .ensures) (c .before .before .before .before .own-text .last .1 .1 .0) (rw (c .enum-told .given .1) at (c .before .before .before .before .own-text .ensures))
+    walking-full _ _ _ _ _ _ _ _ _ _ _ _ (l .inv) h _ (d .before .get .ensures) _ (d .segment-at .ensures) (c .before .before .before .before .own-text .last .1 .1 .0) (rw (c .enum-told .given .1) at (c .before .before .before .before .own-text .ensures))
 
 plain-text-enum-known-next : (t : ℕ) → plain-text-lts.Need-enum-known-next (claims t) (plain-text-at t) plain-text.Post plain-text-Inv-loop plain-text-μ-loop
 plain-text-enum-known-next t c = search needs
@@ -94,16 +95,18 @@ plain-text-add-plain-text t c = search needs
 plain-text-sub-plain-text : (t : ℕ) → plain-text-lts.Need-sub-plain-text (claims t) (plain-text-at t) plain-text.Post plain-text-Inv-loop plain-text-μ-loop
 unfolding cell
 plain-text-sub-plain-text t c =
-    let a = c .before .before .before .before .before .before .before .before .before .before .before .before .before .before .before .args in
-    let l = c .before .before .before .before .before .before .before .before .before .before .loop in
+    let d = c .before .before .before .before .before .before .before in
+    let a = d .before .before .before .before .before .before .before .before .args in
+    let l = d .before .before .before .loop in
     let h : l .i < a .from + a .n = omega arith in
     let w = first _ _ _ _ _ _ _ _ _ _ _ _ (l .inv) h in
-    omega (arith, w .least, c .before .before .before .before .before .before .before .before .get .ensures)
+    omega (arith, w .least, d .before .get .ensures)
 
 plain-text-sub-plain-text-2 : (t : ℕ) → plain-text-lts.Need-sub-plain-text-2 (claims t) (plain-text-at t) plain-text.Post plain-text-Inv-loop plain-text-μ-loop
 plain-text-sub-plain-text-2 t c =
-    let a = c .before .before .before .before .before .before .before .before .before .before .before .before .before .before .before .args in
-    let l = c .before .before .before .before .before .before .before .before .before .before .loop in
+    let d = c .before .before .before .before .before .before .before in
+    let a = d .before .before .before .before .before .before .before .before .args in
+    let l = d .before .before .before .loop in
     let h : l .i < a .from + a .n = omega arith in
     let w = first _ _ _ _ _ _ _ _ _ _ _ _ (l .inv) h in
     w .deep
@@ -111,14 +114,15 @@ plain-text-sub-plain-text-2 t c =
 plain-text-plain-text-requires : (t : ℕ) → plain-text-lts.Need-plain-text-requires (claims t) (plain-text-at t) plain-text.Post plain-text-Inv-loop plain-text-μ-loop
 unfolding cell
 plain-text-plain-text-requires t c κs =
-    let a = c .before .before .before .before .before .before .before .before .before .before .before .before .before .before .before .before .args in
-    let l = c .before .before .before .before .before .before .before .before .before .before .before .loop in
+    let d = c .before .before .before .before .before .before .before .before in
+    let a = d .before .before .before .before .before .before .before .before .args in
+    let l = d .before .before .before .loop in
     let h : l .i < a .from + a .n = omega arith in
     let w = first _ _ _ _ _ _ _ _ _ _ _ _ (l .inv) h in
-    let p = c .before .before .before .before .before .before .before .before .before .before .before .before .before .before .before .before .pre .1 .0 in
-    let g = c .before .before .before .before .before .before .before .before .before .get in
+    let p = d .before .before .before .before .before .before .before .before .pre .1 .0 in
+    let g = d .before .get in
     let e : g .result ≡ cell 8 (a .segments .now) (l .i) 1 = g .ensures in
-    (omega (arith, w .deep), (walk-inside _ _ _ _ _ _ _ p _ _ _ w (omega arith) _ e, walking-own _ _ _ _ _ _ _ _ _ _ _ _ (l .inv) h _ (c .before .before .before .before .before .before .before .before .before .get .ensures) _ (c .before .before .before .before .before .before .before .before .segment-at .ensures) _ _ (rw (c .before .before .next .given .1) at (c .before .before .before .before .before .before .own-text .ensures))))
+    (omega (arith, w .deep), (walk-inside _ _ _ _ _ _ _ p _ _ _ w (omega arith) _ e, walking-own _ _ _ _ _ _ _ _ _ _ _ _ (l .inv) h _ (d .before .get .ensures) _ (d .segment-at .ensures) _ _ (rw (c .before .before .next .given .1) at (c .before .before .before .before .before .before .own-text .ensures))))
 
 plain-text-enum-told-2 : (t : ℕ) → plain-text-lts.Need-enum-told-2 (claims t) (plain-text-at t) plain-text.Post plain-text-Inv-loop plain-text-μ-loop
 plain-text-enum-told-2 t c = search needs
@@ -129,10 +133,11 @@ plain-text-same-length-2 t c = search needs
 plain-text-returns-2 : (t : ℕ) → plain-text-lts.Need-returns-2 (claims t) (plain-text-at t) plain-text.Post plain-text-Inv-loop plain-text-μ-loop
 unfolding cell
 plain-text-returns-2 t c =
-    let a = c .before .before .before .before .before .before .before .before .before .before .before .before .before .before .before .before .before .before .before .before .before .args in
-    let l = c .before .before .before .before .before .before .before .before .before .before .before .before .before .before .before .before .loop in
+    let d = c .before .before .before .before .before .before .before .before .before .before .before .before .before in
+    let a = d .before .before .before .before .before .before .before .before .args in
+    let l = d .before .before .before .loop in
     let h : l .i < a .from + a .n = omega arith in
-    walking-torn _ _ _ _ _ _ _ _ _ _ _ _ (l .inv) h _ (c .before .before .before .before .before .before .before .before .before .before .before .before .before .before .get .ensures) _ (c .before .before .before .before .before .before .before .before .before .before .before .before .before .segment-at .ensures) _ _ (rw (c .before .before .before .before .before .before .before .next .given .1) at (c .before .before .before .before .before .before .before .before .before .before .before .own-text .ensures)) (c .before .before .before .before .plain-text .last .1 .1 .1 .1 .1 .1 .1 .0) (rw (c .enum-told2 .given .1) at (c .before .before .before .before .plain-text .ensures))
+    walking-torn _ _ _ _ _ _ _ _ _ _ _ _ (l .inv) h _ (d .before .get .ensures) _ (d .segment-at .ensures) _ _ (rw (c .before .before .before .before .before .before .before .next .given .1) at (c .before .before .before .before .before .before .before .before .before .before .before .own-text .ensures)) (c .before .before .before .before .plain-text .last .1 .1 .1 .1 .1 .1 .1 .0) (rw (c .enum-told2 .given .1) at (c .before .before .before .before .plain-text .ensures))
 
 plain-text-enum-known-next-2 : (t : ℕ) → plain-text-lts.Need-enum-known-next-2 (claims t) (plain-text-at t) plain-text.Post plain-text-Inv-loop plain-text-μ-loop
 plain-text-enum-known-next-2 t c = search needs
@@ -140,30 +145,33 @@ plain-text-enum-known-next-2 t c = search needs
 plain-text-add-i : (t : ℕ) → plain-text-lts.Need-add-i (claims t) (plain-text-at t) plain-text.Post plain-text-Inv-loop plain-text-μ-loop
 unfolding cell
 plain-text-add-i t c =
-    let a = c .before .before .before .before .before .before .before .before .before .before .before .before .before .before .before .before .before .before .before .before .before .before .args in
-    let l = c .before .before .before .before .before .before .before .before .before .before .before .before .before .before .before .before .before .loop in
+    let d = c .before .before .before .before .before .before .before .before .before .before .before .before .before .before in
+    let a = d .before .before .before .before .before .before .before .before .args in
+    let l = d .before .before .before .loop in
     let h : l .i < a .from + a .n = omega arith in
     let w = first _ _ _ _ _ _ _ _ _ _ _ _ (l .inv) h in
-    let g : l .i + c .before .before .before .before .before .before .before .before .before .before .before .before .before .before .before .get .result ≤ a .from + a .n = omega (arith, w .most, c .before .before .before .before .before .before .before .before .before .before .before .before .before .before .before .get .ensures) in
-    let p = c .before .before .before .before .before .before .before .before .before .before .before .before .before .before .before .before .before .before .before .before .before .before .pre .1 .0 in
-    omega (arith, g, p .cells, c .before .before .before .before .before .before .before .before .before .before .before .before .before .before .before .before .before .before .before .before .before .before .good .0 .0)
+    let g : l .i + d .before .get .result ≤ a .from + a .n = omega (arith, w .most, d .before .get .ensures) in
+    let p = d .before .before .before .before .before .before .before .before .pre .1 .0 in
+    omega (arith, g, p .cells, d .before .before .before .before .before .before .before .before .good .0 .0)
 
 plain-text-loop-less : (t : ℕ) → plain-text-lts.Need-loop-less (claims t) (plain-text-at t) plain-text.Post plain-text-Inv-loop plain-text-μ-loop
 unfolding cell
 plain-text-loop-less t c =
-    let a = c .before .before .before .before .before .before .before .before .before .before .before .before .before .before .before .before .before .before .before .before .before .before .args in
-    let l = c .before .before .before .before .before .before .before .before .before .before .before .before .before .before .before .before .before .loop in
+    let d = c .before .before .before .before .before .before .before .before .before .before .before .before .before .before in
+    let a = d .before .before .before .before .before .before .before .before .args in
+    let l = d .before .before .before .loop in
     let h : l .i < a .from + a .n = omega arith in
     let w = first _ _ _ _ _ _ _ _ _ _ _ _ (l .inv) h in
-    omega (arith, w .least, w .most, c .before .before .before .before .before .before .before .before .before .before .before .before .before .before .before .get .ensures)
+    omega (arith, w .least, w .most, d .before .get .ensures)
 
 plain-text-loop-again : (t : ℕ) → plain-text-lts.Need-loop-again (claims t) (plain-text-at t) plain-text.Post plain-text-Inv-loop plain-text-μ-loop
 unfolding cell
 plain-text-loop-again t c =
-    let a = c .before .before .before .before .before .before .before .before .before .before .before .before .before .before .before .before .before .before .before .before .before .before .args in
-    let l = c .before .before .before .before .before .before .before .before .before .before .before .before .before .before .before .before .before .loop in
+    let d = c .before .before .before .before .before .before .before .before .before .before .before .before .before .before in
+    let a = d .before .before .before .before .before .before .before .before .args in
+    let l = d .before .before .before .loop in
     let h : l .i < a .from + a .n = omega arith in
-    walking-step _ _ _ _ _ _ _ _ _ _ _ _ (l .inv) h _ (c .before .before .before .before .before .before .before .before .before .before .before .before .before .before .before .get .ensures) _ (c .before .before .before .before .before .before .before .before .before .before .before .before .before .before .segment-at .ensures) _ _ (rw (c .before .before .before .before .before .before .before .before .next .given .1) at (c .before .before .before .before .before .before .before .before .before .before .before .before .own-text .ensures)) _ _ (rw (c .before .next2 .given .1) at (c .before .before .before .before .before .plain-text .ensures))
+    walking-step _ _ _ _ _ _ _ _ _ _ _ _ (l .inv) h _ (d .before .get .ensures) _ (d .segment-at .ensures) _ _ (rw (c .before .before .before .before .before .before .before .before .next .given .1) at (c .before .before .before .before .before .before .before .before .before .before .before .before .own-text .ensures)) _ _ (rw (c .before .next2 .given .1) at (c .before .before .before .before .before .plain-text .ensures))
 
 plain-text-same-length-3 : (t : ℕ) → plain-text-lts.Need-same-length-3 (claims t) (plain-text-at t) plain-text.Post plain-text-Inv-loop plain-text-μ-loop
 plain-text-same-length-3 t c = search needs

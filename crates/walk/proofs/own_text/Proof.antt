@@ -1,19 +1,14 @@
 -- `own_text` meets its contract, case by case.
-use Prim.Native.Nat.{ℕ, _+_, _≤_}
-use mathlib.Core.Path.{_≡_}
+use Prim.Native.Nat.{_+_, _≤_}
 use mathlib.Core.List.{[], _∷_}
 use types.Run.{miss}
-use native.Mathlib.Omega.{arith}
 use lib.ListN.{length}
 use Rattle.scan.specs.Part.{stringAt}
-use Rattle.walk.specs.Text.{ownText, TextWithin}
+use Rattle.walk.specs.Text.{ownText}
 use Rattle.walk.proofs.Walking.{own-none}
 use borrow.Author.Needs.{needs}
 use Rattle.walk.proofs.own_text.Statement.{statement}
 use Rattle.walk.proofs.own_text.Tie as tie
-use Rattle.walk.proofs.own_text.Reads as reads
-use Rattle.walk.proofs.own_text.Lts as lts
-use Rattle.scan.proofs.append.Reads as append-reads
 
 enum-known-s : tie.Need-enum-known-s
 enum-known-s c = search needs
@@ -22,7 +17,7 @@ add-end : tie.Need-add-end
 add-end c =
     let b = c .before .before in
     let h : b .s .given .0 .0 .place + b .s .given .0 .0 .len ≤ length (b .before .before .before .before .args .texts .now) =
-        rw (b .s .given .1) at (b .before .before .before .before .pre .1) in
+    rw (b .s .given .1) at (b .before .before .before .before .pre .1) in
     search (needs, h)
 
 sub-append : tie.Need-sub-append
@@ -35,7 +30,7 @@ part-append-end : tie.Need-part-append-end
 part-append-end c =
     let b = c .before .before .before in
     let h : b .s .given .0 .0 .place + b .s .given .0 .0 .len ≤ length (b .before .before .before .before .args .texts .now) =
-        rw (b .s .given .1) at (b .before .before .before .before .pre .1) in
+    rw (b .s .given .1) at (b .before .before .before .before .pre .1) in
     h
 
 append-requires : tie.Need-append-requires
