@@ -1,12 +1,12 @@
 -- How many attributes the first top-level tt of a text has. Definitions alone.
-use Prim.Native.Nat.{ℕ, _≤_}
+use Prim.Native.Nat.{ℕ}
 use mathlib.Core.Path.{_≡_}
 use mathlib.Core.List.{List, [], _∷_}
 use lib.ListN.{length}
 use Rattle.entities.specs.Decode.{decoded}
-use Rattle.tree.specs.Posts.{Fits}
 use Rattle.grammar.specs.Tree.{Forest}
-use Rattle.grammar.specs.Demand.{Derives, decodeForest}
+use Rattle.grammar.specs.Demand.{decodeForest}
+use Rattle.xml.specs.Promise.{Tables, Takes}
 use Rattle.xml.specs.Find.{FoundElement, found, absent, findElement}
 
 abbrev pub tt : List ℕ
@@ -20,9 +20,8 @@ attributes absent = 0
 unfoldable pub countIn : Forest → ℕ
 countIn f = attributes (findElement tt f)
 
--- r is the count in the tree that the text s derives, with its entities read; 0 if it derives none. The tables have n, m and z cells: it is
--- 0 too where the text meets one of document 01's numbers 1 to 3.
-pub record Counts (s : List ℕ) (n m z r : ℕ) : Type 0 where
-  pub derived : (f : Forest) → Derives s f → Fits s n m → 65536 ≤ z → r ≡ countIn (decodeForest decoded f)
-  pub underived : ((f : Forest) → ¬ Derives s f) → r ≡ 0
-  pub unfit : ¬ (Fits s n m × (65536 ≤ z)) → r ≡ 0
+-- r is the count in the tree that the text derives within the limits, with its entities read; 0 where the text meets one of document 01's
+-- numbers 1 to 11, of which 1 looks at the tables
+pub record Counts (text : List ℕ) (lent : Tables) (r : ℕ) : Type 0 where
+  pub derived : (f : Forest) → Takes text lent f → r ≡ countIn (decodeForest decoded f)
+  pub otherwise : ((f : Forest) → ¬ Takes text lent f) → r ≡ 0

@@ -1,5 +1,5 @@
 // The example of README.md: the contracts of `xml` compose, with no induction of one's own.
-ghost use lib.ListN.{length};
+ghost use Rattle.xml.specs.Promise.{tables};
 ghost use Rattle.example.specs.Count.{Counts};
 use tree::Answer;
 use xml::Found;
@@ -11,7 +11,7 @@ pub fn root_attributes(
     attrs: &mut [u32],
     strings: &mut [u8],
 ) -> usize
-    ensures { λ r. ⌜ Counts (now (text .entry)) (length (now (nodes .entry))) (length (now (attrs .entry))) (length (now (strings .entry))) r ⌝ }
+    ensures { λ r. ⌜ Counts (now (text .entry)) (tables (now (nodes .entry)) (now (attrs .entry)) (now (strings .entry))) r ⌝ }
 {
     let Answer::Tree { nodes: n, attrs: m } = xml::parse_xml(text, nodes, attrs, strings) else {
         return 0; // document 01's number and place are in the answer, and every table is zero

@@ -1,25 +1,21 @@
 -- What the function that reads a tree answers, by cases. Assumes nothing.
 use Prim.Native.Nat.{ℕ}
-use mathlib.Core.Path.{_≡_}
-use mathlib.Core.Bool.{Bool, true, false, cond}
+use mathlib.Core.Path.{_≡_, refl, sym}
+use mathlib.Core.Bool.{Bool, true, false}
 use mathlib.Core.List.{List, [], _∷_}
 use lib.Seq.{sets}
 use Rattle.tree.specs.declared.answers.Refusal.{Refusal}
 use Rattle.tree.specs.declared.answers.Answer.{Answer}
 use Rattle.tree.specs.declared.answers.Answer.the-variants.{Tree, Refused}
-use Rattle.probe.specs.Answers.{Answered}
-use Rattle.probe.specs.Trees.{treeCode, treeCells}
-use Rattle.probe.proofs.Cells.{answers}
+use Rattle.xml.specs.Promise.{Tables, Parsed}
+use Rattle.probe.specs.Trees.{TellsIf}
 
-pub tree-is : (x : Answer) (n m : ℕ) (will : Bool) (t t′ : List ℕ) → x ≡ Tree n m → will ≡ true → t′ ≡ sets t 0 (0 ∷ n ∷ m ∷ []) → Answered will (treeCode x) (treeCells x) 0xFFFF_FFFF t t′ 0
-tree-is x n m will t t′ e h p = answers _ _ _ _ _ _ _ h (rw e) (rw e p)
+module _ (will : Bool) {s : List ℕ} {lent left : Tables} {x : Answer} (out out′ : List ℕ) (p : Parsed s lent x left) (h : will ≡ true) where
+  pub tells-tree : (n m : ℕ) → x ≡ Tree n m → out′ ≡ sets out 0 (0 ∷ n ∷ m ∷ []) → TellsIf will s lent left out out′ 0
+  tells-tree n m e w = rw h (record { answer = x; promised = p; is = rw e; laid = rw e w })
 
-pub tree-refused : (x : Answer) (r : Refusal) (will : Bool) (t t′ : List ℕ) → x ≡ Refused r → will ≡ true → t′ ≡ sets t 0 (r .place ∷ 0 ∷ 0 ∷ []) → Answered will (treeCode x) (treeCells x) 0xFFFF_FFFF t t′ (r .number)
-tree-refused x r will t t′ e h p = answers _ _ _ _ _ _ _ h (rw e) (rw e p)
+  pub tells-refused : (r : Refusal) → x ≡ Refused r → out′ ≡ sets out 0 (r .place ∷ 0 ∷ 0 ∷ []) → TellsIf will s lent left out out′ (r .number)
+  tells-refused r e w = rw h (record { answer = x; promised = p; is = rw e; laid = rw e w })
 
--- a table, where nothing is done and where it is filled
-pub left : (will : Bool) (a t : List ℕ) → will ≡ false → t ≡ cond will a t
-left will a t e = rw e
-
-pub filled : (will : Bool) (a t t′ : List ℕ) → will ≡ true → t′ ≡ a → t′ ≡ cond will a t
-filled will a t t′ e p = rw e p
+pub untouched : (will : Bool) (s : List ℕ) (lent : Tables) (out : List ℕ) → will ≡ false → TellsIf will s lent lent out out 0xFFFF_FFFF
+untouched will s lent out h = rw h (record { is = refl; same = refl; kept = refl })

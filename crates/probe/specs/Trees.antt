@@ -1,21 +1,18 @@
 -- What the function on trees answers. Definitions alone.
 use Prim.Native.Nat.{ℕ}
-use mathlib.Core.Bool.{Bool}
+use mathlib.Core.Path.{_≡_}
+use mathlib.Core.Bool.{Bool, true, false}
 use mathlib.Core.List.{List, [], _∷_}
 use lib.ListN.{length}
+use lib.Seq.{sets}
 use lib.Dec.{leb}
 use Rattle.tree.specs.declared.answers.Answer.{Answer}
 use Rattle.tree.specs.declared.answers.Answer.the-variants.{Tree, Refused}
-use Rattle.tree.specs.Read.{Out}
-use Rattle.xml.specs.Reading.{raw}
+use Rattle.xml.specs.Promise.{Tables, Parsed}
 
 -- there are cells for the answer
 abbrev pub room : List ℕ → Bool
 room out = leb 3 (length out)
-
--- what the text s is, read into these three tables
-abbrev pub read : List ℕ → List ℕ → List ℕ → List ℕ → Out
-read s t u z = raw s (length t) (length u) (length z)
 
 -- 0 for a tree, else document 01's number
 abbrev pub treeCode : Answer → ℕ
@@ -26,3 +23,20 @@ treeCode (Refused r) = r .number
 abbrev pub treeCells : Answer → List ℕ
 treeCells (Tree n m) = 0 ∷ n ∷ m ∷ []
 treeCells (Refused r) = r .place ∷ 0 ∷ 0 ∷ []
+
+-- the promise of `parse_xml`, its answer r told by a number and three cells
+pub record Told (text : List ℕ) (lent left : Tables) (out out′ : List ℕ) (r : ℕ) : Type 0 where
+  pub answer : Answer
+  pub promised : Parsed text lent answer left
+  pub is : r ≡ treeCode answer
+  pub laid : out′ ≡ sets out 0 (treeCells answer)
+
+-- nothing is touched
+pub record Untouched (lent left : Tables) (out out′ : List ℕ) (r : ℕ) : Type 0 where
+  pub is : r ≡ 0xFFFF_FFFF
+  pub same : left ≡ lent
+  pub kept : out′ ≡ out
+
+abbrev pub TellsIf : Bool → List ℕ → Tables → Tables → List ℕ → List ℕ → ℕ → Type 0
+TellsIf true text lent left out out′ r = Told text lent left out out′ r
+TellsIf false text lent left out out′ r = Untouched lent left out out′ r

@@ -1,14 +1,11 @@
 // A C name for the tree of a text.
 ghost use mathlib.Core.Path.{_≡_};
-ghost use mathlib.Core.Bool.{cond};
 ghost use mathlib.Core.List.{[], _∷_};
 ghost use Prim.Native.Nat.{_≤_};
 ghost use lib.ListN.{length};
 ghost use lib.Seq.{sets};
-ghost use Rattle.tree.specs.Read.{answerOf, nodesOf, attrCells};
-ghost use Rattle.xml.specs.Reading.{readOut, stringsOf};
-ghost use Rattle.probe.specs.Answers.{Answered};
-ghost use Rattle.probe.specs.Trees.{room, read, treeCode, treeCells};
+ghost use Rattle.xml.specs.Promise.{tables};
+ghost use Rattle.probe.specs.Trees.{room, TellsIf};
 use tree::Answer;
 
 // A refusal's place and a tree's numbers of nodes and attributes, in the first three cells.
@@ -32,10 +29,9 @@ pub extern "C" fn probe_parse_xml(
     strings: &mut [u8],
     out: &mut [u64],
 ) -> u32
-    ensures { λ r. ⌜ Answered (room (now (out .entry))) (treeCode (answerOf (read (now (text .entry)) (now (nodes .entry)) (now (attrs .entry)) (now (strings .entry))))) (treeCells (answerOf (read (now (text .entry)) (now (nodes .entry)) (now (attrs .entry)) (now (strings .entry))))) 0xFFFF_FFFF (now (out .entry)) (now (out .exit)) r ⌝ }
-    ensures { λ _. ⌜ now (nodes .exit) ≡ cond (room (now (out .entry))) (nodesOf (length (now (nodes .entry))) (readOut (now (text .entry)) (read (now (text .entry)) (now (nodes .entry)) (now (attrs .entry)) (now (strings .entry))))) (now (nodes .entry)) ⌝ }
-    ensures { λ _. ⌜ now (attrs .exit) ≡ cond (room (now (out .entry))) (attrCells (length (now (attrs .entry))) (readOut (now (text .entry)) (read (now (text .entry)) (now (nodes .entry)) (now (attrs .entry)) (now (strings .entry))))) (now (attrs .entry)) ⌝ }
-    ensures { λ _. ⌜ now (strings .exit) ≡ cond (room (now (out .entry))) (stringsOf (length (now (strings .entry))) (now (text .entry)) (read (now (text .entry)) (now (nodes .entry)) (now (attrs .entry)) (now (strings .entry)))) (now (strings .entry)) ⌝ }
+    ensures { λ r. ⌜ TellsIf (room (now (out .entry))) (now (text .entry))
+        (tables (now (nodes .entry)) (now (attrs .entry)) (now (strings .entry)))
+        (tables (now (nodes .exit)) (now (attrs .exit)) (now (strings .exit))) (now (out .entry)) (now (out .exit)) r ⌝ }
 {
     if out.len() < 3 {
         return 0xFFFF_FFFF;

@@ -21,7 +21,7 @@ use Rattle.track.proofs.SegmentsLaid.{rows-many}
 -- ---- lists of cells, of any type
 module _ {A : Type 0} where
   -- cells over as many others
-  sets-at : (p a b r : List A) (i : ℕ) → length p ≡ i → length a ≡ length b → sets (p ++ (a ++ r)) i b ≡ p ++ (b ++ r)
+  pub sets-at : (p a b r : List A) (i : ℕ) → length p ≡ i → length a ≡ length b → sets (p ++ (a ++ r)) i b ≡ p ++ (b ++ r)
   sets-at p a b r i h e =
       let last : drop (i + length b) (p ++ (a ++ r)) ≡ r = rw (← (append-assoc p a r)) (drop-at (p ++ a) r (i + length b) (rw length-append (omega arith))) in
       sets-eq b (p ++ (a ++ r)) i (simp length-append (omega arith)) ∙ rw (take-at p (a ++ r) i h, last, append-assoc)
@@ -100,7 +100,7 @@ unfolding wrapped wrapperRows preorder
 preorder-wrapped [] f = refl
 preorder-wrapped (x ∷ l) f = rw (rows-wrapped l f, append-nil (preorder (wrapped l f)), preorder-wrapped l f)
 
-wrappers-length : (l : List (Wrapper Span)) (n : ℕ) → length (wrapperRows l n) ≡ length l
+pub wrappers-length : (l : List (Wrapper Span)) (n : ℕ) → length (wrapperRows l n) ≡ length l
 unfolding wrapperRows
 wrappers-length [] n = refl
 wrappers-length (x ∷ l) n = rw (wrappers-length l n)

@@ -16,16 +16,16 @@ use Rattle.records.proofs.Beside.{each-length}
 use Rattle.track.proofs.SegmentsLaid.{rows-many}
 use Rattle.records.proofs.SegmentRows.{rows-joined, cells-joined, each-joined, wrap-cells, wrap-each, add-cells, add-each}
 
-abbrev timeOf : Sized → ℤ
+abbrev pub timeOf : Sized → ℤ
 timeOf x = segmentTime (x .segment)
 
-abbrev floatOf : Sized → Float
+abbrev pub floatOf : Sized → Float
 floatOf x = segmentSize (x .segment)
 
-cells-length : (f : Segments Span) → length (cellsOf (preorder f)) ≡ segmentRows f * 8
+pub cells-length : (f : Segments Span) → length (cellsOf (preorder f)) ≡ segmentRows f * 8
 cells-length f = joined-length rowCells 8 (λ y. segment-wide (y .segment) (y .rows)) (preorder f) ∙ rw (rows-many f)
 
-each-rows : {A : Type 0} (v : Sized → A) (f : Segments Span) → length (each v (preorder f)) ≡ segmentRows f
+pub each-rows : {A : Type 0} (v : Sized → A) (f : Segments Span) → length (each v (preorder f)) ≡ segmentRows f
 each-rows v f = each-length v (preorder f) ∙ rows-many f
 
 -- none, at a row

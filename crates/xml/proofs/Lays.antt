@@ -39,11 +39,11 @@ abbrev pub Ordered : ℕ → List Placed → ℕ → Type 0
 Ordered lo [] hi = lo ≤ hi
 Ordered lo (x ∷ l) hi = (lo ≤ x .place) × Ordered (x .place + length (x .bytes)) l hi
 
-ordered-lower : (l : List Placed) (lo m hi : ℕ) → lo ≤ m → Ordered m l hi → Ordered lo l hi
+pub ordered-lower : (l : List Placed) (lo m hi : ℕ) → lo ≤ m → Ordered m l hi → Ordered lo l hi
 ordered-lower [] lo m hi h o = omega arith
 ordered-lower (x ∷ l) lo m hi h o = (omega (arith, o .0), o .1)
 
-ordered-append : (a b : List Placed) (lo m hi : ℕ) → Ordered lo a m → Ordered m b hi → Ordered lo (a ++ b) hi
+pub ordered-append : (a b : List Placed) (lo m hi : ℕ) → Ordered lo a m → Ordered m b hi → Ordered lo (a ++ b) hi
 ordered-append [] b lo m hi o u = ordered-lower b lo m hi o u
 ordered-append (x ∷ a) b lo m hi o u = (o .0, ordered-append a b (x .place + length (x .bytes)) m hi (o .1) u)
 

@@ -6,6 +6,12 @@ pub mod Parsing
 pub mod Shown
 pub mod Tables
 pub mod Theorem
+pub mod Promises
 pub mod FindLaws
 pub mod FindSteps
+pub mod Given
+pub mod Standing
+pub mod Derived
+pub mod Lengths
+pub mod Determined
 pub mod FindExamples

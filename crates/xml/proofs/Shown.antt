@@ -80,7 +80,7 @@ abbrev pub AtPlaces : List ℕ → List Placed → Type 0
 AtPlaces z [] = Unit {0}
 AtPlaces z (x ∷ l) = (stringAt z (x .place) (length (x .bytes)) ≡ x .bytes) × AtPlaces z l
 
-lay-stands : (l : List Placed) (z : List ℕ) (lo hi : ℕ) → Ordered lo l hi → hi ≤ length z → AtPlaces (lay z l) l
+pub lay-stands : (l : List Placed) (z : List ℕ) (lo hi : ℕ) → Ordered lo l hi → hi ≤ length z → AtPlaces (lay z l) l
 unfolding lay
 lay-stands [] z lo hi o h = tt
 lay-stands (x ∷ l) z lo hi o h =
@@ -97,7 +97,7 @@ at-places-at none z [] i a h = absurd (omega arith)
 at-places-at none z (x ∷ l) zero a h = a .0
 at-places-at none z (x ∷ l) (suc i) a h = at-places-at none z l i (a .1) (omega arith)
 
-at-places-split : (z : List ℕ) (a b : List Placed) → AtPlaces z (a ++ b) → AtPlaces z a × AtPlaces z b
+pub at-places-split : (z : List ℕ) (a b : List Placed) → AtPlaces z (a ++ b) → AtPlaces z a × AtPlaces z b
 at-places-split z [] b h = (tt, h)
 at-places-split z (x ∷ a) b h = let r = at-places-split z a b (h .1) in ((h .0, r .0), r .1)
 

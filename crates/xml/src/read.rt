@@ -1,8 +1,5 @@
 // The public call.
-ghost use mathlib.Core.Path.{_≡_};
-ghost use lib.ListN.{length};
-ghost use Rattle.tree.specs.Read.{answerOf, nodesOf, attrCells};
-ghost use Rattle.xml.specs.Reading.{raw, readOut, stringsOf};
+ghost use Rattle.xml.specs.Promise.{tables, Parsed};
 use tree::Answer;
 use tree::Refusal;
 
@@ -11,10 +8,8 @@ const STRING_CELLS: usize = 65536;
 // The text's tree. A string that stands at a place of the text stands at that place of `strings`: names
 // and sections as they are, texts and values with entities read. After a refusal every cell is 0.
 pub fn parse_xml(text: &[u8], nodes: &mut [u32], attrs: &mut [u32], strings: &mut [u8]) -> Answer
-    ensures { λ r. ⌜ r ≡ answerOf (raw (now (text .entry)) (length (now (nodes .entry))) (length (now (attrs .entry))) (length (now (strings .entry)))) ⌝ }
-    ensures { λ _. ⌜ now (nodes .exit) ≡ nodesOf (length (now (nodes .entry))) (readOut (now (text .entry)) (raw (now (text .entry)) (length (now (nodes .entry))) (length (now (attrs .entry))) (length (now (strings .entry))))) ⌝ }
-    ensures { λ _. ⌜ now (attrs .exit) ≡ attrCells (length (now (attrs .entry))) (readOut (now (text .entry)) (raw (now (text .entry)) (length (now (nodes .entry))) (length (now (attrs .entry))) (length (now (strings .entry))))) ⌝ }
-    ensures { λ _. ⌜ now (strings .exit) ≡ stringsOf (length (now (strings .entry))) (now (text .entry)) (raw (now (text .entry)) (length (now (nodes .entry))) (length (now (attrs .entry))) (length (now (strings .entry)))) ⌝ }
+    ensures { λ r. ⌜ Parsed (now (text .entry)) (tables (now (nodes .entry)) (now (attrs .entry)) (now (strings .entry))) r
+        (tables (now (nodes .exit)) (now (attrs .exit)) (now (strings .exit))) ⌝ }
 {
     scan::clear_bytes(strings);
     if strings.len() < STRING_CELLS {

@@ -1,5 +1,5 @@
 -- `root_attributes` meets its promise: each way through it is a law of `Counting`.
-use Rattle.xml.proofs.Tables.{left-siblings}
+use Rattle.xml.proofs.Given.{given-siblings}
 use Rattle.example.proofs.Counting.{on-refusal, on-nothing, on-row, row-there}
 use borrow.Author.Needs.{needs}
 use Rattle.example.proofs.root_attributes.Statement.{statement}
@@ -24,19 +24,19 @@ same-length-3 : tie.Need-same-length-3
 same-length-3 c = search needs
 
 returns : tie.Need-returns
-returns c = on-refusal _ _ _ _ (c .before .before .before .before .before .before .before .before .parse-xml .ensures) (c .enum-told .given .1)
+returns c = on-refusal (c .before .before .before .before .before .before .before .before .parse-xml .ensures) (c .enum-told .given .1)
 
 slice-aggregate-find-element : tie.Need-slice-aggregate-find-element
 slice-aggregate-find-element c = search needs
 
 find-element-requires : tie.Need-find-element-requires
-find-element-requires c κs = left-siblings _ _ _ _ (c .before .before .before .before .before .before .before .before .before .before .before .before .parse-xml .ensures) (c .before .before .before .before .n .given .1)
+find-element-requires c κs = given-siblings (c .before .before .before .before .before .before .before .before .before .before .before .before .parse-xml .ensures) (c .before .before .before .before .n .given .1)
 
 enum-known-k : tie.Need-enum-known-k
 enum-known-k c = search needs
 
 element-at-requires : tie.Need-element-at-requires
-element-at-requires c κs = row-there _ _ _ _ (c .before .before .before .before .before .before .before .before .before .before .before .before .before .before .before .before .before .parse-xml .ensures) (c .before .before .before .before .before .before .before .before .before .n .given .1) (c .before .before .before .before .find-element .ensures) (c .before .before .k .given .1)
+element-at-requires c κs = row-there (c .before .before .before .before .before .before .before .before .before .before .before .before .before .before .before .before .before .parse-xml .ensures) (c .before .before .before .before .before .before .before .before .before .n .given .1) (c .before .before .before .before .find-element .ensures) (c .before .before .k .given .1)
 
 enum-told-2 : tie.Need-enum-told-2
 enum-told-2 c = search needs
@@ -51,7 +51,7 @@ same-length-6 : tie.Need-same-length-6
 same-length-6 c = search needs
 
 returns-2 : tie.Need-returns-2
-returns-2 c = on-row _ _ _ _ (c .before .before .before .before .before .before .before .before .before .before .before .before .before .before .before .before .before .before .parse-xml .ensures) (c .before .before .before .before .before .before .before .before .before .before .n .given .1) (c .before .before .before .before .before .find-element .ensures) (c .before .before .before .k .given .1) (c .element-at .ensures)
+returns-2 c = on-row (c .before .before .before .before .before .before .before .before .before .before .before .before .before .before .before .before .before .before .parse-xml .ensures) (c .before .before .before .before .before .before .before .before .before .before .n .given .1) (c .before .before .before .before .before .find-element .ensures) (c .before .before .before .k .given .1) (c .element-at .ensures)
 
 same-length-7 : tie.Need-same-length-7
 same-length-7 c = search needs
@@ -63,7 +63,7 @@ same-length-9 : tie.Need-same-length-9
 same-length-9 c = search needs
 
 returns-3 : tie.Need-returns-3
-returns-3 c = on-nothing _ _ _ _ (c .before .before .before .before .before .before .before .before .before .before .before .before .before .before .before .parse-xml .ensures) (c .before .before .before .before .before .before .before .n .given .1) (c .before .before .find-element .ensures) (c .enum-told2 .given .1)
+returns-3 c = on-nothing (c .before .before .before .before .before .before .before .before .before .before .before .before .before .before .before .parse-xml .ensures) (c .before .before .before .before .before .before .before .n .given .1) (c .before .before .find-element .ensures) (c .enum-told2 .given .1)
 
 pub root-attributes-spec : {M : Type 1} → statement M
 root-attributes-spec =

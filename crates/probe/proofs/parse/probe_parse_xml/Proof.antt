@@ -1,16 +1,12 @@
 -- `probe_parse_xml` meets its contract, by the cases of what `parse_xml` answers.
-use mathlib.Core.Path.{sym, _∙_}
 use borrow.Author.Tests.{le-leb, lt-leb}
 use borrow.Author.Needs.{needs}
-use Rattle.probe.proofs.Cells.{refused}
-use Rattle.probe.proofs.Trees.{tree-is, tree-refused, left, filled}
+use Rattle.probe.proofs.Trees.{untouched, tells-tree, tells-refused}
 use Rattle.probe.proofs.parse.probe_parse_xml.Statement.{statement}
 use Rattle.probe.proofs.parse.probe_parse_xml.Tie as tie
 
 returns : tie.Need-returns
-returns c =
-    let w = lt-leb _ _ (c .if1 .taken) in
-    (refused _ _ _ _ _ w, (left _ _ _ w, (left _ _ _ w, left _ _ _ w)))
+returns c = untouched _ _ _ _ (lt-leb _ _ (c .if1 .taken))
 
 parse-xml-requires : tie.Need-parse-xml-requires
 parse-xml-requires c κs = search needs
@@ -45,8 +41,7 @@ returns-2 c =
     let k = p .before .before .before in
     let x = k .before .before .before .before .before .before .before .before in
     let w = le-leb _ _ (x .before .before .before .before .if1 .left) in
-    let e = sym (x .parse-xml .ensures .0) ∙ k .r .given .1 in
-    (tree-refused _ _ _ _ _ e w (p .put-counts .ensures), (filled _ _ _ _ w (x .parse-xml .ensures .1 .0), (filled _ _ _ _ w (x .parse-xml .ensures .1 .1 .0), filled _ _ _ _ w (x .parse-xml .ensures .1 .1 .1))))
+    tells-refused _ _ _ (x .parse-xml .ensures) w _ (k .r .given .1) (p .put-counts .ensures)
 
 same-length-5 : tie.Need-same-length-5
 same-length-5 c = search needs
@@ -66,8 +61,7 @@ returns-3 c =
     let k = p .before .before .before in
     let x = k .before .before .before .before .before .before .before .before in
     let w = le-leb _ _ (x .before .before .before .before .if1 .left) in
-    let e = sym (x .parse-xml .ensures .0) ∙ k .n .given .1 in
-    (tree-is _ _ _ _ _ _ e w (p .put-counts2 .ensures), (filled _ _ _ _ w (x .parse-xml .ensures .1 .0), (filled _ _ _ _ w (x .parse-xml .ensures .1 .1 .0), filled _ _ _ _ w (x .parse-xml .ensures .1 .1 .1))))
+    tells-tree _ _ _ (x .parse-xml .ensures) w _ _ (k .n .given .1) (p .put-counts2 .ensures)
 
 pub probe-parse-xml-spec : {M : Type 1} → statement M
 probe-parse-xml-spec =

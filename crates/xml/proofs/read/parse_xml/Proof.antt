@@ -1,9 +1,10 @@
--- `parse_xml` meets its promises: the strings are cleared first; a tree's rows are read in place, and a refusal leaves what the tree reader left.
+-- `parse_xml` meets its promise: the strings are cleared first; a tree's rows are read in place, and a refusal leaves what the tree reader left.
 use Prim.Native.Nat.{_≤_}
 use mathlib.Core.Path.{sym, _∙_}
 use native.Mathlib.Omega.{arith}
 use lib.ListN.{length}
 use Rattle.xml.proofs.Parsing.{nodes-stand-ready, attrs-stand-ready, left-small, left-refused, left-tree}
+use Rattle.xml.proofs.Promises.{parsed-of}
 use borrow.Author.Needs.{needs}
 use Rattle.xml.proofs.read.parse_xml.Statement.{statement}
 use Rattle.xml.proofs.read.parse_xml.Tie as tie
@@ -34,8 +35,9 @@ returns c =
     let b = i .before .before .before in
     let d = b .before .before .before .before .before .before in
     let a = d .args in
-    left-small (a .text .now) (length (a .nodes .now)) (length (a .attrs .now)) (length (a .strings .now)) _ _ _
-    (omega (arith, b .clear-bytes .kept .0, i .if1 .taken)) (t .clear .ensures) (u .clear2 .ensures) (b .clear-bytes .ensures)
+    parsed-of (a .text .now) (a .nodes .now) (a .attrs .now) (a .strings .now)
+    (left-small (a .text .now) (length (a .nodes .now)) (length (a .attrs .now)) (length (a .strings .now)) _ _ _
+    (omega (arith, b .clear-bytes .kept .0, i .if1 .taken)) (t .clear .ensures) (u .clear2 .ensures) (b .clear-bytes .ensures))
 
 read-tree-requires : tie.Need-read-tree-requires
 read-tree-requires c κs = search needs
@@ -89,8 +91,9 @@ returns-2 c =
     let a = d .args in
     let e = sym (r .r .given .1) ∙ t .read-tree .ensures .0 in
     let h : 65536 ≤ length (a .strings .now) = omega (arith, b .clear-bytes .kept .0, i .if1 .left) in
-    left-refused (a .text .now) (length (a .nodes .now)) (length (a .attrs .now)) (length (a .strings .now)) _ _ _ _ h e
-    (t .read-tree .ensures .1 .0) (t .read-tree .ensures .1 .1) (b .clear-bytes .ensures)
+    parsed-of (a .text .now) (a .nodes .now) (a .attrs .now) (a .strings .now)
+    (left-refused (a .text .now) (length (a .nodes .now)) (length (a .attrs .now)) (length (a .strings .now)) _ _ _ _ h e
+    (t .read-tree .ensures .1 .0) (t .read-tree .ensures .1 .1) (b .clear-bytes .ensures))
 
 same-length-7 : tie.Need-same-length-7
 same-length-7 c = search needs
@@ -115,8 +118,9 @@ returns-3 c =
     let h : 65536 ≤ length (a .strings .now) = omega (arith, b .clear-bytes .kept .0, i .if1 .left) in
     let v = x .read-nodes .ensures in
     let w = y .read-attrs .ensures in
-    left-tree (a .text .now) (length (a .nodes .now)) (length (a .attrs .now)) (length (a .strings .now)) _ _ _ _ _ _ _ _ _ h e
-    (t .read-tree .ensures .1 .0) (t .read-tree .ensures .1 .1) (b .clear-bytes .ensures) (v .0) (v .1) (w .0) (w .1)
+    parsed-of (a .text .now) (a .nodes .now) (a .attrs .now) (a .strings .now)
+    (left-tree (a .text .now) (length (a .nodes .now)) (length (a .attrs .now)) (length (a .strings .now)) _ _ _ _ _ _ _ _ _ h e
+    (t .read-tree .ensures .1 .0) (t .read-tree .ensures .1 .1) (b .clear-bytes .ensures) (v .0) (v .1) (w .0) (w .1))
 
 pub parse-xml-spec : {M : Type 1} → statement M
 parse-xml-spec =
