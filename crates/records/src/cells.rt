@@ -5,7 +5,7 @@ ghost use lib.ListN.{length, getD};
 ghost use lib.Seq.{sets};
 ghost use mathlib.Core.Bool.{true};
 ghost use Rattle.track.specs.Meaning.{isColor};
-ghost use Rattle.track.specs.Tables.{colorAt, optional, sizeAt};
+ghost use Rattle.track.specs.Tables.{colorAt};
 ghost use Rattle.track.specs.Layout.{flag, spanCells, rowsCells, optionalCells, colorCells, sizeCells};
 ghost use Rattle.records.specs.Posts.{SmallSpan, SmallRows};
 use colors::Rgba;
@@ -91,16 +91,6 @@ pub fn put_size(cells: &mut [u32], at: usize, has: bool, s: Size)
     }
 }
 
-pub fn span_at(cells: &[u32], at: usize) -> Span
-    requires { ⌜ at + 2 ≤ length (now cells) ⌝ }
-    ensures { λ r. ⌜ r ≡ record { place = getD (now (cells .entry)) at 0; len = getD (now (cells .entry)) (at + 1) 0 } ⌝ }
-{
-    Span {
-        place: scan::get(cells, at),
-        len: scan::get(cells, at + 1),
-    }
-}
-
 pub fn rows_at(cells: &[u32], at: usize) -> Rows
     requires { ⌜ at + 2 ≤ length (now cells) ⌝ }
     ensures { λ r. ⌜ r ≡ record { first = getD (now (cells .entry)) at 0; count = getD (now (cells .entry)) (at + 1) 0 } ⌝ }
@@ -109,16 +99,6 @@ pub fn rows_at(cells: &[u32], at: usize) -> Rows
         first: scan::get(cells, at),
         count: scan::get(cells, at + 1),
     }
-}
-
-pub fn optional_at(cells: &[u32], at: usize) -> Span
-    requires { ⌜ at + 3 ≤ length (now cells) ⌝ }
-    ensures { λ r. ⌜ r ≡ optional (getD (now (cells .entry)) at 0) (getD (now (cells .entry)) (at + 1) 0) (getD (now (cells .entry)) (at + 2) 0) ⌝ }
-{
-    if cells[at] == 1 {
-        return span_at(cells, at + 1);
-    }
-    Span { place: 0, len: 0 }
 }
 
 pub fn color_at(cells: &[u32], at: usize) -> Rgba
@@ -138,24 +118,5 @@ pub fn color_at(cells: &[u32], at: usize) -> Rgba
         g: 0,
         b: 0,
         a: 0,
-    }
-}
-
-pub fn size_at(sign: u32, digits: u32, scale: u32, value: f32) -> Size
-    ensures { λ r. ⌜ r ≡ sizeAt sign digits scale value ⌝ }
-{
-    if sign == 0 {
-        return Size {
-            value: 0.0,
-            negative: false,
-            digits: 0,
-            scale: 0,
-        };
-    }
-    Size {
-        value,
-        negative: sign == 2,
-        digits,
-        scale,
     }
 }

@@ -18,8 +18,8 @@ pub fn param_at(params: &[u32], i: usize) -> Param
 {
     let at = i * 4;
     Param {
-        name: crate::cells::span_at(params, at),
-        value: crate::cells::span_at(params, at + 2),
+        name: track::span_at(params, at),
+        value: track::span_at(params, at + 2),
     }
 }
 
@@ -45,7 +45,7 @@ pub fn extra_at(extras: &[u32], i: usize) -> Extra
     let at = i * 3;
     Extra {
         number: scan::get(extras, at),
-        value: crate::cells::span_at(extras, at + 1),
+        value: track::span_at(extras, at + 1),
     }
 }
 

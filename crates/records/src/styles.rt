@@ -7,7 +7,7 @@ ghost use lib.ListN.{length};
 ghost use lib.Seq.{sets};
 ghost use Rattle.track.specs.Meaning.{isColor};
 ghost use Rattle.track.specs.Tables.{lookAt, alignAt, styleAt, regionAt};
-ghost use Rattle.track.specs.Layout.{lookCells, alignCell, styleCells, sizeValue, regionCells};
+ghost use Rattle.track.specs.Layout.{flagCells, lookCells, alignCell, styleCells, sizeValue, regionCells};
 ghost use Rattle.records.specs.Posts.{SmallSpan, SmallRows, AddPost, ValuePost};
 use crate::cells::Added;
 use track::Align;
@@ -46,21 +46,27 @@ fn align_cell(a: Align) -> u32
     }
 }
 
-// The colours and the font of the style whose row begins at a cell.
+// What the style says whose row begins at a cell.
 fn look_at(styles: &[u32], at: usize, value: f32) -> Look
     requires { ⌜ (at + 27 ≤ length (now styles)) × (isColor (now styles) (at + 4) ≡ true) × (isColor (now styles) (at + 9) ≡ true) ⌝ }
     ensures { λ r. ⌜ r ≡ lookAt (now (styles .entry)) value at ⌝ }
 {
-    let size = crate::cells::size_at(styles[at + 17], styles[at + 18], styles[at + 19], value);
+    let size = track::size_at(styles[at + 17], styles[at + 18], styles[at + 19], value);
+    let align = align_at(styles[at + 24]);
     Look {
         has_color: styles[at + 4] == 1,
         color: crate::cells::color_at(styles, at + 4),
         has_back: styles[at + 9] == 1,
         back: crate::cells::color_at(styles, at + 9),
         has_family: styles[at + 14] == 1,
-        family: crate::cells::optional_at(styles, at + 14),
+        family: track::optional_at(styles, at + 14),
         has_size: styles[at + 17] != 0,
         size,
+        bold: styles[at + 20] == 1,
+        italic: styles[at + 21] == 1,
+        underline: styles[at + 22] == 1,
+        strike: styles[at + 23] == 1,
+        align,
     }
 }
 
@@ -70,22 +76,29 @@ pub fn style_at(styles: &[u32], sizes: &[f32], i: usize) -> Style
 {
     let at = i * 27;
     let look = look_at(styles, at, sizes[SIZES + i]);
-    let align = align_at(styles[at + 24]);
     Style {
-        name: crate::cells::span_at(styles, at),
-        chain: crate::cells::span_at(styles, at + 2),
+        name: track::span_at(styles, at),
+        chain: track::span_at(styles, at + 2),
         look,
-        bold: styles[at + 20] == 1,
-        italic: styles[at + 21] == 1,
-        underline: styles[at + 22] == 1,
-        strike: styles[at + 23] == 1,
-        align,
         extras: crate::cells::rows_at(styles, at + 25),
     }
 }
 
+// Its four flags and its alignment.
+fn put_flags(styles: &mut [u32], at: usize, x: Look)
+    requires { ⌜ at + 5 ≤ length (now styles) ⌝ }
+    ensures { λ _. ⌜ now (styles .exit) ≡ sets (now (styles .entry)) at (flagCells x) ⌝ }
+{
+    let align = x.align;
+    styles[at] = crate::cells::flag_cell(x.bold);
+    styles[at + 1] = crate::cells::flag_cell(x.italic);
+    styles[at + 2] = crate::cells::flag_cell(x.underline);
+    styles[at + 3] = crate::cells::flag_cell(x.strike);
+    styles[at + 4] = align_cell(align);
+}
+
 fn put_look(styles: &mut [u32], at: usize, x: Look)
-    requires { ⌜ (at + 16 ≤ length (now styles)) × SmallSpan (x .family) ⌝ }
+    requires { ⌜ (at + 21 ≤ length (now styles)) × SmallSpan (x .family) ⌝ }
     ensures { λ _. ⌜ now (styles .exit) ≡ sets (now (styles .entry)) at (lookCells x) ⌝ }
 {
     let color = x.color;
@@ -96,6 +109,7 @@ fn put_look(styles: &mut [u32], at: usize, x: Look)
     crate::cells::put_color(styles, at + 5, x.has_back, back);
     crate::cells::put_optional(styles, at + 10, x.has_family, family);
     crate::cells::put_size(styles, at + 13, x.has_size, size);
+    put_flags(styles, at + 16, x);
 }
 
 fn put_style(styles: &mut [u32], at: usize, x: Style)
@@ -105,16 +119,10 @@ fn put_style(styles: &mut [u32], at: usize, x: Style)
     let name = x.name;
     let chain = x.chain;
     let look = x.look;
-    let align = x.align;
     let extras = x.extras;
     crate::cells::put_span(styles, at, name);
     crate::cells::put_span(styles, at + 2, chain);
     put_look(styles, at + 4, look);
-    styles[at + 20] = crate::cells::flag_cell(x.bold);
-    styles[at + 21] = crate::cells::flag_cell(x.italic);
-    styles[at + 22] = crate::cells::flag_cell(x.underline);
-    styles[at + 23] = crate::cells::flag_cell(x.strike);
-    styles[at + 24] = align_cell(align);
     crate::cells::put_rows(styles, at + 25, extras);
 }
 
@@ -147,7 +155,7 @@ pub fn region_at(regions: &[u32], i: usize) -> Region
 {
     let at = i * 4;
     Region {
-        id: crate::cells::span_at(regions, at),
+        id: track::span_at(regions, at),
         extras: crate::cells::rows_at(regions, at + 2),
     }
 }

@@ -13,11 +13,11 @@ use lib.IntN.{pos}
 use borrow.Author.Tests.{le-leb, eq-eqb}
 use Rattle.track.specs.declared.strings.Span.{Span}
 use Rattle.track.specs.declared.values.Cue.{Cue}
-use Rattle.track.specs.Track.{Wrapper, Segments}
+use Rattle.track.specs.Track.{Wrapper, Segments, segmentRows}
 use Rattle.track.specs.Track as track
 use Rattle.track.specs.Tables.{Tables, cell, rowsFrom, cueAt, segmentsAt}
 use Rattle.track.specs.Meaning.{bytesAt, given, extraIn, cueValues, isCue, areCues, wrapperIn, segmentsIn, cueIn}
-use Rattle.track.specs.Layout.{joinedCells, each, flag, rowsCells, optionalCells, cueCells, cueTimes, allSegments, preorder, segmentRows, PlacedCue}
+use Rattle.track.specs.Layout.{joinedCells, each, flag, rowsCells, optionalCells, cueCells, cueTimes, allSegments, preorder, PlacedCue}
 use Rattle.track.specs.Placing.{All, CueFits, InTurn, shownWrapper, shownSegments, shownCue}
 use Rattle.track.proofs.ReadBack.{Reads, reads-first, reads-rest}
 use Rattle.track.proofs.ExtrasLaid.{cellsOf, extras-read}
@@ -120,7 +120,7 @@ module _ (T : Tables) (z y : List ℕ) (most : ℕ) where
         (segments-read (T .segments) (T .reveal) (T .sizes) z y (x .segments) 512 from (f .nested) (f .segments) (s .rows) .0)
 
     -- the cue, whatever reads its segments
-    abbrev cueWith : (ℕ → ℕ → Segments (List ℕ)) → track.Cue
+    abbrev cueWith : (ℕ → ℕ → Segments (List ℕ)) → track.Cue (List ℕ)
     cueWith g =
         let x = cueAt (T .cues) (T .times) i in
         record {

@@ -12,7 +12,7 @@ use mathlib.Core.Option.{none, some}
 use native.Mathlib.Omega.{arith}
 use Rattle.unicode.proofs.Utf8Laws.{by-test}
 use Rattle.track.specs.declared.check.Check.{Check}
-use Rattle.track.specs.Track.{Track}
+use Rattle.track.specs.Track.{Bytes, Track}
 use Rattle.track.specs.Tables.{Tables}
 use Rattle.track.specs.Meaning.{isTrack, trackAt, trackIn}
 use Rattle.track.specs.Check.{refusedAs, isFull, checkOf}
@@ -48,7 +48,7 @@ module _ (T : Tables) where
   unfolding trackIn
   track-none e = rw e
 
-  pub accepted-exactly : isFull T ≡ true → (checkOf T ≡ Check.Track) ↔ ((k : Track) × (trackIn T ≡ some k))
+  pub accepted-exactly : isFull T ≡ true → (checkOf T ≡ Check.Track) ↔ ((k : Track Bytes) × (trackIn T ≡ some k))
   accepted-exactly f = (
     λ a. by-test (isTrack T) (λ e. (trackAt T, track-some e)) (λ e. differ (sym a ∙ check-none f e) (λ z. omega arith)),
     λ k. by-test (isTrack T) (check-track f) (λ e. no-some (sym (track-none e) ∙ k .1)),

@@ -14,10 +14,11 @@ use Rattle.scan.specs.Part.{stringAt}
 use Rattle.scan.specs.Bytes.{attrNameByte}
 use Rattle.unicode.specs.Utf8.{fitsAt, firstFit, sequenceAt, utf8End, boundary}
 use Rattle.track.specs.declared.values.Align.{Align}
+use Rattle.track.specs.Track.{segmentRows}
 use Rattle.track.specs.Track as track
 use Rattle.track.specs.Tables.{span, rowsOf, zeroFloat}
-use Rattle.track.specs.Meaning.{isSpan, every, isUtf8, trackIn}
-use Rattle.track.specs.Layout.{Placed, each, segmentRows, preorder, wrapperOf, allSegments, layout}
+use Rattle.track.specs.Meaning.{isSpan, every, isUtf8, lookIn, trackIn}
+use Rattle.track.specs.Layout.{Placed, each, preorder, wrapperOf, allSegments, layout}
 use Rattle.track.specs.Placing.{Fits, depth, laid, laidStyle, laidRegion, laidCue, shownExtra, shownParam, shownChain, shownStyle, shownRegion, shownWrapper, shownSegments, shownCue, shown}
 use Rattle.track.proofs.LayoutLaws.{layout-means}
 
@@ -47,12 +48,12 @@ small = record {
         family = span 0 0;
         «has_size» = false;
         size = record { value = zeroFloat; negative = false; digits = 0; scale = 0 };
+        bold = true;
+        italic = false;
+        underline = false;
+        strike = false;
+        align = Align.Center;
       };
-      bold = true;
-      italic = false;
-      underline = false;
-      strike = false;
-      align = Align.Center;
       extras = rowsOf 0 1;
     };
     extras = record { number = 3; value = span 3 1 } ∷ [];
@@ -124,15 +125,17 @@ pub small-means : trackIn (layout small letters words 4 2) ≡ some (record {
   styles = record {
     name = 115 ∷ [];
     chain = none;
-    color = some (record { r = 255; g = 0; b = 0; a = 255 });
-    back = none;
-    family = none;
-    size = none;
-    bold = true;
-    italic = false;
-    underline = false;
-    strike = false;
-    align = Align.Center;
+    look = record {
+      color = some (record { r = 255; g = 0; b = 0; a = 255 });
+      back = none;
+      family = none;
+      size = none;
+      bold = true;
+      italic = false;
+      underline = false;
+      strike = false;
+      align = Align.Center;
+    };
     extras = record { number = 3; value = 114 ∷ [] } ∷ [];
   } ∷ [];
   regions = record { id = 114 ∷ []; extras = record { number = 5; value = 115 ∷ [] } ∷ [] } ∷ [];
@@ -146,5 +149,5 @@ pub small-means : trackIn (layout small letters words 4 2) ≡ some (record {
     segments = track.wrap track.bold (track.text (65 ∷ []) track.done) (track.text (66 ∷ []) track.done);
   } ∷ [];
 })
-unfolding small shown shownParam shownStyle shownRegion shownCue shownSegments shownWrapper shownExtra shownChain each stringAt
+unfolding small shown shownParam shownStyle shownRegion shownCue shownSegments shownWrapper shownExtra shownChain lookIn each stringAt
 small-means = layout-means small letters words 4 2 small-fits

@@ -15,7 +15,7 @@ letter x = track.text (65 ∷ []) x
 abbrev bare : Segments Bytes → Segments Bytes → Segments Bytes
 bare c x = track.wrap (track.font none none) c x
 
-abbrev cue : Segments Bytes → Cue
+abbrev cue : Segments Bytes → Cue Bytes
 cue s = record { start = pos 0; end = pos 1; style = none; region = none; preserve = true; extras = []; segments = s }
 
 -- A<br/>A, and texts that a wrapper parts

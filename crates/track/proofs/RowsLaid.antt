@@ -21,8 +21,8 @@ use Rattle.track.specs.declared.values.Align.{Align}
 use Rattle.track.specs.declared.values.Look.{Look}
 use Rattle.track.specs.declared.values.Style.{Style}
 use Rattle.track.specs.Tables.{Tables, cell, span, optional, sizeCell, paramAt, regionAt, styleAt, colorAt, sizeAt, alignAt, lookAt}
-use Rattle.track.specs.Meaning.{isOptional, isByte, areThree, isColor, isSizeAt, isFlag, isParam, isRegion, isStyle, styleStrings, styleValues, styleFlags, bytesAt, given, paramIn, regionIn, styleIn}
-use Rattle.track.specs.Layout.{flag, spanCells, optionalCells, colorCells, sizeCells, sizeValue, styleSize, alignCell, paramCells, regionCells, lookCells, styleCells, PlacedStyle, PlacedRegion}
+use Rattle.track.specs.Meaning.{isOptional, isByte, areThree, isColor, isSizeAt, isFlag, isParam, isRegion, isStyle, styleStrings, styleValues, styleFlags, bytesAt, given, lookIn, paramIn, regionIn, styleIn}
+use Rattle.track.specs.Layout.{flag, spanCells, optionalCells, colorCells, sizeCells, sizeValue, styleSize, alignCell, paramCells, regionCells, flagCells, lookCells, styleCells, PlacedStyle, PlacedRegion}
 use Rattle.track.specs.Placing.{WithinIf, ColorIf, SizeIf, ParamFits, RegionFits, StyleFits, shownParam, shownRegion, shownStyle, shownChain}
 use Rattle.track.proofs.ReadBack.{Reads, reads-first, reads-rest}
 use Rattle.track.proofs.ExtrasLaid.{cellsOf, extras-read}
@@ -56,7 +56,7 @@ pub record OptionalRead (t : List ℕ) (p : ℕ) (z w : List ℕ) (b : Bool) (x 
   pub fits : isOptional w (getD t p 0) (getD t (p + 1) 0) (getD t (p + 2) 0) ≡ true
   pub bytes : given (eqb (getD t p 0) 1) (bytesAt z (optional (getD t p 0) (getD t (p + 1) 0) (getD t (p + 2) 0))) ≡ given b (bytesAt z x)
   pub bare : given (eqb (getD t p 0) 1) (bytesAt z (span (getD t (p + 1) 0) (getD t (p + 2) 0))) ≡ given b (bytesAt z x)
-  pub there : given (eqb (getD t p 0) 1) (span (getD t (p + 1) 0) (getD t (p + 2) 0)) ≡ given b x
+  pub there : given (eqb (getD t p 0) 1) (optional (getD t p 0) (getD t (p + 1) 0) (getD t (p + 2) 0)) ≡ given b x
 
 -- a size
 pub record SizeRead (t : List ℕ) (p : ℕ) (v : Float) (b : Bool) (s : Size) : Type 0 where
@@ -152,8 +152,8 @@ record Parts (t : List ℕ) (p : ℕ) (x : Style) : Type 0 where
   pub family : Reads 0 t (p + 14) (optionalCells (x .look .«has_family») (x .look .family))
   pub size : Reads 0 t (p + 17) (sizeCells (x .look .«has_size») (x .look .size))
   pub flags :
-      (getD t (p + 20) 0 ≡ flag (x .bold)) × (getD t (p + 21) 0 ≡ flag (x .italic)) × (getD t (p + 22) 0 ≡ flag (x .underline))
-      × (getD t (p + 23) 0 ≡ flag (x .strike)) × (getD t (p + 24) 0 ≡ alignCell (x .align))
+      (getD t (p + 20) 0 ≡ flag (x .look .bold)) × (getD t (p + 21) 0 ≡ flag (x .look .italic)) × (getD t (p + 22) 0 ≡ flag (x .look .underline))
+      × (getD t (p + 23) 0 ≡ flag (x .look .strike)) × (getD t (p + 24) 0 ≡ alignCell (x .look .align))
   pub extras : (getD t (p + 25) 0 ≡ x .extras .first) × (getD t (p + 26) 0 ≡ x .extras .count)
 
 -- parts of a row, one after the other
@@ -171,15 +171,20 @@ module _ (t : List ℕ) (p : ℕ) where
         reads-rest 0 t p (a ++ b ++ c) d h (p + (j + k + l)) (omega arith),
       )
 
-  three : (a b c : List ℕ) → length a ≡ 4 → length b ≡ 16 → Reads 0 t p (a ++ b ++ c) → Reads 0 t p a × Reads 0 t (p + 4) b × Reads 0 t (p + 20) c
+  three : (a b c : List ℕ) → length a ≡ 4 → length b ≡ 21 → Reads 0 t p (a ++ b ++ c) → Reads 0 t p a × Reads 0 t (p + 4) b × Reads 0 t (p + 25) c
   three a b c i j h =
-      let m : length (a ++ b) ≡ 20 = length-append a b ∙ omega arith in
+      let m : length (a ++ b) ≡ 25 = length-append a b ∙ omega arith in
       let f : Reads 0 t p (a ++ b) = reads-first 0 t p (a ++ b) c h in
-      (reads-first 0 t p a b f, reads-rest 0 t p a b f (p + 4) (omega arith), reads-rest 0 t p (a ++ b) c h (p + 20) (omega arith))
+      (reads-first 0 t p a b f, reads-rest 0 t p a b f (p + 4) (omega arith), reads-rest 0 t p (a ++ b) c h (p + 25) (omega arith))
 
-look-long : (x : Look) → length (lookCells x) ≡ 16
-unfolding lookCells
-look-long x = rw (
+-- what stands before the flags
+abbrev partsBefore : Look → List ℕ
+partsBefore x =
+    colorCells (x .«has_color») (x .color) ++ colorCells (x .«has_back») (x .back) ++ optionalCells (x .«has_family») (x .family)
+    ++ sizeCells (x .«has_size») (x .size)
+
+before-long : (x : Look) → length (partsBefore x) ≡ 16
+before-long x = rw (
   length-append,
   length-append,
   length-append,
@@ -189,6 +194,10 @@ look-long x = rw (
   size-long (x .«has_size») (x .size),
 )
 
+look-long : (x : Look) → length (lookCells x) ≡ 21
+unfolding lookCells flagCells
+look-long x = length-append (partsBefore x) (flagCells x) ∙ rw (before-long x)
+
 pub style-long : (x : Style) → length (styleCells x) ≡ 27
 unfolding styleCells
 style-long x = let a = spanCells (x .name) ++ spanCells (x .chain) in rw (length-append (a ++ lookCells (x .look)), length-append a, look-long (x .look))
@@ -197,7 +206,8 @@ look-parts : (t : List ℕ) (p : ℕ) (x : Look) → Reads 0 t p (lookCells x)
     → Reads 0 t p (colorCells (x .«has_color») (x .color)) × Reads 0 t (p + 5) (colorCells (x .«has_back») (x .back))
     × Reads 0 t (p + 10) (optionalCells (x .«has_family») (x .family)) × Reads 0 t (p + 13) (sizeCells (x .«has_size») (x .size))
 unfolding lookCells
-look-parts t p x h =
+look-parts t p x w =
+    let h = reads-first 0 t p (partsBefore x) (flagCells x) w in
     four t p 5 5 3 (colorCells (x .«has_color») (x .color)) (colorCells (x .«has_back») (x .back)) (optionalCells (x .«has_family») (x .family))
     (sizeCells (x .«has_size») (x .size)) (color-long (x .«has_color») (x .color)) (color-long (x .«has_back») (x .back))
     (optional-long (x .«has_family») (x .family)) h
@@ -206,21 +216,18 @@ look-parts t p x h =
 pub on : (p a b c : ℕ) → a + b ≡ c → p + a + b ≡ p + c
 on p a b c e = omega arith
 
-flags-read : (t : List ℕ) (p : ℕ) (x : Style)
-    → Reads 0 t (p + 20) (flag (x .bold) ∷ flag (x .italic) ∷ flag (x .underline) ∷ flag (x .strike) ∷ alignCell (x .align) ∷ x .extras .first ∷ x .extras .count ∷ [])
-    → ((getD t (p + 20) 0 ≡ flag (x .bold)) × (getD t (p + 21) 0 ≡ flag (x .italic)) × (getD t (p + 22) 0 ≡ flag (x .underline))
-    × (getD t (p + 23) 0 ≡ flag (x .strike)) × (getD t (p + 24) 0 ≡ alignCell (x .align)))
-    × ((getD t (p + 25) 0 ≡ x .extras .first) × (getD t (p + 26) 0 ≡ x .extras .count))
-flags-read t p x h = (
-  (
-    rw (on p 20 0 20 refl) at (h 0 (omega arith)),
-    rw (on p 20 1 21 refl) at (h 1 (omega arith)),
-    rw (on p 20 2 22 refl) at (h 2 (omega arith)),
-    rw (on p 20 3 23 refl) at (h 3 (omega arith)),
-    rw (on p 20 4 24 refl) at (h 4 (omega arith)),
-  ),
-  (rw (on p 20 5 25 refl) at (h 5 (omega arith)), rw (on p 20 6 26 refl) at (h 6 (omega arith))),
-)
+flags-read : (t : List ℕ) (p : ℕ) (x : Look) → Reads 0 t (p + 4) (lookCells x)
+    → (getD t (p + 20) 0 ≡ flag (x .bold)) × (getD t (p + 21) 0 ≡ flag (x .italic)) × (getD t (p + 22) 0 ≡ flag (x .underline))
+    × (getD t (p + 23) 0 ≡ flag (x .strike)) × (getD t (p + 24) 0 ≡ alignCell (x .align))
+unfolding lookCells flagCells
+flags-read t p x w =
+    let h = reads-rest 0 t (p + 4) (partsBefore x) (flagCells x) w (p + 20) (omega (arith, before-long x)) in (
+      rw (on p 20 0 20 refl) at (h 0 (omega arith)),
+      rw (on p 20 1 21 refl) at (h 1 (omega arith)),
+      rw (on p 20 2 22 refl) at (h 2 (omega arith)),
+      rw (on p 20 3 23 refl) at (h 3 (omega arith)),
+      rw (on p 20 4 24 refl) at (h 4 (omega arith)),
+    )
 
 parts : (t : List ℕ) (p : ℕ) (x : Style) → Reads 0 t p (styleCells x) → Parts t p x
 unfolding styleCells
@@ -228,7 +235,7 @@ parts t p x h =
     let a = spanCells (x .name) ++ spanCells (x .chain) in
     let q = three t p a (lookCells (x .look)) _ refl (look-long (x .look)) h in
     let l = look-parts t (p + 4) (x .look) (q .1) in
-    let g = flags-read t p x (q .2) in
+    let e = q .2 in
     let ha = q .0 in
     record {
       name = (first-cell t p a ha (omega arith), ha 0 (omega arith), ha 1 (omega arith));
@@ -237,8 +244,8 @@ parts t p x h =
       back = rw (on p 4 5 9 refl) at (l .1);
       family = rw (on p 4 10 14 refl) at (l .2);
       size = rw (on p 4 13 17 refl) at (l .3);
-      flags = g .0;
-      extras = g .1;
+      flags = flags-read t p (x .look) (q .1);
+      extras = (rw (on p 25 0 25 refl) at (e 0 (omega arith)), rw (on p 25 1 26 refl) at (e 1 (omega arith)));
     }
 
 module _ (T : Tables) (z : List ℕ) (i : ℕ) (x : PlacedStyle) (h : Reads 0 (T .styles) (i * 27) (styleCells (x .style))) (f : StyleFits z x) where
@@ -266,7 +273,7 @@ module _ (T : Tables) (z : List ℕ) (i : ℕ) (x : PlacedStyle) (h : Reads 0 (T
   flags-fit : styleFlags (T .styles) (i * 27) ≡ true
   unfolding styleFlags
   flags-fit =
-      let s = x .style in
+      let s = x .style .look in
       rw (
         q .flags .0,
         q .flags .1,
@@ -301,9 +308,9 @@ module _ (T : Tables) (z : List ℕ) (i : ℕ) (x : PlacedStyle) (h : Reads 0 (T
       style-fits = rw (strings-fit, values-fit, flags-fit, q .extras .0, q .extras .1) (extras-read T z 46 (x .style .extras) (x .extras) (f .extras) r .0)
 
       style-means : styleIn T i ≡ shownStyle (T .strings) x
-      unfolding styleIn styleAt lookAt cell shownStyle shownChain
+      unfolding styleIn styleAt lookAt cell shownStyle shownChain lookIn
       style-means =
-          let s = x .style in
+          let s = x .style .look in
           rw (
             q .name .1,
             q .name .2,

@@ -30,7 +30,7 @@ use Rattle.track.specs.declared.strings.Span.{Span}
 use Rattle.track.specs.declared.segments.Segment.{Segment}
 use Rattle.track.specs.Track.{Segments}
 use Rattle.track.specs.Track as track
-use Rattle.track.specs.Tables.{cell, span, sizeCell, fontAt, segmentAt, followedBy, siblingsAt, segmentsAt}
+use Rattle.track.specs.Tables.{cell, span, optional, sizeAt, sizeCell, fontAt, segmentAt, followedBy, siblingsAt, segmentsAt}
 use Rattle.track.specs.Meaning.{isSpan, isOptional, areThree, isSizeAt, isFont, isSegment, areSiblings, areSegments}
 
 -- what follows a test counts only where the test is true
@@ -423,10 +423,9 @@ unfolding isOptional
 optional-span z c p n h e = rw (eqb-true c 1 e) at h
 
 size-there :
-    (s d c : ℕ) (v : Float) → isSizeAt s d c v ≡ true → not (eqb s 0) ≡ true
-    → isSize (record { value = v; negative = eqb s 2; digits = d; scale = c }) ≡ true
-unfolding isSizeAt
-size-there s d c v h e = both (leb s 2) _ (rw (not-true (eqb s 0) e) at h) .1
+    (s d c : ℕ) (v : Float) → isSizeAt s d c v ≡ true → not (eqb s 0) ≡ true → isSize (sizeAt s d c v) ≡ true
+unfolding isSizeAt sizeAt
+size-there s d c v h e = rw (not-true (eqb s 0) e) (both (leb s 2) _ (rw (not-true (eqb s 0) e) at h) .1)
 
 pub color-bytes : (t : List ℕ) (i : ℕ) → areThree t (i * 8 + 2) ≡ true → (cell 8 t i 2 < 256) × (cell 8 t i 3 < 256) × (cell 8 t i 4 < 256)
 unfolding cell areThree
@@ -436,6 +435,13 @@ color-bytes t i h =
     let d = both _ (ltb (getD t (i * 8 + 4) 0) 256) (rw (a, b) at h) in
     let e = both (ltb (getD t (i * 8 + 2) 0) 256) _ (d .0) in
     (ltb-true _ 256 (e .0), ltb-true _ 256 (e .1), ltb-true _ 256 (d .1))
+
+-- its string is the one that its cells say
+optional-there :
+    (z : List ℕ) (c p n : ℕ) → isOptional z c p n ≡ true → eqb c 1 ≡ true
+    → isSpan z (optional c p n .place) (optional c p n .len) ≡ true
+unfolding optional
+optional-there z c p n h e = rw e (optional-span z c p n h e)
 
 pub segment-holds :
     (t : List ℕ) (r : List ℤ) (f : List Float) (z y : List ℕ) (i : ℕ) → isSegment t f z y i ≡ true → Holds z y (cell 8 t i 1) (segmentAt t r f i)
@@ -451,7 +457,7 @@ segment-holds t r f z y i h = go (kind t r f z y i h)
     go (underline e q) = rw q tt
     go (strike e q) = rw q tt
     go (color e s q) = rw q (color-bytes t i s)
-    go (font e a s q) = rw q (optional-span z _ _ _ a, size-there _ _ _ _ s)
+    go (font e a s q) = rw q (optional-there z _ _ _ a, size-there _ _ _ _ s)
 
 -- a text, a break and a timestamp have no children
 pub childless :

@@ -18,11 +18,11 @@ use Rattle.decimals.proofs.Tests.{no}
 use Rattle.track.specs.declared.strings.Span.{Span}
 use Rattle.track.specs.declared.segments.Font.{Font}
 use Rattle.track.specs.declared.segments.Segment.{Segment}
-use Rattle.track.specs.Track.{Wrapper, Segments}
+use Rattle.track.specs.Track.{Wrapper, Segments, segmentRows}
 use Rattle.track.specs.Track as track
 use Rattle.track.specs.Tables.{cell, zeroFloat, sizeCell, fontAt, segmentAt, followedBy, segmentsAt}
 use Rattle.track.specs.Meaning.{isByte, areThree, isFont, isSegment, areSegments, given}
-use Rattle.track.specs.Layout.{Sized, joinedCells, each, optionalCells, sizeCells, fontCells, segmentCells, segmentTime, segmentSize, isSome, spanOr, sizeOr, wrapperOf, segmentRows, preorder}
+use Rattle.track.specs.Layout.{Sized, joinedCells, each, optionalCells, sizeCells, fontCells, segmentCells, segmentTime, segmentSize, isSome, spanOr, sizeOr, wrapperOf, preorder}
 use Rattle.track.specs.Placing.{Within, WithinIf, SizeIf, FamilyFits, SizeFits, WrapperFits, SegmentsFit, depth}
 use Rattle.track.proofs.ReadBack.{Reads, reads-first, reads-rest, joined-append, each-append, each-many, joined-many}
 use Rattle.track.proofs.RowsLaid.{OptionalRead, SizeRead, optional-long, size-long, optional-read, size-read, on}
@@ -145,7 +145,7 @@ module _ (t : List ℕ) (r : List ℤ) (f : List Float) where
         record {
           is = is-font t f z y i k ∙ rw (← c3, ← c4, o .fits, ← c6, ← c7) (d .fits);
           rows = h 1 (omega arith);
-          joins = λ c x. rw (at-font t r f i k, ← c3, ← c4, o .there, ← c6, ← c7, d .bare, some-span a, some-size s);
+          joins = λ c x. rw (at-font t r f i k, ← c3, ← c4, o .there, ← c6, ← c7, d .is, some-span a, some-size s);
         }
       where
         family : (a : Option Span) → FamilyFits z a → WithinIf z (isSome a) (spanOr a)

@@ -20,10 +20,10 @@ use Rattle.unicode.proofs.Utf8Laws.{by-test}
 use Rattle.decimals.proofs.Tests.{both}
 use Rattle.track.specs.declared.strings.Span.{Span}
 use Rattle.track.specs.declared.segments.Segment.{Segment}
-use Rattle.track.specs.Track.{Extra, Param, Style, Region, Wrapper, Segments, Cue, Track}
+use Rattle.track.specs.Track.{Bytes, Extra, Param, Style, Region, Wrapper, Segments, Cue, Track}
 use Rattle.track.specs.Track as track
 use Rattle.track.specs.Tables.{Tables, cell, span, rowsFrom, optional, extraAt, paramAt, lookAt, styleAt, regionAt, segmentAt, followedBy, siblingsAt, segmentsAt, cueAt, paramCount, styleCount, regionCount, cueCount, segmentCount, stringsUsed, textsUsed}
-use Rattle.track.specs.Meaning.{isSpan, isOptional, areExtras, hasExtras, isParam, isStyle, isRegion, isSegment, areSiblings, areSegments, isCue, isUtf8, isTrack, bytesAt, given, extraIn, paramIn, styleIn, regionIn, segmentsIn, cueIn, trackAt, trackIn}
+use Rattle.track.specs.Meaning.{isSpan, isOptional, areExtras, hasExtras, isParam, isStyle, isRegion, isSegment, areSiblings, areSegments, isCue, isUtf8, isTrack, bytesAt, given, lookIn, extraIn, paramIn, styleIn, regionIn, segmentsIn, cueIn, trackAt, trackIn}
 use Rattle.track.proofs.Spans.{span-within}
 use Rattle.track.proofs.StringLaws.{four, span-utf8, given-span, string-used}
 use Rattle.track.proofs.RowParts.{param-parts, style-parts, region-parts, cue-parts, first-extra, extras-are}
@@ -42,7 +42,7 @@ module _ {A : Type 0} (P : A → Type 0) where
   Of (x ∷ l) = P x × Of l
 
 module _ (P : List ℕ → Type 0) where
-  abbrev pub OfParam : Param → Type 0
+  abbrev pub OfParam : Param Bytes → Type 0
   OfParam x = P (x .name) × P (x .value)
 
   abbrev pub OfWrapper : Wrapper (List ℕ) → Type 0
@@ -60,19 +60,19 @@ module _ (P : List ℕ → Type 0) where
   OfSegments (track.timestamp u x) = OfSegments x
   OfSegments (track.wrap w c x) = OfWrapper w × OfSegments c × OfSegments x
 
-  abbrev pub OfExtras : List Extra → Type 0
-  OfExtras x = Of (λ (e : Extra). P (e .value)) x
+  abbrev pub OfExtras : List (Extra Bytes) → Type 0
+  OfExtras x = Of (λ (e : Extra Bytes). P (e .value)) x
 
-  abbrev pub OfStyle : Style → Type 0
-  OfStyle x = P (x .name) × OfOption P (x .chain) × OfOption P (x .family) × OfExtras (x .extras)
+  abbrev pub OfStyle : Style Bytes → Type 0
+  OfStyle x = P (x .name) × OfOption P (x .chain) × OfOption P (x .look .family) × OfExtras (x .extras)
 
-  abbrev pub OfRegion : Region → Type 0
+  abbrev pub OfRegion : Region Bytes → Type 0
   OfRegion x = P (x .id) × OfExtras (x .extras)
 
-  abbrev pub OfCue : Cue → Type 0
+  abbrev pub OfCue : Cue Bytes → Type 0
   OfCue x = OfOption P (x .style) × OfOption P (x .region) × OfExtras (x .extras) × OfSegments (x .segments)
 
-  abbrev pub OfTrack : Track → Type 0
+  abbrev pub OfTrack : Track Bytes → Type 0
   OfTrack x = OfOption P (x .lang) × Of OfParam (x .params) × Of OfStyle (x .styles) × Of OfRegion (x .regions) × Of OfCue (x .cues)
 
 of-rows : {A : Type 0} (P : A → Type 0) (g : ℕ → A) (n i : ℕ) → ((j : ℕ) → j < i + n → P (g j)) → Of P (rowsFrom g n i)
@@ -117,7 +117,7 @@ module _ (T : Tables) (u : ℕ) (h : isUtf8 (take u (T .strings)) ≡ true) wher
       (string-ok s u h (cell 4 t i 0) (cell 4 t i 1) (a .name), string-ok s u h (cell 4 t i 2) (cell 4 t i 3) (a .value))
 
   pub style-utf8 : (i : ℕ) → isStyle (T .styles) (T .sizes) (T .extras) (take u s) i ≡ true → OfStyle Utf8 (styleIn T i)
-  unfolding styleAt styleIn lookAt cell
+  unfolding styleAt styleIn lookAt lookIn cell
   style-utf8 i w =
       let c : ℕ → ℕ = cell 27 (T .styles) i in
       let a = style-parts (T .styles) (T .sizes) (T .extras) (take u s) i w in
@@ -207,7 +207,7 @@ track-utf8 T h =
       of-rows (OfCue Utf8) (cueIn T) (cueCount t) 0 (λ j l. cue-utf8 T u a (textsUsed t) b (segmentCount t) j (cue-ok T h j (omega arith) .0)),
     )
 
-pub accepted-utf8 : (T : Tables) (k : Track) → trackIn T ≡ some k → OfTrack Utf8 k
+pub accepted-utf8 : (T : Tables) (k : Track Bytes) → trackIn T ≡ some k → OfTrack Utf8 k
 accepted-utf8 T k w =
     by-test (isTrack T)
     (λ e.

@@ -21,7 +21,7 @@ use Rattle.track.specs.declared.values.Look.{Look}
 use Rattle.track.specs.declared.values.Style.{Style}
 use Rattle.track.specs.declared.values.Region.{Region}
 use Rattle.track.specs.declared.values.Cue.{Cue}
-use Rattle.track.specs.Track.{Wrapper, Segments}
+use Rattle.track.specs.Track.{Wrapper, Segments, segmentRows}
 use Rattle.track.specs.Track as track
 use Rattle.track.specs.Tables.{Tables, zeroFloat}
 
@@ -58,17 +58,19 @@ paramCells x = spanCells (x .name) ++ spanCells (x .value)
 unfoldable pub extraCells : Extra → List ℕ
 extraCells x = x .number ∷ spanCells (x .value)
 
+unfoldable pub flagCells : Look → List ℕ
+unfolding alignCell
+flagCells x = flag (x .bold) ∷ flag (x .italic) ∷ flag (x .underline) ∷ flag (x .strike) ∷ alignCell (x .align) ∷ []
+
 unfoldable pub lookCells : Look → List ℕ
-unfolding colorCells sizeCells
+unfolding colorCells sizeCells flagCells
 lookCells x =
     colorCells (x .«has_color») (x .color) ++ colorCells (x .«has_back») (x .back) ++ optionalCells (x .«has_family») (x .family)
-    ++ sizeCells (x .«has_size») (x .size)
+    ++ sizeCells (x .«has_size») (x .size) ++ flagCells x
 
 unfoldable pub styleCells : Style → List ℕ
-unfolding lookCells alignCell
-styleCells x =
-    spanCells (x .name) ++ spanCells (x .chain) ++ lookCells (x .look)
-    ++ (flag (x .bold) ∷ flag (x .italic) ∷ flag (x .underline) ∷ flag (x .strike) ∷ alignCell (x .align) ∷ rowsCells (x .extras))
+unfolding lookCells
+styleCells x = spanCells (x .name) ++ spanCells (x .chain) ++ lookCells (x .look) ++ rowsCells (x .extras)
 
 -- the f32 of a size; 0 where there is none
 abbrev pub sizeValue : Bool → Size → Float
@@ -148,14 +150,6 @@ wrapperOf (track.font a s) = Segment.Font (record {
   «has_size» = isSome s;
   size = sizeOr s;
 })
-
--- how many rows
-unfoldable pub segmentRows : Segments Span → ℕ
-segmentRows track.done = 0
-segmentRows (track.text s x) = 1 + segmentRows x
-segmentRows (track.break x) = 1 + segmentRows x
-segmentRows (track.timestamp t x) = 1 + segmentRows x
-segmentRows (track.wrap w c x) = 1 + segmentRows c + segmentRows x
 
 -- each segment without its children, with its number of rows
 pub record Sized : Type 0 where

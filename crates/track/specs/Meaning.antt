@@ -12,7 +12,8 @@ use Rattle.unicode.specs.Utf8.{boundary, utf8End}
 use Rattle.decimals.specs.Size.{isSize}
 use Rattle.track.specs.declared.strings.Span.{Span}
 use Rattle.track.specs.declared.values.Rows.{Rows}
-use Rattle.track.specs.Track.{Extra, Param, Style, Region, Wrapper, Segments, Cue, Track}
+use Rattle.track.specs.declared.values.Look as values
+use Rattle.track.specs.Track.{Bytes, Extra, Param, Look, Style, Region, Wrapper, Segments, Cue, Track}
 use Rattle.track.specs.Track as track
 use Rattle.track.specs.Tables.{Tables, cell, span, rowsFrom, paramCount, styleCount, regionCount, cueCount, segmentCount, stringsUsed, textsUsed, sizeCell, extraAt, paramAt, styleAt, regionAt, segmentsAt, cueAt}
 use Rattle.track.specs.Tables as tables
@@ -203,17 +204,31 @@ bytesAt z x = stringAt z (x .place) (x .len)
 abbrev pub given : {A : Type 0} → Bool → A → Option A
 given b x = cond b (some x) none
 
+-- what a style says; z are the bytes of the strings
+unfoldable pub lookIn : List ℕ → values.Look → Look Bytes
+lookIn z l = record {
+  color = given (l .«has_color») (l .color);
+  back = given (l .«has_back») (l .back);
+  family = given (l .«has_family») (bytesAt z (l .family));
+  size = given (l .«has_size») (l .size);
+  bold = l .bold;
+  italic = l .italic;
+  underline = l .underline;
+  strike = l .strike;
+  align = l .align;
+}
+
 module _ (T : Tables) where
   abbrev pub string : Span → List ℕ
   string x = bytesAt (T .strings) x
 
-  abbrev pub extraIn : ℕ → Extra
+  abbrev pub extraIn : ℕ → Extra Bytes
   extraIn i = let x = tables.extraAt (T .extras) i in record { number = x .number; value = string (x .value) }
 
-  abbrev pub extrasIn : Rows → List Extra
+  abbrev pub extrasIn : Rows → List (Extra Bytes)
   extrasIn x = rowsFrom extraIn (x .count) (x .first)
 
-  unfoldable pub paramIn : ℕ → Param
+  unfoldable pub paramIn : ℕ → Param Bytes
   unfolding paramAt
   paramIn i = let x = paramAt (T .params) i in record { name = string (x .name); value = string (x .value) }
 
@@ -221,27 +236,18 @@ module _ (T : Tables) where
   abbrev pub chainOf : Span → Option (List ℕ)
   chainOf x = cond (eqb (x .len) 0) none (some (string x))
 
-  unfoldable pub styleIn : ℕ → Style
-  unfolding styleAt extraAt rowsFrom
+  unfoldable pub styleIn : ℕ → Style Bytes
+  unfolding styleAt extraAt rowsFrom lookIn
   styleIn i =
       let x = styleAt (T .styles) (T .sizes) i in
-      let l = x .look in
       record {
         name = string (x .name);
         chain = chainOf (x .chain);
-        color = given (l .«has_color») (l .color);
-        back = given (l .«has_back») (l .back);
-        family = given (l .«has_family») (string (l .family));
-        size = given (l .«has_size») (l .size);
-        bold = x .bold;
-        italic = x .italic;
-        underline = x .underline;
-        strike = x .strike;
-        align = x .align;
+        look = lookIn (T .strings) (x .look);
         extras = extrasIn (x .extras);
       }
 
-  unfoldable pub regionIn : ℕ → Region
+  unfoldable pub regionIn : ℕ → Region Bytes
   unfolding regionAt extraAt rowsFrom
   regionIn i = let x = regionAt (T .regions) i in record { id = string (x .id); extras = extrasIn (x .extras) }
 
@@ -262,7 +268,7 @@ module _ (T : Tables) where
   segmentsIn (track.timestamp t x) = track.timestamp t (segmentsIn x)
   segmentsIn (track.wrap w c x) = track.wrap (wrapperIn w) (segmentsIn c) (segmentsIn x)
 
-  unfoldable pub cueIn : ℕ → Cue
+  unfoldable pub cueIn : ℕ → Cue Bytes
   unfolding cueAt segmentsAt segmentsIn extraAt rowsFrom
   cueIn i =
       let x = cueAt (T .cues) (T .times) i in
@@ -276,7 +282,7 @@ module _ (T : Tables) where
         segments = segmentsIn (segmentsAt (T .segments) (T .reveal) (T .sizes) 512 (x .segments .count) (x .segments .first));
       }
 
-  unfoldable pub trackAt : Track
+  unfoldable pub trackAt : Track Bytes
   unfolding rowsFrom paramIn styleIn regionIn cueIn
   trackAt = record {
     lang = given (eqb (getD (T .head) 5 0) 1) (string (span (getD (T .head) 6 0) (getD (T .head) 7 0)));
@@ -287,6 +293,6 @@ module _ (T : Tables) where
   }
 
 -- what the tables mean: the track that they hold, or none
-unfoldable pub trackIn : Tables → Option Track
+unfoldable pub trackIn : Tables → Option (Track Bytes)
 unfolding isTrack trackAt
 trackIn T = cond (isTrack T) (some (trackAt T)) none

@@ -16,43 +16,34 @@ use Rattle.track.specs.declared.strings.Span.{Span}
 use Rattle.track.specs.declared.values.Param.{Param}
 use Rattle.track.specs.declared.values.Extra.{Extra}
 use Rattle.track.specs.declared.values.Rows.{Rows}
-use Rattle.track.specs.Track.{Bytes, Wrapper, Segments, Track}
+use Rattle.track.specs.Track.{Bytes, Wrapper, Segments, Track, segmentRows}
 use Rattle.track.specs.Track as track
-use Rattle.track.specs.Meaning.{isSpan, every, isUtf8, bytesAt, given}
-use Rattle.track.specs.Layout.{Placed, PlacedStyle, PlacedRegion, PlacedCue, each, segmentRows, allSegments}
+use Rattle.track.specs.Meaning.{isSpan, every, isUtf8, bytesAt, given, lookIn}
+use Rattle.track.specs.Layout.{Placed, PlacedStyle, PlacedRegion, PlacedCue, each, allSegments}
 
 -- ---- what it shows: z are the bytes of its strings, y those of its texts
-unfoldable pub shownExtra : List ℕ → Extra → track.Extra
+unfoldable pub shownExtra : List ℕ → Extra → track.Extra Bytes
 shownExtra z x = record { number = x .number; value = bytesAt z (x .value) }
 
-unfoldable pub shownParam : List ℕ → Param → track.Param
+unfoldable pub shownParam : List ℕ → Param → track.Param Bytes
 shownParam z x = record { name = bytesAt z (x .name); value = bytesAt z (x .value) }
 
 -- a chain without bytes is none
 unfoldable pub shownChain : List ℕ → Span → Option Bytes
 shownChain z x = cond (eqb (x .len) 0) none (some (bytesAt z x))
 
-unfoldable pub shownStyle : List ℕ → PlacedStyle → track.Style
-unfolding each shownExtra shownChain
+unfoldable pub shownStyle : List ℕ → PlacedStyle → track.Style Bytes
+unfolding each shownExtra shownChain lookIn
 shownStyle z x =
     let s = x .style in
-    let l = s .look in
     record {
       name = bytesAt z (s .name);
       chain = shownChain z (s .chain);
-      color = given (l .«has_color») (l .color);
-      back = given (l .«has_back») (l .back);
-      family = given (l .«has_family») (bytesAt z (l .family));
-      size = given (l .«has_size») (l .size);
-      bold = s .bold;
-      italic = s .italic;
-      underline = s .underline;
-      strike = s .strike;
-      align = s .align;
+      look = lookIn z (s .look);
       extras = each (shownExtra z) (x .extras);
     }
 
-unfoldable pub shownRegion : List ℕ → PlacedRegion → track.Region
+unfoldable pub shownRegion : List ℕ → PlacedRegion → track.Region Bytes
 unfolding each shownExtra
 shownRegion z x = record { id = bytesAt z (x .region .id); extras = each (shownExtra z) (x .extras) }
 
@@ -73,7 +64,7 @@ shownSegments z y (track.break x) = track.break (shownSegments z y x)
 shownSegments z y (track.timestamp t x) = track.timestamp t (shownSegments z y x)
 shownSegments z y (track.wrap w c x) = track.wrap (shownWrapper z w) (shownSegments z y c) (shownSegments z y x)
 
-unfoldable pub shownCue : (z y : List ℕ) → PlacedCue → track.Cue
+unfoldable pub shownCue : (z y : List ℕ) → PlacedCue → track.Cue Bytes
 unfolding each shownExtra shownSegments
 shownCue z y x =
     let c = x .cue in
@@ -87,7 +78,7 @@ shownCue z y x =
       segments = shownSegments z y (x .segments);
     }
 
-unfoldable pub shown : Placed → (z y : List ℕ) → Track
+unfoldable pub shown : Placed → (z y : List ℕ) → Track Bytes
 unfolding each shownParam shownStyle shownRegion shownCue
 shown k z y = record {
   lang = given (k .«has_lang») (bytesAt z (k .lang));

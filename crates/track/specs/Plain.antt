@@ -3,25 +3,10 @@ use mathlib.Core.Path.{_≡_}
 use mathlib.Core.Bool.{Bool, true, false, not, _&&_}
 use mathlib.Core.List.{List, [], _∷_}
 use mathlib.Core.Option.{none, some}
-use Rattle.track.specs.Track.{Bytes, Style, Wrapper, Segments, Cue, Track}
+use Rattle.track.specs.Track.{Bytes, Wrapper, Segments, Cue, Track, noSegments, oneSegment, isBareFont}
 use Rattle.track.specs.Track as track
 
 -- ---- segments
-unfoldable pub noSegments : Segments Bytes → Bool
-noSegments track.done = true
-noSegments (track.text s x) = false
-noSegments (track.break x) = false
-noSegments (track.timestamp t x) = false
-noSegments (track.wrap w c x) = false
-
-unfoldable pub oneSegment : Segments Bytes → Bool
-unfolding noSegments
-oneSegment track.done = false
-oneSegment (track.text s x) = noSegments x
-oneSegment (track.break x) = noSegments x
-oneSegment (track.timestamp t x) = noSegments x
-oneSegment (track.wrap w c x) = noSegments x
-
 unfoldable pub beginsWithText : Segments Bytes → Bool
 beginsWithText track.done = false
 beginsWithText (track.text s x) = true
@@ -32,17 +17,6 @@ beginsWithText (track.wrap w c x) = false
 unfoldable pub isEmptyText : Bytes → Bool
 isEmptyText [] = true
 isEmptyText (b ∷ s) = false
-
--- "a font without family and size"
-unfoldable pub isBareFont : Wrapper Bytes → Bool
-isBareFont track.bold = false
-isBareFont track.italic = false
-isBareFont track.underline = false
-isBareFont track.strike = false
-isBareFont (track.color c) = false
-isBareFont (track.font none none) = true
-isBareFont (track.font none (some s)) = false
-isBareFont (track.font (some a) s) = false
 
 unfoldable pub isStrike : Wrapper Bytes → Bool
 isStrike track.bold = false
@@ -71,23 +45,19 @@ isBareCue (track.timestamp t x) = false
 isBareCue (track.wrap w c x) = isBareFont w && noSegments x
 
 -- ---- the whole
-unfoldable pub isPlainCue : Cue → Bool
+unfoldable pub isPlainCue : Cue Bytes → Bool
 unfolding isPlainSegments isBareCue
 isPlainCue x = x .preserve && isPlainSegments (x .segments) && not (isBareCue (x .segments))
-
--- the writer leaves out the strike of a named style (request (b) adds it), so a plain track has none there either
-unfoldable pub isPlainStyle : Style → Bool
-isPlainStyle x = not (x .strike)
 
 unfoldable pub allOf : {A : Type 0} → (A → Bool) → List A → Bool
 allOf p [] = true
 allOf p (x ∷ l) = p x && allOf p l
 
-unfoldable pub isPlainTrack : Track → Bool
-unfolding isPlainStyle isPlainCue allOf
-isPlainTrack t = allOf isPlainStyle (t .styles) && allOf isPlainCue (t .cues)
+unfoldable pub isPlainTrack : Track Bytes → Bool
+unfolding isPlainCue allOf
+isPlainTrack t = allOf isPlainCue (t .cues)
 
 -- "neither its writing nor its written text meets a number": `meets` says that one of the two does
-pub record Plain (meets : Track → Type 0) (t : Track) : Type 0 where
+pub record Plain (meets : Track Bytes → Type 0) (t : Track Bytes) : Type 0 where
   pub shape : isPlainTrack t ≡ true
   pub unmet : meets t → ⊥

@@ -114,7 +114,7 @@ unfoldable pub alignAt : ℕ → Align
 alignAt c = cond (eqb c 1) Align.Center (cond (eqb c 2) Align.End (cond (eqb c 3) Align.Left (cond (eqb c 4) Align.Right Align.Start)))
 
 unfoldable pub lookAt : List ℕ → Float → ℕ → Look
-unfolding optional colorAt sizeAt
+unfolding optional colorAt sizeAt alignAt
 lookAt t v i = record {
   «has_color» = eqb (getD t (i + 4) 0) 1;
   color = colorAt t (i + 4);
@@ -124,21 +124,21 @@ lookAt t v i = record {
   family = optional (getD t (i + 14) 0) (getD t (i + 15) 0) (getD t (i + 16) 0);
   «has_size» = not (eqb (getD t (i + 17) 0) 0);
   size = sizeAt (getD t (i + 17) 0) (getD t (i + 18) 0) (getD t (i + 19) 0) v;
+  bold = eqb (getD t (i + 20) 0) 1;
+  italic = eqb (getD t (i + 21) 0) 1;
+  underline = eqb (getD t (i + 22) 0) 1;
+  strike = eqb (getD t (i + 23) 0) 1;
+  align = alignAt (getD t (i + 24) 0);
 }
 
 unfoldable pub styleAt : (styles : List ℕ) (sizes : List Float) → ℕ → Style
-unfolding cell lookAt alignAt
+unfolding cell lookAt
 styleAt t f i =
     let c = cell 27 t i in
     record {
       name = span (c 0) (c 1);
       chain = span (c 2) (c 3);
       look = lookAt t (sizeCell f (16384 + i)) (i * 27);
-      bold = eqb (c 20) 1;
-      italic = eqb (c 21) 1;
-      underline = eqb (c 22) 1;
-      strike = eqb (c 23) 1;
-      align = alignAt (c 24);
       extras = rowsOf (c 25) (c 26);
     }
 
@@ -154,14 +154,14 @@ regionAt t i = record { id = span (cell 4 t i 0) (cell 4 t i 1); extras = rowsOf
 -- (an unknown kind is no segment: `Meaning`)
 module _ (t : List ℕ) (r : List ℤ) (f : List Float) where
   unfoldable pub fontAt : ℕ → Font
-  unfolding cell
+  unfolding cell optional sizeAt
   fontAt i =
       let c = cell 8 t i in
       record {
         «has_family» = eqb (c 2) 1;
-        family = span (c 3) (c 4);
+        family = optional (c 2) (c 3) (c 4);
         «has_size» = not (eqb (c 5) 0);
-        size = record { value = sizeCell f i; negative = eqb (c 5) 2; digits = c 6; scale = c 7 };
+        size = sizeAt (c 5) (c 6) (c 7) (sizeCell f i);
       }
 
   unfoldable pub segmentAt : ℕ → Segment

@@ -4,6 +4,7 @@ mod check;
 mod cues;
 mod extras;
 mod params;
+mod parts;
 mod segments;
 mod strings;
 mod styles;
@@ -11,6 +12,9 @@ mod values;
 
 pub use check::Check;
 pub use check::check_track;
+pub use parts::optional_at;
+pub use parts::size_at;
+pub use parts::span_at;
 pub use segments::Font;
 pub use segments::Rgb;
 pub use segments::Segment;

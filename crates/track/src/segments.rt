@@ -137,20 +137,13 @@ fn font_at(segments: &[u32], sizes: &[f32], i: usize) -> Font
     ensures { λ r. ⌜ ((v : List ℤ) → r ≡ fontAt (now (segments .entry)) v (now (sizes .entry)) i) ⌝ }
 {
     let at = i * 8;
-    let family = Span {
-        place: scan::get(segments, at + 3),
-        len: scan::get(segments, at + 4),
-    };
-    let size = Size {
-        value: sizes[i],
-        negative: segments[at + 5] == 2,
-        digits: segments[at + 6],
-        scale: segments[at + 7],
-    };
+    let sign = segments[at + 5];
+    let family = crate::parts::optional_at(segments, at + 2);
+    let size = crate::parts::size_at(sign, segments[at + 6], segments[at + 7], sizes[i]);
     Font {
         has_family: segments[at + 2] == 1,
         family,
-        has_size: segments[at + 5] != 0,
+        has_size: sign != 0,
         size,
     }
 }

@@ -30,7 +30,7 @@ pub enum Align {
     Right,
 }
 
-// The colours and the font of a style.
+// What a style says.
 pub struct Look {
     pub has_color: bool,
     pub color: Rgba,
@@ -40,6 +40,11 @@ pub struct Look {
     pub family: Span,
     pub has_size: bool,
     pub size: Size,
+    pub bold: bool,
+    pub italic: bool,
+    pub underline: bool,
+    pub strike: bool,
+    pub align: Align,
 }
 
 // A named style. A chain without bytes is none.
@@ -47,11 +52,6 @@ pub struct Style {
     pub name: Span,
     pub chain: Span,
     pub look: Look,
-    pub bold: bool,
-    pub italic: bool,
-    pub underline: bool,
-    pub strike: bool,
-    pub align: Align,
     pub extras: Rows,
 }
 

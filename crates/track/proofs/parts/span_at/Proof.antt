@@ -1,7 +1,7 @@
 -- `span_at` meets its contract: two cells. Assumes nothing.
 use borrow.Author.Needs.{needs}
-use Rattle.records.proofs.cells.span_at.Statement.{statement}
-use Rattle.records.proofs.cells.span_at.Tie as tie
+use Rattle.track.proofs.parts.span_at.Statement.{statement}
+use Rattle.track.proofs.parts.span_at.Tie as tie
 
 get-requires : tie.Need-get-requires
 get-requires c κs = search needs

@@ -1,9 +1,9 @@
 -- `size_at` meets its contract. Assumes nothing.
 use borrow.Author.Tests.{eq-eqb, ne-eqb}
 use lib.Ieee.{ofBits}
 use Rattle.track.specs.Tables.{sizeAt}
-use Rattle.records.proofs.cells.size_at.Statement.{statement}
-use Rattle.records.proofs.cells.size_at.Tie as tie
+use Rattle.track.proofs.parts.size_at.Statement.{statement}
+use Rattle.track.proofs.parts.size_at.Tie as tie
 
 returns : tie.Need-returns
 unfolding sizeAt ofBits

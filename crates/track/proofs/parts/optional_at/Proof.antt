@@ -4,10 +4,10 @@ use mathlib.Core.Path.{_≡_, _∙_}
 use lib.ListN.{getD}
 use borrow.Author.Tests.{eq-eqb, ne-eqb}
 use native.Mathlib.Omega.{arith}
 use Rattle.track.specs.Tables.{optional}
 use borrow.Author.Needs.{needs}
-use Rattle.records.proofs.cells.optional_at.Statement.{statement}
-use Rattle.records.proofs.cells.optional_at.Tie as tie
+use Rattle.track.proofs.parts.optional_at.Statement.{statement}
+use Rattle.track.proofs.parts.optional_at.Tie as tie
 
 mul-if1 : tie.Need-mul-if1
 mul-if1 c = search needs
