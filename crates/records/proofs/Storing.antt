@@ -11,7 +11,7 @@ use Rattle.colors.specs.declared.read.Rgba.{Rgba}
 use Rattle.decimals.specs.declared.size.Size.{Size}
 use Rattle.track.specs.declared.strings.Span.{Span}
 use Rattle.track.specs.declared.values.Look.{Look}
-use Rattle.track.specs.Layout.{optionalCells, colorCells, sizeCells, lookCells}
+use Rattle.track.specs.Layout.{optionalCells, colorCells, sizeCells, flagCells, lookCells}
 
 -- the table t with the k cells a from cell i on is t′
 pub record Wrote (t : List ℕ) (i k : ℕ) (a t′ : List ℕ) : Type 0 where
@@ -48,7 +48,12 @@ unfolding sizeCells
 size-wide true s = refl
 size-wide false s = refl
 
-pub look-wide : (x : Look) → length (lookCells x) ≡ 16
-unfolding lookCells
+pub look-wide : (x : Look) → length (lookCells x) ≡ 21
+unfolding lookCells flagCells
 look-wide x =
-    simp length-append (rw (color-wide (x .«has_color») (x .color), color-wide (x .«has_back») (x .back), optional-wide (x .«has_family») (x .family), size-wide (x .«has_size») (x .size)))
+    simp length-append (rw (
+      color-wide (x .«has_color») (x .color),
+      color-wide (x .«has_back») (x .back),
+      optional-wide (x .«has_family») (x .family),
+      size-wide (x .«has_size») (x .size),
+    ))

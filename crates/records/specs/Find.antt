@@ -7,7 +7,7 @@ use lib.ListN.{length, getD}
 use lib.Dec.{eqb}
 use Rattle.scan.specs.Names.{sameBytes}
 use Rattle.scan.specs.Part.{stringAt}
-use Rattle.track.specs.Track.{Extra, Style, Region}
+use Rattle.track.specs.Track.{Bytes, Extra, Style, Region}
 use Rattle.track.specs.Layout.{isSome}
 use Rattle.records.specs.declared.find.Found.{Found}
 
@@ -44,32 +44,32 @@ abbrev pub isEmpty : {A : Type 0} → List A → Bool
 isEmpty [] = true
 isEmpty (x ∷ l) = false
 
-abbrev pub chainFrom : Option Style → Option (List ℕ)
+abbrev pub chainFrom : {S : Type 0} → Option (Style S) → Option S
 chainFrom none = none
 chainFrom (some x) = x .chain
 
-abbrev pub extrasFrom : Option Style → List Extra
+abbrev pub extrasFrom : {S : Type 0} → Option (Style S) → List (Extra S)
 extrasFrom none = []
 extrasFrom (some x) = x .extras
 
 -- the Rust's `style`: the first of this name
-unfoldable pub findStyle : List ℕ → List Style → Option Style
+unfoldable pub findStyle : List ℕ → List (Style Bytes) → Option (Style Bytes)
 unfolding firstThat
-findStyle name l = firstThat (λ (x : Style). sameBytes (x .name) name) l
+findStyle name l = firstThat (λ (x : Style Bytes). sameBytes (x .name) name) l
 
 -- the first chain, and the first extras that are not empty, of styles of this name
-unfoldable pub findChain : List ℕ → List Style → Option (List ℕ)
+unfoldable pub findChain : List ℕ → List (Style Bytes) → Option (List ℕ)
 unfolding firstThat
-findChain name l = chainFrom (firstThat (λ (x : Style). isSome (x .chain) && sameBytes (x .name) name) l)
+findChain name l = chainFrom (firstThat (λ (x : Style Bytes). isSome (x .chain) && sameBytes (x .name) name) l)
 
-unfoldable pub findExtras : List ℕ → List Style → List Extra
+unfoldable pub findExtras : List ℕ → List (Style Bytes) → List (Extra Bytes)
 unfolding firstThat
-findExtras name l = extrasFrom (firstThat (λ (x : Style). not (isEmpty (x .extras)) && sameBytes (x .name) name) l)
+findExtras name l = extrasFrom (firstThat (λ (x : Style Bytes). not (isEmpty (x .extras)) && sameBytes (x .name) name) l)
 
 -- the first region of this id
-unfoldable pub findRegion : List ℕ → List Region → Option Region
+unfoldable pub findRegion : List ℕ → List (Region Bytes) → Option (Region Bytes)
 unfolding firstThat
-findRegion id l = firstThat (λ (x : Region). sameBytes (x .id) id) l
+findRegion id l = firstThat (λ (x : Region Bytes). sameBytes (x .id) id) l
 
 -- what is found, of rows that are known by f
 abbrev pub foundIn : {A : Type 0} → (ℕ → A) → Found → Option A

@@ -5,7 +5,7 @@ use Rattle.records.proofs.styles.size_value.Statement.{statement}
 use Rattle.records.proofs.styles.size_value.Tie as tie
 
 returns : tie.Need-returns
-returns c = search needs
+returns c = rw (c .if1 .taken)
 
 returns-2 : tie.Need-returns-2
 unfolding ofBits
