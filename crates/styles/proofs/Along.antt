@@ -1,0 +1,167 @@
+-- The walk over the words of a value, as the program goes along it. Assumes nothing.
+--     walk-cons, walk-none, walk-longer            the walk, an id at a time
+--     grown-none, grown-more                       rows that were added
+--     word-part                                    a word of a part is a part of the whole
+--     Along, along-start, along-step, along-done, along-full      where the program is
+use Prim.Native.Nat.{ℕ, zero, suc, _+_, _-_, _*_, _≤_, _<_}
+use mathlib.Core.Path.{_≡_, refl, sym, ap, _∙_}
+use mathlib.Core.Logic.{_⊎_, inl, inr}
+use mathlib.Core.List.{List, [], _∷_, _++_}
+use native.Mathlib.Omega.{arith}
+use native.Mathlib.Nat.{sub-zero, zero-sub, suc-sub-suc}
+use lib.ListN.{length, getD, take, drop, length-append, length-take, length-drop}
+use lib.Seq.{take-take, drop-drop}
+use lib.Ieee.{Float}
+use Rattle.scan.specs.Part.{part, stringAt}
+use Rattle.unicode.specs.White.{words, wordsFrom, WordAt}
+use Rattle.unicode.proofs.WhiteLaws.{wordsFrom-after}
+use Rattle.track.specs.Track.{Bytes, Style}
+use Rattle.track.specs.Tables.{rowsFrom}
+use Rattle.styles.specs.declared.apply.Walk.{Walk}
+use Rattle.styles.specs.Resolve.{Walked, meet, own, each, walk}
+use Rattle.styles.specs.Ids.{idsIn, Held}
+use Rattle.styles.specs.Steps.{stylesIn, stateIn, Grown, Over, Applies, Overflows}
+use Rattle.styles.proofs.Walks.{Walks, done, again, first, own-visited}
+use Rattle.styles.proofs.Equations.{walk-walks, walk-is}
+
+-- ---- the walk
+module _ (styles : List Style) where
+  pub walk-none : (w : Walked) → walk styles [] w ≡ w
+  walk-none w = walk-is styles .none w
+
+  pub walk-cons : (a : Bytes) (ids : List Bytes) (w : Walked) → walk styles (a ∷ ids) w ≡ walk styles ids (walk styles (a ∷ []) w)
+  unfolding walk each
+  walk-cons a ids w = refl
+
+  met-length : (a : Bytes) (w : Walked) → length (meet a w .visited) ≡ length (w .visited) + 1
+  unfolding meet
+  met-length a w = length-append (w .visited) (a ∷ [])
+
+  longer : {ids : List Bytes} {w r : Walked} → Walks styles ids w r → length (w .visited) ≤ length (r .visited)
+  longer (done e) = rw e (omega arith)
+  longer (again e d) = longer d
+  longer (first {a = a} {w = w} {m = m} e d k) = omega (arith, met-length a w, longer d, ap length (own-visited styles a m), longer k)
+
+  pub walk-longer : (ids : List Bytes) (w : Walked) → length (w .visited) ≤ length (walk styles ids w .visited)
+  walk-longer ids w = longer (walk-walks styles ids w)
+
+  pub met-longer : (a : Bytes) (ids : List Bytes) (w : Walked) → length (w .visited) < length (walk styles ids (meet a w) .visited)
+  met-longer a ids w = omega (arith, met-length a w, walk-longer ids (meet a w))
+
+-- ---- rows
+rows-length : {A : Type 0} (f : ℕ → A) (n i : ℕ) → length (rowsFrom f n i) ≡ n
+unfolding rowsFrom
+rows-length f zero i = refl
+rows-length f (suc n) i = ap suc (rows-length f n (i + 1))
+
+pub ids-length : (x z t : List ℕ) (n : ℕ) → length (idsIn x z t n) ≡ n
+unfolding idsIn
+ids-length x z t n = rows-length _ n 0
+
+pub grown-none : (x z t heads : List ℕ) (n : ℕ) → Held x z t heads n → Grown x z t t heads n n
+grown-none x z t heads n h = record { more = omega arith; kept = refl; held = h; behind = λ k l. refl }
+
+pub grown-more : (x z t t₁ t₂ h₁ h₂ : List ℕ) (n n₁ n₂ : ℕ) → Grown x z t t₁ h₁ n n₁ → Grown x z t₁ t₂ h₂ n₁ n₂ → Grown x z t t₂ h₂ n n₂
+grown-more x z t t₁ t₂ h₁ h₂ n n₁ n₂ a b = record {
+  more = omega (arith, a .more, b .more);
+  kept = b .kept ∙ a .kept;
+  held = b .held;
+  behind = λ k l. b .behind k l ∙ a .behind k (omega (arith, b .more));
+}
+
+pub over-kept : (t t′ : List ℕ) (ids : List Bytes) → length t′ ≡ length t → Over t′ ids → Over t ids
+over-kept t t′ ids e (inl h) = inl (omega arith)
+over-kept t t′ ids e (inr h) = inr h
+
+pub over-longer : (t : List ℕ) (ids more : List Bytes) → length ids ≤ length more → Over t ids → Over t more
+over-longer t ids more l (inl h) = inl (omega arith)
+over-longer t ids more l (inr h) = inr (omega arith)
+
+-- ---- words
+drop-take : (a m : ℕ) (l : List ℕ) → drop a (take m l) ≡ take (m - a) (drop a l)
+drop-take zero m l = rw (sub-zero m)
+drop-take (suc a) zero l = rw (zero-sub (suc a))
+drop-take (suc a) (suc m) [] = sym (empty (suc m - suc a))
+  where
+    empty : (k : ℕ) → take {A = ℕ} k [] ≡ []
+    empty zero = refl
+    empty (suc k) = refl
+drop-take (suc a) (suc m) (x ∷ l) = rw (suc-sub-suc m a) (drop-take a m l)
+
+pub word-part : (z : List ℕ) (p q a e : ℕ) → a ≤ e → e ≤ q - p → part a e (part p q z) ≡ stringAt z (p + a) (e - a)
+unfolding stringAt
+word-part z p q a e h l =
+    let k : p + a + (e - a) - (p + a) ≡ e - a = omega arith in
+    let m : e - a ≤ q - p - a = omega arith in
+    rw (drop-take a (q - p) (drop p z), take-take (e - a) (q - p - a) (drop a (drop p z)) m, drop-drop a p z, k)
+
+pub part-length : (z : List ℕ) (p q : ℕ) → p ≤ q → q ≤ length z → length (part p q z) ≡ q - p
+part-length z p q h l = simp (length-take, length-drop) (omega arith)
+
+-- ---- along the words of a chain
+module _ (x s : List ℕ) (f : List Float) (z : List ℕ) (n : ℕ) (chain : Bytes) (t₀ : List ℕ) (w₀ : Walk) where
+  abbrev from-start : List ℕ → Walked
+  from-start e = walk (stylesIn s f e z n) (words chain) (stateIn x z t₀ w₀)
+
+  pub record Along (p : ℕ) (t heads : List ℕ) (w : Walk) : Type 0 where
+    pub place : p ≤ length chain
+    pub grown : Grown x z t₀ t heads (w₀ .count) (w .count)
+    pub goes : (e : List ℕ) → from-start e ≡ walk (stylesIn s f e z n) (wordsFrom chain p []) (stateIn x z t w)
+
+  pub along-start : (heads : List ℕ) → Held x z t₀ heads (w₀ .count) → Along 0 t₀ heads w₀
+  unfolding words
+  along-start heads h = record { place = omega arith; grown = grown-none x z t₀ heads (w₀ .count) h; goes = λ e. refl }
+
+  module _ (p : ℕ) (t heads : List ℕ) (w : Walk) (here : Along p t heads w) where
+    pub along-done : ((ws : List Bytes) → wordsFrom chain p ws ≡ ws) → (e : List ℕ) → from-start e ≡ stateIn x z t w
+    along-done h e = here .goes e ∙ rw (h []) (walk-none (stylesIn s f e z n) (stateIn x z t w))
+
+    module _ (a q : ℕ) (next : WordAt chain p a q) where
+      word : Bytes
+      word = part a q chain
+
+      onward : wordsFrom chain p [] ≡ word ∷ wordsFrom chain q []
+      unfolding word
+      onward = next .next [] ∙ wordsFrom-after chain q (word ∷ [])
+
+      later : (e : List ℕ) → from-start e ≡ walk (stylesIn s f e z n) (wordsFrom chain q []) (walk (stylesIn s f e z n) (part a q chain ∷ [])
+          (stateIn x z t w))
+      unfolding word
+      later e = here .goes e ∙ rw onward (walk-cons (stylesIn s f e z n) (part a q chain) (wordsFrom chain q []) (stateIn x z t w))
+
+      pub along-step : (t′ heads′ : List ℕ) (r : Walk) → Applies x s f z n (part a q chain ∷ []) t t′ heads′ w r → Along q t′ heads′ r
+      along-step t′ heads′ r h = record {
+        place = next .within-text;
+        grown = grown-more x z t₀ t t′ heads heads′ (w₀ .count) (w .count) (r .count) (here .grown) (h .grown);
+        goes = λ e. later e ∙ rw (h .is e);
+      }
+
+      pub along-full : (t′ heads′ : List ℕ) → Overflows x s f z n (part a q chain ∷ []) t t′ heads′ w → (e : List ℕ) → Over t₀ (from-start e .visited)
+      along-full t′ heads′ h e =
+          over-kept t₀ t (from-start e .visited) (here .grown .kept)
+          (over-longer t (walk (stylesIn s f e z n) (part a q chain ∷ []) (stateIn x z t w) .visited) (from-start e .visited)
+          (rw (later e) (walk-longer (stylesIn s f e z n) (wordsFrom chain q []) (walk (stylesIn s f e z n) (part a q chain ∷ []) (stateIn x z t w))))
+          (h .over e))
+
+-- ---- the same where the chain is a part of some bytes y, and its word is applied as a part of those
+module _ (x s : List ℕ) (f : List Float) (z : List ℕ) (n : ℕ) (y : List ℕ) (from to : ℕ) (t₀ : List ℕ) (w₀ : Walk) (order : from ≤ to) (within : to
+    ≤ length y)
+    (p : ℕ) (t heads : List ℕ) (w : Walk) (here : Along x s f z n (part from to y) t₀ w₀ p t heads w)
+    (a q : ℕ) (next : WordAt (part from to y) p a q) (t′ heads′ : List ℕ)
+  where
+    word-is : part a q (part from to y) ≡ stringAt y (from + a) (q - a)
+    word-is = word-part y from to a q (omega (arith, next .some-byte)) (omega (arith, next .within-text, part-length y from to order within))
+
+    pub word-end : from + a + (q - a) ≤ to
+    word-end = omega (arith, next .some-byte, next .within-text, part-length y from to order within)
+
+    pub word-within : from + a + (q - a) ≤ length y
+    word-within = omega (arith, next .some-byte, next .within-text, part-length y from to order within)
+
+    pub step-in : (r : Walk) → Applies x s f z n (stringAt y (from + a) (q - a) ∷ []) t t′ heads′ w r → Along x s f z n (part from to y) t₀ w₀ q t′
+        heads′ r
+    step-in r h = along-step x s f z n (part from to y) t₀ w₀ p t heads w here a q next t′ heads′ r (rw (← word-is) at h)
+
+    pub full-in : Overflows x s f z n (stringAt y (from + a) (q - a) ∷ []) t t′ heads′ w
+        → (e : List ℕ) → Over t₀ (walk (stylesIn s f e z n) (words (part from to y)) (stateIn x z t₀ w₀) .visited)
+    full-in h = along-full x s f z n (part from to y) t₀ w₀ p t heads w here a q next t′ heads′ (rw (← word-is) at h)

@@ -1,0 +1,106 @@
+-- What the lookups in the tables give the walk. Assumes nothing.
+--     values-over                    an overlay of what the program holds means the overlay
+--     chain-row, chain-none          the parents of an id, where a row with a chain is found, and where none is
+--     own-row, own-none              the same of its own style
+use Prim.Native.Nat.{ℕ, _+_, _*_, _≤_, _<_}
+use mathlib.Core.Path.{_≡_, refl, sym, ap, _∙_}
+use mathlib.Core.Bool.{Bool, true, false, cond, not, _&&_, _||_}
+use mathlib.Core.List.{List, [], _∷_}
+use mathlib.Core.Option.{Option, none, some}
+use native.Mathlib.Omega.{arith}
+use native.Mathlib.Nat.{zero-add}
+use lib.ListN.{length, getD}
+use lib.Dec.{eqb}
+use lib.Ieee.{Float}
+use borrow.Author.Tests.{not-true}
+use Rattle.scan.specs.Part.{stringAt}
+use Rattle.unicode.specs.White.{words, wordsFrom}
+use Rattle.unicode.proofs.WhiteLaws.{wordsFrom-none, whiteEnd-low}
+use Rattle.decimals.proofs.Tests.{both}
+use Rattle.track.specs.declared.strings.Span.{Span}
+use Rattle.track.specs.Track.{Bytes, Style}
+use Rattle.track.specs.Tables.{Tables, cell, rowsFrom, lookAt, styleAt}
+use Rattle.track.specs.Meaning.{bytesAt, given, styleIn}
+use Rattle.records.specs.declared.find.Found.{Found}
+use Rattle.records.specs.Find.{isNamed, firstRow, firstWith, chainFrom, foundIn}
+use Rattle.records.proofs.Finding.{named, namedWith}
+use Rattle.records.proofs.FoundRows.{First, row-first, with-first, style-found, chain-found}
+use Rattle.styles.specs.declared.values.Styling.{Styling}
+use Rattle.styles.specs.declared.apply.Walk.{Walk}
+use Rattle.styles.specs.Reaches.{chainWords, parents}
+use Rattle.styles.specs.Values.{Values, valuesOf, orElse, overlay}
+use Rattle.styles.specs.Resolve.{Walked, applied, own}
+use Rattle.styles.specs.Cells.{valuesIn, stylingOf, lookOver, overlaid}
+use Rattle.styles.specs.Steps.{bare, stylesIn, stateIn}
+
+-- ---- overlays
+given-over : {A : Type 0} (b c : Bool) (x y : A) → given (c || b) (cond c y x) ≡ orElse (given b x) (given c y)
+given-over b true x y = refl
+given-over b false x y = refl
+
+family-over : (z : List ℕ) (b c : Bool) (x y : Span) → given (c || b) (bytesAt z (cond c y x)) ≡ orElse (given b (bytesAt z x)) (given c (bytesAt z
+    y))
+family-over z b true x y = refl
+family-over z b false x y = refl
+
+pub values-over : (z : List ℕ) (x y : Styling) → valuesIn z (overlaid x y) ≡ overlay (valuesIn z x) (valuesIn z y)
+unfolding valuesIn overlaid overlay
+values-over z x y =
+    let a = x .look in
+    let b = y .look in
+    rw (
+      given-over (a .«has_color») (b .«has_color») (a .color) (b .color),
+      given-over (a .«has_back») (b .«has_back») (a .back) (b .back),
+      family-over z (a .«has_family») (b .«has_family») (a .family) (b .family),
+      given-over (a .«has_size») (b .«has_size») (a .size) (b .size),
+    )
+
+-- ---- lookups
+module _ (s : List ℕ) (f : List Float) (e z : List ℕ) (n : ℕ) (name : Bytes) where
+  abbrev tables : Tables
+  tables = bare s f e z
+
+  some-chain : (i : ℕ) → eqb (getD s (i * 27 + 3) 0) 0 ≡ false → styleIn tables i .chain ≡ some (stringAt z (getD s (i * 27 + 2) 0) (getD s (i * 27
+      + 3) 0))
+  unfolding styleIn styleAt cell
+  some-chain i h = rw h
+
+  module _ (i : ℕ) (h : firstWith s z name 27 3 n 0 ≡ Found.Row i) where
+    first-chain : First (namedWith s z name 27 3) n 0 i
+    first-chain = with-first s z name 27 n 3 i h
+
+    pub chain-row-within : i < n
+    chain-row-within = omega (arith, first-chain .within)
+
+    has-chain : eqb (getD s (i * 27 + 3) 0) 0 ≡ false
+    has-chain = not-true _ (both _ _ (first-chain .passes) .0)
+
+    pub chain-row : parents (stylesIn s f e z n) name ≡ words (stringAt z (getD s (i * 27 + 2) 0) (getD s (i * 27 + 3) 0))
+    unfolding parents
+    chain-row = rw (chain-found tables name n, h, some-chain i has-chain)
+
+  no-words : words [] ≡ []
+  unfolding words
+  no-words = wordsFrom-none [] 0 [] (whiteEnd-low [] 0)
+
+  pub chain-none : firstWith s z name 27 3 n 0 ≡ Found.Nothing → parents (stylesIn s f e z n) name ≡ words (stringAt z 0 0)
+  unfolding parents stringAt
+  chain-none h = rw (chain-found tables name n, h) (sym no-words)
+
+  -- a row's values
+  row-values : (i : ℕ) → valuesOf (styleIn tables i) ≡ valuesIn z (stylingOf (styleAt s f i))
+  unfolding valuesOf styleIn styleAt valuesIn
+  row-values i = refl
+
+  module _ (i : ℕ) (h : firstRow s z name 27 n 0 ≡ Found.Row i) where
+    pub own-row-within : i < n
+    own-row-within = omega (arith, row-first s z name 27 n i h .within)
+
+    pub own-row : (x t : List ℕ) (w r : Walk) → r .count ≡ w .count → r .found ≡ true → r .values ≡ overlaid (w .values) (stylingOf (styleAt s f i))
+        → stateIn x z t r ≡ own (stylesIn s f e z n) name (stateIn x z t w)
+    unfolding own
+    own-row x t w r a b c = rw (style-found tables name n, h, row-values i, a, b, c, values-over z (w .values) (stylingOf (styleAt s f i)))
+
+  pub own-none : firstRow s z name 27 n 0 ≡ Found.Nothing → (w : Walked) → w ≡ own (stylesIn s f e z n) name w
+  unfolding own
+  own-none h w = rw (style-found tables name n, h)

@@ -1,0 +1,641 @@
+-- `apply_style_ref` meets its contract. The measure is how many cells are free: each call of itself comes after a row was added. The
+-- loop's invariant is `Along` the words of the chain. Assumes nothing.
+use Prim.Native.Nat.{_+_, _-_, _*_, _≤_}
+use mathlib.Core.Path.{_≡_, refl, sym, ap, _∙_}
+use mathlib.Core.Logic.{inl, inr}
+use native.Mathlib.Omega.{arith}
+use borrow.Author.Needs.{needs}
+use lib.ListN.{length}
+use Rattle.scan.specs.Part.{part, stringAt}
+use Rattle.styles.proofs.Along.{
+  word-part,
+  part-length,
+  Along,
+  along-start,
+  along-step,
+  along-done,
+  along-full,
+  word-end,
+  word-within,
+  step-in,
+  full-in,
+}
+use Rattle.styles.proofs.Applying.{applied-again, applied-full, Entry, entered-held, entered-grown, applied-first, applied-over}
+use Prim.Native.Nat.{ℕ, _<_}
+use borrow.Fn.Kinds.{In}
+use borrow.Fn.PlainCycle.{Measures, is, falls, and}
+use Rattle.styles.proofs.apply.apply_style_ref.Reads as apply-style-ref
+use Rattle.styles.proofs.apply.apply_style_ref.Kinds as apply-style-ref-kinds
+use Rattle.styles.proofs.apply.+apply_style_ref.Lts-apply_style_ref as apply-style-ref-lts
+use Rattle.styles.proofs.apply.chain_of.Reads as chain-of-reads
+use Rattle.styles.proofs.apply.own_style.Reads as own-style-reads
+use Rattle.styles.proofs.ids.add_id.Reads as add-id-reads
+use Rattle.styles.proofs.ids.hash.Reads as hash-reads
+use Rattle.styles.proofs.ids.is_visited.Reads as is-visited-reads
+use Rattle.unicode.proofs.next_word.Reads as next-word-reads
+use Rattle.styles.proofs.apply.+apply_style_ref.{statement}
+use Rattle.styles.proofs.apply.+apply_style_ref.Tie.{close}
+
+abbrev μ-apply-style-ref : Measures 7 apply-style-ref-kinds.ps ℕ
+μ-apply-style-ref κs a = length (a .1 .1 .1 .1 .1 .1 .1 .1 .1 .0 .now) - a .1 .1 .1 .1 .1 .1 .1 .1 .1 .1 .1 .0 .count * 4
+
+abbrev apply-style-ref-at : ℕ → In 7 apply-style-ref-kinds.ps
+apply-style-ref-at t =
+    and
+    7
+    apply-style-ref-kinds.ps
+    (is 7 apply-style-ref-kinds.ps μ-apply-style-ref t)
+    apply-style-ref.Pre
+
+abbrev apply-style-ref-below : ℕ → In 7 apply-style-ref-kinds.ps
+apply-style-ref-below t =
+    and
+    7
+    apply-style-ref-kinds.ps
+    (falls 7 apply-style-ref-kinds.ps _<_ μ-apply-style-ref t)
+    apply-style-ref.Pre
+
+abbrev claims : ℕ → apply-style-ref-lts.Claims
+claims t = (
+  hash-reads.Asked,
+  hash-reads.Learnt,
+  is-visited-reads.Asked,
+  is-visited-reads.Learnt,
+  add-id-reads.Asked,
+  add-id-reads.Learnt,
+  chain-of-reads.Asked,
+  chain-of-reads.Learnt,
+  next-word-reads.Asked,
+  next-word-reads.Learnt,
+  own-style-reads.Asked,
+  own-style-reads.Learnt,
+  apply-style-ref-below t,
+  apply-style-ref.Post,
+)
+
+abbrev apply-style-ref-Inv-loop : apply-style-ref-lts.InvT-loop
+apply-style-ref-Inv-loop text styles sizes strings n own source at len ids₀ heads₀ end count h s₀ from to p₀ ids heads s p = Along text styles
+    sizes strings n (part from to strings) ids₀ s₀ p ids heads s
+
+abbrev apply-style-ref-μ-loop : apply-style-ref-lts.MeasureT-loop
+apply-style-ref-μ-loop text styles sizes strings n own source at len ids₀ heads₀ end count h s₀ from to p₀ ids heads s p = length (part from to
+    strings) - p
+
+apply-style-ref-add-end : (t : ℕ) → apply-style-ref-lts.Need-add-end (claims t) (apply-style-ref-at t) apply-style-ref.Post
+    apply-style-ref-Inv-loop apply-style-ref-μ-loop
+apply-style-ref-add-end t c = omega (arith, c .before .before .before .before .before .before .before .pre .1 .1 .within)
+
+apply-style-ref-sub-hash : (t : ℕ) → apply-style-ref-lts.Need-sub-hash (claims t) (apply-style-ref-at t) apply-style-ref.Post
+    apply-style-ref-Inv-loop apply-style-ref-μ-loop
+apply-style-ref-sub-hash t c = omega arith
+
+apply-style-ref-part-hash-start : (t : ℕ) → apply-style-ref-lts.Need-part-hash-start (claims t) (apply-style-ref-at t) apply-style-ref.Post
+    apply-style-ref-Inv-loop apply-style-ref-μ-loop
+apply-style-ref-part-hash-start t c = search needs
+
+apply-style-ref-part-hash-end : (t : ℕ) → apply-style-ref-lts.Need-part-hash-end (claims t) (apply-style-ref-at t) apply-style-ref.Post
+    apply-style-ref-Inv-loop apply-style-ref-μ-loop
+apply-style-ref-part-hash-end t c = omega (arith, c .before .before .before .before .before .before .before .pre .1 .1 .within)
+
+apply-style-ref-hash-requires : (t : ℕ) → apply-style-ref-lts.Need-hash-requires (claims t) (apply-style-ref-at t) apply-style-ref.Post
+    apply-style-ref-Inv-loop apply-style-ref-μ-loop
+apply-style-ref-hash-requires t c κs = search needs
+
+apply-style-ref-sub-is-visited : (t : ℕ) → apply-style-ref-lts.Need-sub-is-visited (claims t) (apply-style-ref-at t) apply-style-ref.Post
+    apply-style-ref-Inv-loop apply-style-ref-μ-loop
+apply-style-ref-sub-is-visited t c = omega arith
+
+apply-style-ref-part-is-visited-start : (t : ℕ) → apply-style-ref-lts.Need-part-is-visited-start (claims t) (apply-style-ref-at t)
+    apply-style-ref.Post apply-style-ref-Inv-loop apply-style-ref-μ-loop
+apply-style-ref-part-is-visited-start t c = search needs
+
+apply-style-ref-part-is-visited-end : (t : ℕ) → apply-style-ref-lts.Need-part-is-visited-end (claims t) (apply-style-ref-at t) apply-style-ref.Post
+    apply-style-ref-Inv-loop apply-style-ref-μ-loop
+apply-style-ref-part-is-visited-end t c = omega (
+  arith,
+  c .before .before .before .before .before .before .before .before .before .before .before
+      .pre .1 .1 .within,
+)
+
+apply-style-ref-is-visited-requires : (t : ℕ) → apply-style-ref-lts.Need-is-visited-requires (claims t) (apply-style-ref-at t) apply-style-ref.Post
+    apply-style-ref-Inv-loop apply-style-ref-μ-loop
+apply-style-ref-is-visited-requires t c κs = (
+  c .before .before .before .before .before .before .before .before .before .before .before .before
+      .pre .1 .2,
+  c .before .before .before .hash .ensures .0,
+  c .before .before .before .hash .ensures .1,
+)
+
+apply-style-ref-same-length : (t : ℕ) → apply-style-ref-lts.Need-same-length (claims t) (apply-style-ref-at t) apply-style-ref.Post
+    apply-style-ref-Inv-loop apply-style-ref-μ-loop
+apply-style-ref-same-length t c = search needs
+
+apply-style-ref-same-length-2 : (t : ℕ) → apply-style-ref-lts.Need-same-length-2 (claims t) (apply-style-ref-at t) apply-style-ref.Post
+    apply-style-ref-Inv-loop apply-style-ref-μ-loop
+apply-style-ref-same-length-2 t c = search needs
+
+apply-style-ref-returns : (t : ℕ) → apply-style-ref-lts.Need-returns (claims t) (apply-style-ref-at t) apply-style-ref.Post
+    apply-style-ref-Inv-loop apply-style-ref-μ-loop
+unfolding stringAt
+apply-style-ref-returns t c = applied-again _ _ _ _ _ _ _ _ _ (c .before .before .before .before .before .before .before .before .before
+    .before .before .before .before .before .pre .1 .2) (sym (c .before .is-visited .ensures) ∙ c .if1 .taken)
+
+apply-style-ref-same-length-3 : (t : ℕ) → apply-style-ref-lts.Need-same-length-3 (claims t) (apply-style-ref-at t) apply-style-ref.Post
+    apply-style-ref-Inv-loop apply-style-ref-μ-loop
+apply-style-ref-same-length-3 t c = search needs
+
+apply-style-ref-same-length-4 : (t : ℕ) → apply-style-ref-lts.Need-same-length-4 (claims t) (apply-style-ref-at t) apply-style-ref.Post
+    apply-style-ref-Inv-loop apply-style-ref-μ-loop
+apply-style-ref-same-length-4 t c = search needs
+
+apply-style-ref-returns-2 : (t : ℕ) → apply-style-ref-lts.Need-returns-2 (claims t) (apply-style-ref-at t) apply-style-ref.Post
+    apply-style-ref-Inv-loop apply-style-ref-μ-loop
+unfolding stringAt
+apply-style-ref-returns-2 t c = applied-full _ _ _ _ _ _ _ _ _ (c .before .before .before .before .before .before .before .before .before
+    .before .before .before .before .before .before .pre .1 .2) (sym (c .before .before .is-visited .ensures) ∙ c .before .if1 .left) (inl (c .if2
+    .taken))
+
+apply-style-ref-mul-if3 : (t : ℕ) → apply-style-ref-lts.Need-mul-if3 (claims t) (apply-style-ref-at t) apply-style-ref.Post
+    apply-style-ref-Inv-loop apply-style-ref-μ-loop
+apply-style-ref-mul-if3 t c = omega (
+  arith,
+  c .before .before .before .before .before .before .before .before .before .before .before .before
+      .before .before .before .pre .1 .2 .rows,
+)
+
+apply-style-ref-sub-if3 : (t : ℕ) → apply-style-ref-lts.Need-sub-if3 (claims t) (apply-style-ref-at t) apply-style-ref.Post
+    apply-style-ref-Inv-loop apply-style-ref-μ-loop
+apply-style-ref-sub-if3 t c = omega (
+  arith,
+  c .before .before .before .before .before .before .before .before .before .before .before .before
+      .before .before .before .pre .1 .2 .rows,
+)
+
+apply-style-ref-same-length-5 : (t : ℕ) → apply-style-ref-lts.Need-same-length-5 (claims t) (apply-style-ref-at t) apply-style-ref.Post
+    apply-style-ref-Inv-loop apply-style-ref-μ-loop
+apply-style-ref-same-length-5 t c = search needs
+
+apply-style-ref-same-length-6 : (t : ℕ) → apply-style-ref-lts.Need-same-length-6 (claims t) (apply-style-ref-at t) apply-style-ref.Post
+    apply-style-ref-Inv-loop apply-style-ref-μ-loop
+apply-style-ref-same-length-6 t c = search needs
+
+apply-style-ref-returns-3 : (t : ℕ) → apply-style-ref-lts.Need-returns-3 (claims t) (apply-style-ref-at t) apply-style-ref.Post
+    apply-style-ref-Inv-loop apply-style-ref-μ-loop
+unfolding stringAt
+apply-style-ref-returns-3 t c = applied-full _ _ _ _ _ _ _ _ _ (c .before .before .before .before .before .before .before .before .before
+    .before .before .before .before .before .before .before .pre .1 .2) (sym (c .before .before .before .is-visited .ensures) ∙ c .before .before
+    .if1 .left) (inr (c .if3 .taken))
+
+apply-style-ref-add-id-requires : (t : ℕ) → apply-style-ref-lts.Need-add-id-requires (claims t) (apply-style-ref-at t) apply-style-ref.Post
+    apply-style-ref-Inv-loop apply-style-ref-μ-loop
+apply-style-ref-add-id-requires t c κs =
+    let p = c .before .before .before .before .before .before .before .before .before .before .before .before .before .before .before .before
+    .before .before .pre .1 in (
+      omega (arith, p .2 .rows, c .before .before .if3 .left),
+      omega (arith, c .before .before .before .if2 .left),
+      omega (
+        arith,
+        c .before .before
+            .before .before .before .before .before .before .before .hash .ensures .1,
+        p .2 .buckets,
+      ),
+      omega (arith, p .1 .within, p .1 .few),
+      omega
+          (arith, p .1 .within, p .1 .few),
+    )
+
+apply-style-ref-add-t27 : (t : ℕ) → apply-style-ref-lts.Need-add-t27 (claims t) (apply-style-ref-at t) apply-style-ref.Post
+    apply-style-ref-Inv-loop apply-style-ref-μ-loop
+apply-style-ref-add-t27 t c = omega (arith, c .before .before .before .before .before .before .before .before .before .if2 .left)
+
+apply-style-ref-sub-chain-of : (t : ℕ) → apply-style-ref-lts.Need-sub-chain-of (claims t) (apply-style-ref-at t) apply-style-ref.Post
+    apply-style-ref-Inv-loop apply-style-ref-μ-loop
+apply-style-ref-sub-chain-of t c = omega arith
+
+apply-style-ref-part-chain-of-start : (t : ℕ) → apply-style-ref-lts.Need-part-chain-of-start (claims t) (apply-style-ref-at t) apply-style-ref.Post
+    apply-style-ref-Inv-loop apply-style-ref-μ-loop
+apply-style-ref-part-chain-of-start t c = search needs
+
+apply-style-ref-part-chain-of-end : (t : ℕ) → apply-style-ref-lts.Need-part-chain-of-end (claims t) (apply-style-ref-at t) apply-style-ref.Post
+    apply-style-ref-Inv-loop apply-style-ref-μ-loop
+apply-style-ref-part-chain-of-end t c = omega (
+  arith,
+  c .before .before .before .before .before .before .before .before .before .before .before
+      .before .before .before .before .before .before .before .before .before .before .before .before .before .pre .1 .1 .within,
+)
+
+apply-style-ref-chain-of-requires : (t : ℕ) → apply-style-ref-lts.Need-chain-of-requires (claims t) (apply-style-ref-at t) apply-style-ref.Post
+    apply-style-ref-Inv-loop apply-style-ref-μ-loop
+apply-style-ref-chain-of-requires t c κs = c .before .before .before .before .before .before .before .before .before .before .before .before
+    .before .before .before .before .before .before .before .before .before .before .before .before .before .pre .1 .0 .chained
+
+apply-style-ref-add-to : (t : ℕ) → apply-style-ref-lts.Need-add-to (claims t) (apply-style-ref-at t) apply-style-ref.Post apply-style-ref-Inv-loop
+    apply-style-ref-μ-loop
+apply-style-ref-add-to t c = omega (arith, c .before .chain-of .ensures .within, c .before .chain-of .ensures .few)
+
+apply-style-ref-loop-holds : (t : ℕ) → apply-style-ref-lts.Need-loop-holds (claims t) (apply-style-ref-at t) apply-style-ref.Post
+    apply-style-ref-Inv-loop apply-style-ref-μ-loop
+unfolding stringAt
+apply-style-ref-loop-holds t c =
+    let a = c .before .before .before .before .before .before .before .before .before .before .before .before .before .before .before .before
+    .before .before .before .before .before .before .before .before .before .before .before .args in
+    let n : Type 0 = Entry (a .text .now) (a .strings .now) (a .own .now) (a .source) (a .at) (a .len) (c .before .before .before .before .before
+    .before .before .before .before .before .before .before .before .before .before .before .before .before .hash .result) (a .ids .now) (a
+    .heads .now) (c .before .before .before .before .before .before .before .before .add-id .last .0) (c .before .before .before .before
+    .before .before .before .before .add-id .last .1 .0) (a .w) in
+    let entry : n = record {
+      held = c .before .before .before .before .before .before .before .before .before .before .before .before .before .before .before .before
+          .before .before .before .before .before .before .before .before .before .before .before .pre .1 .2;
+      new = sym (c .before .before .before .before .before .before .before .before .before .before .before .before .before .before .is-visited
+          .ensures) ∙ c .before .before .before .before .before .before .before .before .before .before .before .before .before .if1 .left;
+      stands = c .before .before .before .before .before .before .before .before .before .before .before .before .before .before .before
+          .before .before .before .before .before .before .before .before .before .before .before .before .pre .1 .1;
+      room = omega (
+        arith,
+        c .before .before .before .before .before .before .before .before .before .before .before .before .before .before
+            .before .before .before .before .before .before .before .before .before .before .before .before .before .pre .1 .2 .rows,
+        c .before
+            .before .before .before .before .before .before .before .before .before .before .if3 .left,
+      );
+      few = omega (arith, c .before .before .before .before .before .before .before .before .before .before .before .before .if2 .left);
+      bucket = c .before .before .before .before .before .before .before .before .before .before .before .before .before .before .before
+          .before .before .before .hash .ensures .0;
+      small = c .before .before .before .before .before .before .before .before .before .before .before .before .before .before .before .before
+          .before .before .hash .ensures .1;
+      laid = c .before .before .before .before .before .before .before .before .add-id .ensures .0;
+      led = c .before .before .before .before .before .before .before .before .add-id .ensures .1;
+    } in
+    along-start _ _ _ _ _ _ _ _ _ (entered-held _ _ _ _ _ _ _ _ _ _ _ _ entry)
+
+apply-style-ref-sub-next-word : (t : ℕ) → apply-style-ref-lts.Need-sub-next-word (claims t) (apply-style-ref-at t) apply-style-ref.Post
+    apply-style-ref-Inv-loop apply-style-ref-μ-loop
+apply-style-ref-sub-next-word t c = omega arith
+
+apply-style-ref-part-next-word-start : (t : ℕ) → apply-style-ref-lts.Need-part-next-word-start (claims t) (apply-style-ref-at t)
+    apply-style-ref.Post apply-style-ref-Inv-loop apply-style-ref-μ-loop
+apply-style-ref-part-next-word-start t c = search needs
+
+apply-style-ref-part-next-word-end : (t : ℕ) → apply-style-ref-lts.Need-part-next-word-end (claims t) (apply-style-ref-at t) apply-style-ref.Post
+    apply-style-ref-Inv-loop apply-style-ref-μ-loop
+apply-style-ref-part-next-word-end t c = omega (arith, c .before .before .chain-of .ensures .within)
+
+apply-style-ref-next-word-requires : (t : ℕ) → apply-style-ref-lts.Need-next-word-requires (claims t) (apply-style-ref-at t) apply-style-ref.Post
+    apply-style-ref-Inv-loop apply-style-ref-μ-loop
+apply-style-ref-next-word-requires t c κs = c .before .loop .inv .place
+
+apply-style-ref-enum-told : (t : ℕ) → apply-style-ref-lts.Need-enum-told (claims t) (apply-style-ref-at t) apply-style-ref.Post
+    apply-style-ref-Inv-loop apply-style-ref-μ-loop
+apply-style-ref-enum-told t c = search needs
+
+apply-style-ref-sub-own-style : (t : ℕ) → apply-style-ref-lts.Need-sub-own-style (claims t) (apply-style-ref-at t) apply-style-ref.Post
+    apply-style-ref-Inv-loop apply-style-ref-μ-loop
+apply-style-ref-sub-own-style t c = omega arith
+
+apply-style-ref-part-own-style-start : (t : ℕ) → apply-style-ref-lts.Need-part-own-style-start (claims t) (apply-style-ref-at t)
+    apply-style-ref.Post apply-style-ref-Inv-loop apply-style-ref-μ-loop
+apply-style-ref-part-own-style-start t c = search needs
+
+apply-style-ref-part-own-style-end : (t : ℕ) → apply-style-ref-lts.Need-part-own-style-end (claims t) (apply-style-ref-at t) apply-style-ref.Post
+    apply-style-ref-Inv-loop apply-style-ref-μ-loop
+apply-style-ref-part-own-style-end t c = omega (
+  arith,
+  c .before .before .before .before .before .before .before .before .before .before .before
+      .before .before .before .before .before .before .before .before .before .before .before .before .before .before .before .before .before .before
+      .before .before .before .pre .1 .1 .within,
+)
+
+apply-style-ref-own-style-requires : (t : ℕ) → apply-style-ref-lts.Need-own-style-requires (claims t) (apply-style-ref-at t) apply-style-ref.Post
+    apply-style-ref-Inv-loop apply-style-ref-μ-loop
+apply-style-ref-own-style-requires t c κs = c .before .before .before .before .before .before .before .before .before .before .before .before
+    .before .before .before .before .before .before .before .before .before .before .before .before .before .before .before .before .before .before
+    .before .before .before .pre .1 .0
+
+apply-style-ref-same-length-7 : (t : ℕ) → apply-style-ref-lts.Need-same-length-7 (claims t) (apply-style-ref-at t) apply-style-ref.Post
+    apply-style-ref-Inv-loop apply-style-ref-μ-loop
+apply-style-ref-same-length-7 t c = omega (
+  arith,
+  c .before .before .before .before .before .before .loop .inv .grown .kept,
+  c .before .before
+      .before .before .before .before .before .before .before .before .before .before .before .before .ids .given,
+)
+
+apply-style-ref-same-length-8 : (t : ℕ) → apply-style-ref-lts.Need-same-length-8 (claims t) (apply-style-ref-at t) apply-style-ref.Post
+    apply-style-ref-Inv-loop apply-style-ref-μ-loop
+apply-style-ref-same-length-8 t c = omega (
+  arith,
+  c .before .before .before .before .before .before .loop .inv .grown .held .buckets,
+  c .before
+      .before .before .before .before .before .before .before .before .before .before .before .before .before .before .before .before .before .before
+      .before .before .before .before .before .before .before .before .before .before .before .before .before .before .before .pre .1 .2 .buckets,
+)
+
+apply-style-ref-returns-4 : (t : ℕ) → apply-style-ref-lts.Need-returns-4 (claims t) (apply-style-ref-at t) apply-style-ref.Post
+    apply-style-ref-Inv-loop apply-style-ref-μ-loop
+unfolding stringAt
+apply-style-ref-returns-4 t c =
+    let a = c .before .before .before .before .before .before .before .before .before .before .before .before .before .before .before .before
+    .before .before .before .before .before .before .before .before .before .before .before .before .before .before .before .before .before
+    .before .args in
+    let n : Type 0 = Entry (a .text .now) (a .strings .now) (a .own .now) (a .source) (a .at) (a .len) (c .before .before .before .before .before
+    .before .before .before .before .before .before .before .before .before .before .before .before .before .before .before .before .before
+    .before .before .before .hash .result) (a .ids .now) (a .heads .now) (c .before .before .before .before .before .before .before .before
+    .before .before .before .before .before .before .before .add-id .last .0) (c .before .before .before .before .before .before .before
+    .before .before .before .before .before .before .before .before .add-id .last .1 .0) (a .w) in
+    let entry : n = record {
+      held = c .before .before .before .before .before .before .before .before .before .before .before .before .before .before .before .before
+          .before .before .before .before .before .before .before .before .before .before .before .before .before .before .before .before
+          .before .before .pre .1 .2;
+      new = sym (c .before .before .before .before .before .before .before .before .before .before .before .before .before .before .before
+          .before .before .before .before .before .before .is-visited .ensures) ∙ c .before .before .before .before .before .before .before
+          .before .before .before .before .before .before .before .before .before .before .before .before .before .if1 .left;
+      stands = c .before .before .before .before .before .before .before .before .before .before .before .before .before .before .before
+          .before .before .before .before .before .before .before .before .before .before .before .before .before .before .before .before
+          .before .before .before .pre .1 .1;
+      room = omega (
+        arith,
+        c .before .before .before .before .before .before .before .before .before .before .before .before .before .before
+            .before .before .before .before .before .before .before .before .before .before .before .before .before .before .before .before
+            .before .before .before .before .pre .1 .2 .rows,
+        c .before .before .before .before .before .before .before .before .before .before
+            .before .before .before .before .before .before .before .before .if3 .left,
+      );
+      few = omega (
+        arith,
+        c .before .before .before .before .before .before .before .before .before .before .before .before .before .before
+            .before .before .before .before .before .if2 .left,
+      );
+      bucket = c .before .before .before .before .before .before .before .before .before .before .before .before .before .before .before
+          .before .before .before .before .before .before .before .before .before .before .hash .ensures .0;
+      small = c .before .before .before .before .before .before .before .before .before .before .before .before .before .before .before .before
+          .before .before .before .before .before .before .before .before .before .hash .ensures .1;
+      laid = c .before .before .before .before .before .before .before .before .before .before .before .before .before .before .before .add-id
+          .ensures .0;
+      led = c .before .before .before .before .before .before .before .before .before .before .before .before .before .before .before .add-id
+          .ensures .1;
+    } in
+    applied-first _ _ _ _ _ _ _ _ _ _ _ _ entry _ _ _ _ (c .before .before .before .before .before .before .before .before .chain-of .ensures) _ _
+    _ _ (c .before .before .before .before .before .before .loop .inv .grown) (along-done _ _ _ _ _ _ _ _ _ _ _ _ (c .before .before .before
+    .before .before .before .loop .inv) (rw (c .before .before .enum-told .given .1) at (c .before .before .before .before .next-word
+    .ensures))) (c .own-style .ensures)
+
+apply-style-ref-enum-known-x : (t : ℕ) → apply-style-ref-lts.Need-enum-known-x (claims t) (apply-style-ref-at t) apply-style-ref.Post
+    apply-style-ref-Inv-loop apply-style-ref-μ-loop
+apply-style-ref-enum-known-x t c = search needs
+
+apply-style-ref-add-apply-style-ref : (t : ℕ) → apply-style-ref-lts.Need-add-apply-style-ref (claims t) (apply-style-ref-at t) apply-style-ref.Post
+    apply-style-ref-Inv-loop apply-style-ref-μ-loop
+apply-style-ref-add-apply-style-ref t c =
+    let w = rw (c .before .x .given .1) at (c .before .before .before .next-word .ensures) in
+    let k : length (part (c .before .before .before .before .before .before .before .chain-of .result .place) (c .before .before .before .before
+    .before .before .before .chain-of .result .place + c .before .before .before .before .before .before .before .chain-of .result .len) (c
+    .before .before .before .before .before .before .before .before .before .before .before .before .before .before .before .before .before
+    .before .before .before .before .before .before .before .before .before .before .before .before .before .before .before .before .args
+    .strings .now)) ≡ c .before .before .before .before .before .before .before .chain-of .result .place + c .before .before .before .before
+    .before .before .before .chain-of .result .len - c .before .before .before .before .before .before .before .chain-of .result .place =
+    part-length _ _ _ (omega arith) (c .before .before .before .before .before .before .before .chain-of .ensures .within) in
+    omega (
+      arith,
+      w .within-text,
+      w .some-byte,
+      k,
+      c .before .before .before .before .before .before .before .chain-of .ensures .within,
+      c .before
+          .before .before .before .before .before .before .chain-of .ensures .few,
+    )
+
+apply-style-ref-sub-apply-style-ref : (t : ℕ) → apply-style-ref-lts.Need-sub-apply-style-ref (claims t) (apply-style-ref-at t) apply-style-ref.Post
+    apply-style-ref-Inv-loop apply-style-ref-μ-loop
+apply-style-ref-sub-apply-style-ref t c =
+    let w = rw (c .before .before .x .given .1) at (c .before .before .before .before .next-word .ensures) in
+    omega (arith, w .some-byte)
+
+apply-style-ref-apply-style-ref-requires :
+    (t : ℕ) → apply-style-ref-lts.Need-apply-style-ref-requires (
+      hash-reads.Asked,
+      hash-reads.Learnt,
+      is-visited-reads.Asked,
+      is-visited-reads.Learnt,
+      add-id-reads.Asked,
+      add-id-reads.Learnt,
+      chain-of-reads.Asked,
+      chain-of-reads.Learnt,
+      next-word-reads.Asked,
+      next-word-reads.Learnt,
+      own-style-reads.Asked,
+      own-style-reads.Learnt,
+      apply-style-ref-below t,
+      apply-style-ref.Post,
+    ) (apply-style-ref-at t) apply-style-ref.Post apply-style-ref-Inv-loop apply-style-ref-μ-loop
+unfolding stringAt
+apply-style-ref-apply-style-ref-requires t c κs =
+    let w = rw (c .before .before .before .before .x .given .1) at (c .before .before .before .before .before .before .next-word .ensures) in
+    let g = c .before .before .before .before .before .before .before .before .loop .inv .grown in
+    let p = c .before .before .before .before .before .before .before .before .before .before .before .before .before .before .before .before
+    .before .before .before .before .before .before .before .before .before .before .before .before .before .before .before .before .before
+    .before .before .before .pre .1 in (
+      omega (
+        arith,
+        c .before .before .before .before .before .before .before .before .before .before .before .before .before .before .before
+            .before .before .before .before .before .before .before .before .before .before .before .before .before .before .before .before .before
+            .before .before .before .before .pre .0,
+        g .kept,
+        g .more,
+        g .held .rows,
+        c .before .before .before .before .before .before .before
+            .before .before .before .before .before .before .before .before .before .ids .given,
+        c .before .before .before .before .before .before
+            .before .before .before .before .before .before .before .before .before .before .before .before .before .before .if3 .left,
+        p .2 .rows,
+      ),
+      (
+        p .0,
+        record {
+          known = omega arith;
+          is = refl;
+          within = word-within _ _ _ _ _ _ _ _ _ _ (omega arith) (c .before .before .before .before .before .before .before .before .before .before
+              .chain-of .ensures .within) _ _ _ _ (c .before .before .before .before .before .before .before .before .loop .inv) _ _ w (c .before
+              .before .before .before .before .before .before .before .loop .ids) (c .before .before .before .before .before .before .before
+              .before .loop .heads);
+          few = omega (
+            arith,
+            word-end _ _ _ _ _ _ _ _ _ _ (omega arith) (c .before .before .before .before .before .before .before .before .before
+                .before .chain-of .ensures .within) _ _ _ _ (c .before .before .before .before .before .before .before .before .loop .inv) _ _ w (c
+                .before .before .before .before .before .before .before .before .loop .ids) (c .before .before .before .before .before .before
+                .before .before .loop .heads),
+            c .before .before .before .before .before .before .before .before .before .before .chain-of .ensures
+                .few,
+          );
+        },
+        g .held,
+      ),
+    )
+
+apply-style-ref-enum-told-2 : (t : ℕ) → apply-style-ref-lts.Need-enum-told-2 (claims t) (apply-style-ref-at t) apply-style-ref.Post
+    apply-style-ref-Inv-loop apply-style-ref-μ-loop
+apply-style-ref-enum-told-2 t c = search needs
+
+apply-style-ref-same-length-9 : (t : ℕ) → apply-style-ref-lts.Need-same-length-9 (claims t) (apply-style-ref-at t) apply-style-ref.Post
+    apply-style-ref-Inv-loop apply-style-ref-μ-loop
+apply-style-ref-same-length-9 t c = omega (
+  arith,
+  c .before .before .before .before .before .ids2 .given,
+  c .before .before .before .before .before
+      .before .before .before .before .before .before .before .before .before .before .loop .inv .grown .kept,
+  c .before .before .before .before
+      .before .before .before .before .before .before .before .before .before .before .before .before .before .before .before .before .before .before
+      .before .ids .given,
+)
+
+apply-style-ref-same-length-10 : (t : ℕ) → apply-style-ref-lts.Need-same-length-10 (claims t) (apply-style-ref-at t) apply-style-ref.Post
+    apply-style-ref-Inv-loop apply-style-ref-μ-loop
+apply-style-ref-same-length-10 t c = omega (
+  arith,
+  c .before .before .before .heads2 .given,
+  c .before .before .before .before .before .before
+      .before .before .before .before .before .before .before .before .before .loop .inv .grown .held .buckets,
+  c .before .before .before .before
+      .before .before .before .before .before .before .before .before .before .before .before .before .before .before .before .before .before .before
+      .before .before .before .before .before .before .before .before .before .before .before .before .before .before .before .before .before .before
+      .before .before .before .pre .1 .2 .buckets,
+)
+
+apply-style-ref-returns-5 : (t : ℕ) → apply-style-ref-lts.Need-returns-5 (claims t) (apply-style-ref-at t) apply-style-ref.Post
+    apply-style-ref-Inv-loop apply-style-ref-μ-loop
+unfolding stringAt
+apply-style-ref-returns-5 t c =
+    let w = rw (c .before .before .before .before .before .before .before .before .before .before .before .x .given .1) at (c .before .before
+    .before .before .before .before .before .before .before .before .before .before .before .next-word .ensures) in
+    let a = c .before .before .before .before .before .before .before .before .before .before .before .before .before .before .before .before
+    .before .before .before .before .before .before .before .before .before .before .before .before .before .before .before .before .before
+    .before .before .before .before .before .before .before .before .before .before .args in
+    let n : Type 0 = Entry (a .text .now) (a .strings .now) (a .own .now) (a .source) (a .at) (a .len) (c .before .before .before .before .before
+    .before .before .before .before .before .before .before .before .before .before .before .before .before .before .before .before .before
+    .before .before .before .before .before .before .before .before .before .before .before .before .hash .result) (a .ids .now) (a .heads
+    .now) (c .before .before .before .before .before .before .before .before .before .before .before .before .before .before .before .before
+    .before .before .before .before .before .before .before .before .add-id .last .0) (c .before .before .before .before .before .before
+    .before .before .before .before .before .before .before .before .before .before .before .before .before .before .before .before .before
+    .before .add-id .last .1 .0) (a .w) in
+    let entry : n = record {
+      held = c .before .before .before .before .before .before .before .before .before .before .before .before .before .before .before .before
+          .before .before .before .before .before .before .before .before .before .before .before .before .before .before .before .before
+          .before .before .before .before .before .before .before .before .before .before .before .pre .1 .2;
+      new = sym (c .before .before .before .before .before .before .before .before .before .before .before .before .before .before .before
+          .before .before .before .before .before .before .before .before .before .before .before .before .before .before .before .is-visited
+          .ensures) ∙ c .before .before .before .before .before .before .before .before .before .before .before .before .before .before .before
+          .before .before .before .before .before .before .before .before .before .before .before .before .before .before .if1 .left;
+      stands = c .before .before .before .before .before .before .before .before .before .before .before .before .before .before .before
+          .before .before .before .before .before .before .before .before .before .before .before .before .before .before .before .before
+          .before .before .before .before .before .before .before .before .before .before .before .before .pre .1 .1;
+      room = omega (
+        arith,
+        c .before .before .before .before .before .before .before .before .before .before .before .before .before .before
+            .before .before .before .before .before .before .before .before .before .before .before .before .before .before .before .before
+            .before .before .before .before .before .before .before .before .before .before .before .before .before .pre .1 .2 .rows,
+        c .before
+            .before .before .before .before .before .before .before .before .before .before .before .before .before .before .before .before
+            .before .before .before .before .before .before .before .before .before .before .if3 .left,
+      );
+      few = omega (
+        arith,
+        c .before .before .before .before .before .before .before .before .before .before .before .before .before .before
+            .before .before .before .before .before .before .before .before .before .before .before .before .before .before .if2 .left,
+      );
+      bucket = c .before .before .before .before .before .before .before .before .before .before .before .before .before .before .before
+          .before .before .before .before .before .before .before .before .before .before .before .before .before .before .before .before
+          .before .before .before .hash .ensures .0;
+      small = c .before .before .before .before .before .before .before .before .before .before .before .before .before .before .before .before
+          .before .before .before .before .before .before .before .before .before .before .before .before .before .before .before .before
+          .before .before .hash .ensures .1;
+      laid = c .before .before .before .before .before .before .before .before .before .before .before .before .before .before .before .before
+          .before .before .before .before .before .before .before .before .add-id .ensures .0;
+      led = c .before .before .before .before .before .before .before .before .before .before .before .before .before .before .before .before
+          .before .before .before .before .before .before .before .before .add-id .ensures .1;
+    } in
+    let o = rw (c .enum-told2 .given .1) at (c .before .before .before .before .before .before .apply-style-ref .ensures) in
+    applied-over _ _ _ _ _ _ _ _ _ _ _ _ entry _ _ _ _ (c .before .before .before .before .before .before .before .before .before .before .before
+    .before .before .before .before .before .before .chain-of .ensures) _ _ (o .kept ∙ c .before .before .before .before .before .before
+    .before .before .before .before .before .before .before .before .before .loop .inv .grown .kept)
+    (full-in _ _ _ _ _ _ _ _ _ _ (omega arith) (c .before .before .before .before .before .before .before .before .before .before .before .before
+    .before .before .before .before .before .chain-of .ensures .within) _ _ _ _ (c .before .before .before .before .before .before .before
+    .before .before .before .before .before .before .before .before .loop .inv) _ _ w _ (c .before .before .before .before .before .before
+    .apply-style-ref .last .1 .1 .1 .1 .1 .1 .1 .1 .1 .1 .0) o)
+
+apply-style-ref-enum-known-t : (t : ℕ) → apply-style-ref-lts.Need-enum-known-t (claims t) (apply-style-ref-at t) apply-style-ref.Post
+    apply-style-ref-Inv-loop apply-style-ref-μ-loop
+apply-style-ref-enum-known-t t c = search needs
+
+apply-style-ref-loop-less : (t : ℕ) → apply-style-ref-lts.Need-loop-less (claims t) (apply-style-ref-at t) apply-style-ref.Post
+    apply-style-ref-Inv-loop apply-style-ref-μ-loop
+apply-style-ref-loop-less t c =
+    let w = rw (c .before .before .before .before .before .before .before .before .before .before .before .before .x .given .1) at (c .before
+    .before .before .before .before .before .before .before .before .before .before .before .before .before .next-word .ensures) in
+    omega (arith, w .within-text, w .some-byte, w .after)
+
+apply-style-ref-loop-again : (t : ℕ) → apply-style-ref-lts.Need-loop-again (claims t) (apply-style-ref-at t) apply-style-ref.Post
+    apply-style-ref-Inv-loop apply-style-ref-μ-loop
+unfolding stringAt
+apply-style-ref-loop-again t c =
+    let w = rw (c .before .before .before .before .before .before .before .before .before .before .before .before .x .given .1) at (c .before
+    .before .before .before .before .before .before .before .before .before .before .before .before .before .next-word .ensures) in
+    step-in _ _ _ _ _ _ _ _ _ _ (omega arith) (c .before .before .before .before .before .before .before .before .before .before .before .before
+    .before .before .before .before .before .before .chain-of .ensures .within) _ _ _ _ (c .before .before .before .before .before .before
+    .before .before .before .before .before .before .before .before .before .before .loop .inv) _ _ w _ _ _ (rw (c .before .t .given .1) at (c
+    .before .before .before .before .before .before .before .apply-style-ref .ensures))
+
+pub +apply-style-ref-spec : {M : Type 1} → statement M
++apply-style-ref-spec = close μ-apply-style-ref λ t. apply-style-ref-lts.spec (claims t)
+    (apply-style-ref-at t)
+    apply-style-ref.Post
+    apply-style-ref-Inv-loop
+    apply-style-ref-μ-loop
+    (apply-style-ref-add-end t)
+    (apply-style-ref-sub-hash t)
+    (apply-style-ref-part-hash-start t)
+    (apply-style-ref-part-hash-end t)
+    (apply-style-ref-hash-requires t)
+    (apply-style-ref-sub-is-visited t)
+    (apply-style-ref-part-is-visited-start t)
+    (apply-style-ref-part-is-visited-end t)
+    (apply-style-ref-is-visited-requires t)
+    (apply-style-ref-same-length t)
+    (apply-style-ref-same-length-2 t)
+    (apply-style-ref-returns t)
+    (apply-style-ref-same-length-3 t)
+    (apply-style-ref-same-length-4 t)
+    (apply-style-ref-returns-2 t)
+    (apply-style-ref-mul-if3 t)
+    (apply-style-ref-sub-if3 t)
+    (apply-style-ref-same-length-5 t)
+    (apply-style-ref-same-length-6 t)
+    (apply-style-ref-returns-3 t)
+    (apply-style-ref-add-id-requires t)
+    (apply-style-ref-add-t27 t)
+    (apply-style-ref-sub-chain-of t)
+    (apply-style-ref-part-chain-of-start t)
+    (apply-style-ref-part-chain-of-end t)
+    (apply-style-ref-chain-of-requires t)
+    (apply-style-ref-add-to t)
+    (apply-style-ref-loop-holds t)
+    (apply-style-ref-sub-next-word t)
+    (apply-style-ref-part-next-word-start t)
+    (apply-style-ref-part-next-word-end t)
+    (apply-style-ref-next-word-requires t)
+    (apply-style-ref-enum-told t)
+    (apply-style-ref-sub-own-style t)
+    (apply-style-ref-part-own-style-start t)
+    (apply-style-ref-part-own-style-end t)
+    (apply-style-ref-own-style-requires t)
+    (apply-style-ref-same-length-7 t)
+    (apply-style-ref-same-length-8 t)
+    (apply-style-ref-returns-4 t)
+    (apply-style-ref-enum-known-x t)
+    (apply-style-ref-add-apply-style-ref t)
+    (apply-style-ref-sub-apply-style-ref t)
+    (apply-style-ref-apply-style-ref-requires t)
+    (apply-style-ref-enum-told-2 t)
+    (apply-style-ref-same-length-9 t)
+    (apply-style-ref-same-length-10 t)
+    (apply-style-ref-returns-5 t)
+    (apply-style-ref-enum-known-t t)
+    (apply-style-ref-loop-less t)
+    (apply-style-ref-loop-again t)

@@ -1,0 +1,240 @@
+// The resolution of a style value: each id once, its parents before itself.
+ghost use mathlib.Core.Path.{_≡_};
+ghost use mathlib.Core.List.{[], _∷_};
+ghost use Prim.Native.Nat.{_+_, _≤_};
+ghost use lib.ListN.{length};
+ghost use Rattle.scan.specs.Part.{stringAt};
+ghost use Rattle.unicode.specs.White.{words};
+ghost use Rattle.styles.specs.Ids.{Held};
+ghost use Rattle.styles.specs.Steps.{Chained, Ready, Stands, ChainOf, OwnStyle, ApplyPost, ResolvePost};
+use crate::values::Styling;
+use records::Found;
+use track::Span;
+use unicode::Word;
+
+// What is known on the way: how many ids were visited, whether a style was met, and the styles met, each
+// over those before it.
+pub struct Walk {
+    pub count: usize,
+    pub found: bool,
+    pub values: Styling,
+}
+
+// More ids than there are rows for is Full (number 18).
+pub enum Applied {
+    Done(Walk),
+    Full,
+}
+
+// The chain of the first style of this name that has one; an empty part where none has.
+fn chain_of(styles: &[u32], strings: &[u8], n: usize, name: &[u8]) -> Span
+    requires { ⌜ Chained (now styles) (now strings) n ⌝ }
+    ensures { λ r. ⌜ ChainOf (now (styles .entry)) (now (strings .entry)) n (now (name .entry)) r ⌝ }
+{
+    match records::find_chain(styles, strings, n, name) {
+        Found::Row(i) => Span {
+            place: scan::get(styles, i * 27 + 2),
+            len: scan::get(styles, i * 27 + 3),
+        },
+        Found::Nothing => Span { place: 0, len: 0 },
+    }
+}
+
+// The style of this name itself, over what was met before.
+fn own_style(styles: &[u32], sizes: &[f32], strings: &[u8], n: usize, name: &[u8], w: Walk) -> Walk
+    requires { ⌜ Ready (now styles) (now sizes) (now strings) n ⌝ }
+    ensures { λ r. ⌜ OwnStyle (now (styles .entry)) (now (sizes .entry)) (now (strings .entry)) n (now (name .entry)) w r ⌝ }
+{
+    match records::find_style(styles, strings, n, name) {
+        Found::Row(i) => {
+            let above = crate::values::styling_at(styles, sizes, i);
+            let below = w.values;
+            let values = crate::values::overlay(below, above);
+            Walk {
+                count: w.count,
+                found: true,
+                values,
+            }
+        }
+        Found::Nothing => w,
+    }
+}
+
+// The Rust's `apply_style_ref`: the id that stands in `own` (the query's text if the source is 0, else the
+// track's strings), its parents first.
+fn apply_style_ref(
+    text: &[u8],
+    styles: &[u32],
+    sizes: &[f32],
+    strings: &[u8],
+    n: usize,
+    own: &[u8],
+    source: u32,
+    at: usize,
+    len: usize,
+    ids: &mut [u32],
+    heads: &mut [u32],
+    w: Walk,
+) -> Applied
+    requires { ⌜ Ready (now styles) (now sizes) (now strings) n × Stands (now text) (now strings) (now own) source at len
+        × Held (now text) (now strings) (now ids) (now heads) (w .count) ⌝ }
+    ensures { λ r. ⌜ ApplyPost (now (text .entry)) (now (styles .entry)) (now (sizes .entry)) (now (strings .entry)) n
+        (stringAt (now (own .entry)) at len ∷ []) (now (ids .entry)) (now (ids .exit)) (now (heads .exit)) w r ⌝ }
+{
+    let end = at + len;
+    let count = w.count;
+    let h = crate::ids::hash(&own[at..end]);
+    if crate::ids::is_visited(text, strings, ids, heads, count, h, &own[at..end]) {
+        return Applied::Done(w);
+    }
+    if 65536 <= count {
+        return Applied::Full;
+    }
+    if ids.len() - count * 4 < 4 {
+        return Applied::Full;
+    }
+    crate::ids::add_id(ids, heads, count, h, source, at, len);
+    let values = w.values;
+    let mut s = Walk {
+        count: count + 1,
+        found: w.found,
+        values,
+    };
+    let chain = chain_of(styles, strings, n, &own[at..end]);
+    let from = chain.place;
+    let to = from + chain.len;
+    let mut p = 0;
+    loop {
+        match unicode::next_word(&strings[from..to], p) {
+            Word::Nothing => {
+                let r = own_style(styles, sizes, strings, n, &own[at..end], s);
+                return Applied::Done(r);
+            }
+            Word::At(x) => {
+                let start = x.start;
+                match apply_style_ref(
+                    text,
+                    styles,
+                    sizes,
+                    strings,
+                    n,
+                    strings,
+                    1,
+                    from + start,
+                    x.end - start,
+                    ids,
+                    heads,
+                    s,
+                ) {
+                    Applied::Full => {
+                        return Applied::Full;
+                    }
+                    Applied::Done(t) => {
+                        s = t;
+                    }
+                }
+                p = x.end;
+            }
+        }
+    }
+}
+
+// The ids of a value, one after the other: `len` bytes of `own` (as above) from a place on. What was
+// visited before stays visited.
+pub fn apply_refs(
+    text: &[u8],
+    styles: &[u32],
+    sizes: &[f32],
+    strings: &[u8],
+    n: usize,
+    own: &[u8],
+    source: u32,
+    from: usize,
+    len: usize,
+    ids: &mut [u32],
+    heads: &mut [u32],
+    w: Walk,
+) -> Applied
+    requires { ⌜ Ready (now styles) (now sizes) (now strings) n × Stands (now text) (now strings) (now own) source from len
+        × Held (now text) (now strings) (now ids) (now heads) (w .count) ⌝ }
+    ensures { λ r. ⌜ ApplyPost (now (text .entry)) (now (styles .entry)) (now (sizes .entry)) (now (strings .entry)) n
+        (words (stringAt (now (own .entry)) from len)) (now (ids .entry)) (now (ids .exit)) (now (heads .exit)) w r ⌝ }
+{
+    let to = from + len;
+    let mut s = w;
+    let mut p = 0;
+    loop {
+        match unicode::next_word(&own[from..to], p) {
+            Word::Nothing => {
+                return Applied::Done(s);
+            }
+            Word::At(x) => {
+                let start = x.start;
+                match apply_style_ref(
+                    text,
+                    styles,
+                    sizes,
+                    strings,
+                    n,
+                    own,
+                    source,
+                    from + start,
+                    x.end - start,
+                    ids,
+                    heads,
+                    s,
+                ) {
+                    Applied::Full => {
+                        return Applied::Full;
+                    }
+                    Applied::Done(t) => {
+                        s = t;
+                    }
+                }
+                p = x.end;
+            }
+        }
+    }
+}
+
+// The Rust's `resolve_referenced_style`, the value being the query's text.
+pub fn resolve(
+    text: &[u8],
+    styles: &[u32],
+    sizes: &[f32],
+    strings: &[u8],
+    n: usize,
+    ids: &mut [u32],
+) -> Applied
+    requires { ⌜ Ready (now styles) (now sizes) (now strings) n × (length (now text) ≤ 65536) ⌝ }
+    ensures { λ r. ⌜ ResolvePost (now (text .entry)) (now (styles .entry)) (now (sizes .entry)) (now (strings .entry)) n
+        (now (ids .entry)) (now (ids .exit)) r ⌝ }
+{
+    let mut heads = [0u32; 4096];
+    let values = crate::values::blank();
+    let w = Walk {
+        count: 0,
+        found: false,
+        values,
+    };
+    match apply_refs(
+        text,
+        styles,
+        sizes,
+        strings,
+        n,
+        text,
+        0,
+        0,
+        text.len(),
+        ids,
+        &mut heads,
+        w,
+    ) {
+        Applied::Full => Applied::Full,
+        Applied::Done(r) => {
+            crate::ids::clear_links(ids, r.count);
+            Applied::Done(r)
+        }
+    }
+}
