@@ -7,9 +7,9 @@ use lib.IntN.{ℤ}
 use lib.Ieee.{Float}
 use lib.ListN.{length, length-append}
 use Rattle.track.specs.declared.strings.Span.{Span}
-use Rattle.track.specs.Track.{Wrapper, Segments}
+use Rattle.track.specs.Track.{Wrapper, Segments, segmentRows}
 use Rattle.track.specs.Track as track
-use Rattle.track.specs.Layout.{Sized, wrapperOf, segmentRows, preorder, joinedCells, each, segmentTime, segmentSize}
+use Rattle.track.specs.Layout.{Sized, wrapperOf, preorder, joinedCells, each, segmentTime, segmentSize}
 use Rattle.records.specs.Siblings.{joined, rowCells, cellsOf, timesOf, floatsOf, Three, Stands, Room, later, andThese, Shifted, Put}
 use Rattle.records.proofs.RowLaws.{joined-length, segment-wide}
 use Rattle.records.proofs.Beside.{each-length}

@@ -9,9 +9,9 @@ use lib.Ieee.{Float}
 use Rattle.scan.specs.Part.{part}
 use Rattle.track.specs.declared.strings.Span.{Span}
 use Rattle.track.specs.declared.segments.Segment.{Segment}
-use Rattle.track.specs.Track.{Wrapper, Segments}
+use Rattle.track.specs.Track.{Wrapper, Segments, segmentRows}
 use Rattle.track.specs.Track as track
-use Rattle.track.specs.Layout.{Sized, wrapperOf, segmentRows, preorder, joinedCells, each, segmentCells, segmentTime, segmentSize}
+use Rattle.track.specs.Layout.{Sized, wrapperOf, preorder, joinedCells, each, segmentCells, segmentTime, segmentSize}
 
 -- the second after the first
 unfoldable pub joined : {S : Type 0} → Segments S → Segments S → Segments S
