@@ -4,7 +4,7 @@ use mathlib.Core.Path.{_≡_, refl, sym, _∙_}
 use mathlib.Core.List.{List, [], _∷_}
 use native.Mathlib.Omega.{arith}
 use lib.Dec.{ltb}
-use lib.IntN.{ℤ, pos}
+use lib.IntN.{ℤ}
 use lib.ListN.{length, getD, take, drop, length-drop}
 use lib.Seq.{take-all, length-take-le}
 use borrow.Author.Tests.{ltb-true, ltb-false, lt-ltb, eq-eqb, ne-eqb}
@@ -20,7 +20,7 @@ use Rattle.numerals.specs.declared.Numeral.{Numeral}
 use Rattle.times.specs.declared.offset.TimingCtx.{TimingCtx}
 use Rattle.times.specs.declared.offset.Time.{Time}
 use Rattle.times.specs.Expressions as spec
-use Rattle.times.specs.Expressions.{timeDecimal, eachTime, rateTime, frameRate, tickRate, float, offsetTime, integer, unfractioned, secondsOf, summed, framed, afterSeconds, afterMinutes, afterHours, clockTime, timeIn}
+use Rattle.times.specs.Expressions.{timeDecimal, eachTime, rateTime, frameRate, tickRate, float, offsetTime, integer, unfractioned, secondsOf, summed, hoursMinutes, framed, afterSeconds, afterMinutes, afterHours, clockTime, timeIn}
 
 -- what follows a place, as the program's `&s[k..]` has it
 pub rest-of : (s : List ℕ) (k : ℕ) → take (length s - k) (drop k s) ≡ drop k s
@@ -53,7 +53,7 @@ module _ (s : List ℕ) (r : ℕ) (e : Ends (other 58) s 0 r) (ctx : TimingCtx) 
     seconds-more l = rw (parts-more 58 s r e l)
 
   module _ (h : Numeral) where
-    pub minutes-last : length s ≤ r → afterHours h (splitAt 58 s) ctx ≡ summed h (integer (take r s)) (Time.Is (pos 0))
+    pub minutes-last : length s ≤ r → afterHours h (splitAt 58 s) ctx ≡ hoursMinutes h (integer (take r s))
     minutes-last l = rw (parts-last 58 s r e l)
 
     pub minutes-more : r < length s → afterHours h (splitAt 58 s) ctx ≡ afterMinutes h (integer (take r s)) (splitAt 58 (drop (r + 1) s)) ctx

@@ -154,6 +154,12 @@ summed (Numeral.Is h) (Numeral.Is m) Digits = Digits
 summed (Numeral.Is h) (Numeral.Is m) Cut = Cut
 summed (Numeral.Is h) (Numeral.Is m) Overflow = Overflow
 
+-- hours and minutes alone
+abbrev pub hoursMinutes : Numeral → Numeral → Time
+hoursMinutes Numeral.Nothing m = Nothing
+hoursMinutes (Numeral.Is h) Numeral.Nothing = Nothing
+hoursMinutes (Numeral.Is h) (Numeral.Is m) = timeOf (plus (unitsOf (Numeral.Is h) 3600000000) (unitsOf (Numeral.Is m) 60000000))
+
 -- Frames are added where there is a rate above 0; what is no decimal adds nothing. White space around them makes them none.
 abbrev pub framesAt : ℤ → Float → Rate → Time
 framesAt z v (rate r) =
@@ -178,7 +184,7 @@ afterSeconds t [] ctx = t
 afterSeconds t (f ∷ more) ctx = framed t (timeDecimal f) ctx
 
 abbrev pub afterMinutes : Numeral → Numeral → List (List ℕ) → TimingCtx → Time
-afterMinutes h m [] ctx = summed h m (Is (pos 0))
+afterMinutes h m [] ctx = hoursMinutes h m
 afterMinutes h m (s ∷ more) ctx = afterSeconds (summed h m (secondsOf s)) more ctx
 
 abbrev pub afterHours : Numeral → List (List ℕ) → TimingCtx → Time

@@ -146,7 +146,7 @@ fn after_hours(h: Whole, text: &[u8], ctx: TimingCtx) -> Time
     match integer(&text[..colon]) {
         Numeral::Is(m) => {
             if text.len() <= colon {
-                return summed(h, m, Time::Is(0));
+                return time_of(plus(crate::sums::times(h, 3600000000), crate::sums::times(m, 60000000)));
             }
             after_minutes(h, m, &text[colon + 1..], ctx)
         }

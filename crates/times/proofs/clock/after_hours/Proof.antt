@@ -2,12 +2,11 @@
 use Prim.Native.Nat.{_+_}
 use mathlib.Core.Path.{_≡_, sym, ap, _∙_}
 use lib.ListN.{take}
-use lib.IntN.{pos}
 use borrow.Author.Needs.{needs}
 use Rattle.scan.specs.Split.{splitAt}
 use Rattle.numerals.specs.declared.Numeral.{Numeral}
-use Rattle.times.specs.declared.offset.Time.{Time}
-use Rattle.times.specs.Expressions.{integer, summed, afterMinutes}
+use Rattle.times.specs.Sums.{plus}
+use Rattle.times.specs.Expressions.{integer, timeOf, hoursMinutes, afterMinutes}
 use Rattle.times.proofs.Parts.{first-length, rest-of, minutes-last, minutes-more, minutes-none}
 use Rattle.times.proofs.clock.after_hours.Statement.{statement}
 use Rattle.times.proofs.clock.after_hours.Tie as tie
@@ -24,14 +23,28 @@ integer-requires c κs = search needs
 enum-known-m : tie.Need-enum-known-m
 enum-known-m c = search needs
 
-summed-requires : tie.Need-summed-requires
-summed-requires c κs = search needs
+times-requires : tie.Need-times-requires
+times-requires c κs = search needs
+
+times-requires-2 : tie.Need-times-requires-2
+times-requires-2 c κs = search needs
+
+plus-requires : tie.Need-plus-requires
+plus-requires c κs = search needs
+
+time-of-requires : tie.Need-time-of-requires
+time-of-requires c κs = search needs
 
 returns : tie.Need-returns
 returns c =
-    let a = c .before .before .before .before .before .before .before .before .before .args in
-    c .summed .ensures ∙ (ap (λ (n : Numeral). summed (Numeral.Is (a .h)) n (Time.Is (pos 0))) (sym (c .before .before .before .m .given .1) ∙ c .before .before .before .before .before .integer .ensures)
-    ∙ sym (minutes-last _ _ (c .before .before .before .before .before .before .before .find-byte .ensures) (a .ctx) (Numeral.Is (a .h)) (c .before .if1 .taken)))
+    let c4 = c .before .before .before .before in
+    let c8 = c4 .before .before .before .before in
+    let found = c8 .before .before in
+    let a = found .before .before .args in
+    let units = c .before .plus .ensures ∙ (λ i. plus (c .before .before .before .times .ensures i) (c .before .before .times2 .ensures i)) in
+    let minutes = sym (c4 .before .before .m .given .1) ∙ c8 .integer .ensures in
+    c .time-of .ensures ∙ (ap timeOf units ∙ (ap (hoursMinutes (Numeral.Is (a .h))) minutes
+    ∙ sym (minutes-last _ _ (found .find-byte .ensures) (a .ctx) (Numeral.Is (a .h)) (c4 .if1 .taken))))
 
 add-after-minutes : tie.Need-add-after-minutes
 add-after-minutes c = search needs
@@ -53,11 +66,16 @@ enum-told c = search needs
 
 returns-2 : tie.Need-returns-2
 returns-2 c =
-    let a = c .before .before .before .before .before .before .before .before .before .before .args in
-    let minutes : Numeral.Is (c .before .before .before .before .m .given .0 .0) ≡ integer (take (c .before .before .before .before .before .before .before .before .find-byte .result) (a .text .now)) = sym (c .before .before .before .before .m .given .1) ∙ c .before .before .before .before .before .before .integer .ensures in
+    let c4 = c .before .before .before .before in
+    let found = c4 .before .before .before .before in
+    let a = found .before .before .args in
+    let colon = found .find-byte .result in
+    let minutes : Numeral.Is (c4 .m .given .0 .0) ≡ integer (take colon (a .text .now)) =
+        sym (c4 .m .given .1) ∙ c4 .before .before .integer .ensures in
+    let rest = rest-of (a .text .now) (colon + 1) in
     c .after-minutes .ensures
-    ∙ ((λ i. afterMinutes (Numeral.Is (a .h)) (minutes i) (splitAt 58 (rest-of (a .text .now) (c .before .before .before .before .before .before .before .before .find-byte .result + 1) i)) (a .ctx))
-    ∙ sym (minutes-more _ _ (c .before .before .before .before .before .before .before .before .find-byte .ensures) (a .ctx) (Numeral.Is (a .h)) (c .before .before .if1 .left)))
+    ∙ ((λ i. afterMinutes (Numeral.Is (a .h)) (minutes i) (splitAt 58 (rest i)) (a .ctx))
+    ∙ sym (minutes-more _ _ (found .find-byte .ensures) (a .ctx) (Numeral.Is (a .h)) (c .before .before .if1 .left)))
 
 returns-3 : tie.Need-returns-3
 returns-3 c = minutes-none _ _ (c .before .before .before .before .find-byte .ensures) _ _ (c .before .before .integer .ensures) (c .enum-told .given .1) _
@@ -70,7 +88,10 @@ after-hours-spec =
     slice-aggregate-integer
     integer-requires
     enum-known-m
-    summed-requires
+    times-requires
+    times-requires-2
+    plus-requires
+    time-of-requires
     returns
     add-after-minutes
     sub-after-minutes
