@@ -2,6 +2,8 @@
 --     <color> : "#" rrggbb | "#" rrggbbaa | "rgb" "(" r-value "," g-value "," b-value ")" | "rgba" "(" .. ")" | <named-color>
 -- and the Rust's `parse_ttml_color_rgba`. docs/DIFFERENCES.md says where the two differ. Definitions alone.
 use Prim.Native.Nat.{ℕ, _+_, _-_, _*_, _≤_}
+use mathlib.Core.Path.{_≡_}
+use mathlib.Core.Logic.{_↔_}
 use mathlib.Core.Bool.{Bool, true, false, cond, not, _&&_, _||_}
 use mathlib.Core.List.{List, [], _∷_, _++_}
 use lib.ListN.{length, getD, take, drop}
@@ -18,11 +20,20 @@ use Rattle.colors.specs.declared.read.Color.{Color}
 use Rattle.colors.specs.declared.read.Channel.{Channel}
 use Rattle.colors.specs.Named.{rgba, colorTable, namedIn}
 
--- document 01's number for each answer; 0 where it has none
+-- ---- the answer
+-- document 01's number, 0 where none is met, and the values of each case
 abbrev pub numberOf : Color → ℕ
 numberOf (Color.Is c) = 0
 numberOf Color.Nothing = 0
 numberOf Color.Cut = 15
+
+abbrev pub valuesOf : Color → List Rgba
+valuesOf (Color.Is c) = c ∷ []
+valuesOf Color.Nothing = []
+valuesOf Color.Cut = []
+
+abbrev pub Says : Color → ℕ → List Rgba → Type 0
+Says r n values = (numberOf r ≡ n) × (valuesOf r ≡ values)
 
 -- ---- channels
 
@@ -100,6 +111,14 @@ abbrev pub opaque : Color → Color
 opaque (Color.Is c) = Color.Is (rgba (c .r) (c .g) (c .b) 255)
 opaque Color.Nothing = Color.Nothing
 opaque Color.Cut = Color.Cut
+
+-- What `parse_ttml_color_rgba` and `parse_ttml_color_rgb` promise of their answer r, c being the colour of the text: it says a colour exactly if
+-- the text is that colour, no colour exactly if it is none, and 15 exactly if it is cut inside a character.
+pub record ReadsColor (c r : Color) : Type 0 where
+  pub is : r ≡ c
+  pub color-is : (v : Rgba) → Says r 0 (v ∷ []) ↔ (c ≡ Color.Is v)
+  pub none : Says r 0 [] ↔ (c ≡ Color.Nothing)
+  pub cut-inside : Says r 15 [] ↔ (c ≡ Color.Cut)
 
 -- ---- what the program's steps ensure
 

@@ -5,7 +5,7 @@ ghost use lib.ListN.{length};
 ghost use Rattle.scan.specs.Split.{splitAt};
 ghost use Rattle.colors.specs.Named.{rgba};
 ghost use Rattle.colors.specs.Colors as colors;
-ghost use Rattle.colors.specs.Colors.{channelOf, hexChannel, hexColor, decimalChannel, rgbOf, rgbParts, colorIn, opaque, Small, Channels, copies, hexAlpha, hexBlue, hexGreen, hexRed};
+ghost use Rattle.colors.specs.Colors.{channelOf, hexChannel, hexColor, decimalChannel, rgbOf, rgbParts, colorIn, opaque, ReadsColor, Small, Channels, copies, hexAlpha, hexBlue, hexGreen, hexRed};
 use numerals::Numeral;
 
 pub struct Rgba {
@@ -203,7 +203,7 @@ fn trimmed_color(text: &[u8]) -> Color
 
 // The colour that a text is.
 pub fn parse_ttml_color_rgba(text: &[u8]) -> Color
-    ensures { λ r. ⌜ r ≡ colorIn (now (text .entry)) ⌝ }
+    ensures { λ r. ⌜ ReadsColor (colorIn (now (text .entry))) r ⌝ }
 {
     let span = unicode::trim(text);
     let start = span.start;
@@ -213,7 +213,7 @@ pub fn parse_ttml_color_rgba(text: &[u8]) -> Color
 
 // The same without its alpha, which is given as 255.
 pub fn parse_ttml_color_rgb(text: &[u8]) -> Color
-    ensures { λ r. ⌜ r ≡ opaque (colorIn (now (text .entry))) ⌝ }
+    ensures { λ r. ⌜ ReadsColor (opaque (colorIn (now (text .entry)))) r ⌝ }
 {
     match parse_ttml_color_rgba(text) {
         Color::Is(c) => Color::Is(Rgba {

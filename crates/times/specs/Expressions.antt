@@ -5,6 +5,8 @@
 --     metric            : "h" | "m" | "s" | "ms" | "f" | "t"
 -- and the Rust's reading of each, `parse_ttml_time`. docs/DIFFERENCES.md says where the two differ. Definitions alone.
 use Prim.Native.Nat.{ℕ, zero, suc, _+_, _-_, _^_}
+use mathlib.Core.Path.{_≡_}
+use mathlib.Core.Logic.{_↔_}
 use mathlib.Core.Bool.{Bool, true, false, cond, _&&_, _||_}
 use mathlib.Core.List.{List, [], _∷_, _++_}
 use lib.ListN.{length, getD, take, drop, replicate}
@@ -24,13 +26,24 @@ use Rattle.times.specs.declared.offset.Time.{Time}
 use Rattle.times.specs.declared.offset.Time.the-variants.{Is, Nothing, Digits, Cut, Overflow}
 use Rattle.times.specs.Sums.{checked, signed, plus}
 
--- document 01's number for each answer; 0 where it has none
+-- ---- the answer
+-- document 01's number, 0 where none is met, and the values of each case
 abbrev pub numberOf : Time → ℕ
 numberOf (Is z) = 0
 numberOf Nothing = 0
 numberOf Digits = 14
 numberOf Cut = 15
 numberOf Overflow = 16
+
+abbrev pub valuesOf : Time → List ℤ
+valuesOf (Is z) = z ∷ []
+valuesOf Nothing = []
+valuesOf Digits = []
+valuesOf Cut = []
+valuesOf Overflow = []
+
+abbrev pub Says : Time → ℕ → List ℤ → Type 0
+Says r n values = (numberOf r ≡ n) × (valuesOf r ≡ values)
 
 -- ---- decimals of times: at most 15 digits after leading zeros, at most 22 behind the point
 
@@ -227,3 +240,13 @@ expression s ctx =
 unfoldable pub timeIn : List ℕ → TimingCtx → Time
 unfolding expression
 timeIn s ctx = cond (eqb (length (trimmed s)) 0) Nothing (expression (trimmed s) ctx)
+
+-- What `parse_ttml_time` promises of its answer r, t being the time of the text: it says a time exactly if the text is that time, no time
+-- exactly if it is none, and a number exactly if that is the one met.
+pub record ReadsTime (t r : Time) : Type 0 where
+  pub is : r ≡ t
+  pub time : (z : ℤ) → Says r 0 (z ∷ []) ↔ (t ≡ Is z)
+  pub none : Says r 0 [] ↔ (t ≡ Nothing)
+  pub digits : Says r 14 [] ↔ (t ≡ Digits)
+  pub cut-inside : Says r 15 [] ↔ (t ≡ Cut)
+  pub overflow : Says r 16 [] ↔ (t ≡ Overflow)

@@ -5,7 +5,7 @@ ghost use lib.ListN.{length, take};
 ghost use Rattle.scan.specs.Split.{splitAt};
 ghost use Rattle.times.specs.Sums as sums;
 ghost use Rattle.times.specs.Expressions as expressions;
-ghost use Rattle.times.specs.Expressions.{timeDecimal, timeOf, charsLength, microsOf, secondsOf, afterHours, afterMinutes, afterSeconds, clockTime, timeIn};
+ghost use Rattle.times.specs.Expressions.{timeDecimal, timeOf, charsLength, microsOf, secondsOf, afterHours, afterMinutes, afterSeconds, clockTime, timeIn, ReadsTime};
 use crate::offset::Time;
 use crate::offset::TimingCtx;
 use crate::sums::Sum;
@@ -214,7 +214,7 @@ fn expression(text: &[u8], ctx: TimingCtx) -> Time
 
 // The time that a text is, in microseconds.
 pub fn parse_ttml_time(text: &[u8], ctx: TimingCtx) -> Time
-    ensures { λ r. ⌜ r ≡ timeIn (now (text .entry)) ctx ⌝ }
+    ensures { λ r. ⌜ ReadsTime (timeIn (now (text .entry)) ctx) r ⌝ }
 {
     let span = unicode::trim(text);
     let start = span.start;

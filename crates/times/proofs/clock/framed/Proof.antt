@@ -36,7 +36,7 @@ unfolding ofInt ofBits
 returns c =
     let f : lt (float 0) (c .before .before .before .before .before .before .before .before .before .before .before .before .before .args .ctx .«frame_rate») ≡ true = c .before .before .before .before .before .if2 .taken in
     rw (sym (c .before .before .before .before .before .before .before .before .before .before .before .read-decimal .ensures), c .before .before .before .before .before .before .before .before .before .d .given .1, c .before .before .before .before .before .before .before .if1 .taken, f)
-    (c .time-of .ensures ∙ ap timeOf (c .before .add .ensures ∙ ap checked (λ i. toZ-ofZ w64 _ (c .before .before .before .before .before .before .before .before .before .before .before .before .before .fits .us) i +ℤ (toZ-ofZ w64 _ (record { sfits = c .before .before .truncate .ok }) ∙ (c .before .before .truncate .ensures ∙ ap (λ (x : Float). cut (mul binary64 (div binary64 x (c .before .before .before .before .before .before .before .before .before .before .before .before .before .args .ctx .«frame_rate»)) (float 1000000))) (c .before .before .before .before .to-f64 .ensures))) i)))
+    (c .time-of .ensures ∙ ap timeOf (c .before .add .ensures .is ∙ ap checked (λ i. toZ-ofZ w64 _ (c .before .before .before .before .before .before .before .before .before .before .before .before .before .fits .us) i +ℤ (toZ-ofZ w64 _ (record { sfits = c .before .before .truncate .ok }) ∙ (c .before .before .truncate .ensures ∙ ap (λ (x : Float). cut (mul binary64 (div binary64 x (c .before .before .before .before .before .before .before .before .before .before .before .before .before .args .ctx .«frame_rate»)) (float 1000000))) (c .before .before .before .before .to-f64 .ensures))) i)))
 
 enum-told : tie.Need-enum-told
 enum-told c = search needs
