@@ -91,7 +91,9 @@ module _ (a b : ℤ) (r : Sum) (e : r ≡ checked (a +ℤ b)) where
       let back : cond (isI64 (a +ℤ b)) (Sum.Is (a +ℤ b)) Sum.Overflow ≡ r = sym e in
       record {
         is = e;
-        sum = λ z. ((λ s. says-sum (a +ℤ b) z (isI64 (a +ℤ b)) refl (sums-to s back)),
-            λ w. sums-to (refl, refl) (e ∙ (tested true (ap isI64 (sym (w .0)) ∙ w .1) ∙ ap Sum.Is (sym (w .0)))));
+        sum = λ z. (
+          (λ s. says-sum (a +ℤ b) z (isI64 (a +ℤ b)) refl (sums-to s back)),
+          λ w. sums-to (refl, refl) (e ∙ (tested true (ap isI64 (sym (w .0)) ∙ w .1) ∙ ap Sum.Is (sym (w .0)))),
+        );
         overflow = ((λ s. says-over (a +ℤ b) (isI64 (a +ℤ b)) refl (sums-to s back)), λ w. sums-to (refl, refl) (e ∙ tested false w));
       }

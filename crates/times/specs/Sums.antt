@@ -22,12 +22,6 @@ checked z = cond (isI64 z) (Is z) Overflow
 abbrev pub signed : Bool → ℕ → ℤ
 signed negative n = cond negative (negℤ (pos n)) (pos n)
 
--- a sum of sums, each tested
-abbrev pub plus : Sum → Sum → Sum
-plus (Is a) (Is b) = checked (a +ℤ b)
-plus (Is a) Overflow = Overflow
-plus Overflow b = Overflow
-
 -- ---- the answer
 -- document 01's number, 0 where none is met, and the values of each case
 abbrev pub sumNumber : Sum → ℕ

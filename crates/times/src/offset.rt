@@ -1,7 +1,8 @@
 // Offset times: a count and its metric.
 ghost use mathlib.Core.Path.{_≡_};
 ghost use Rattle.unicode.specs.White.{trimmed};
-ghost use Rattle.times.specs.Expressions.{timeDecimal, eachTime, rateTime, given};
+ghost use Rattle.times.specs.Expressions.{timeDecimal, given};
+ghost use Rattle.times.specs.Steps.{eachTime, rateTime};
 use decimals::Decimal;
 
 // The frame rate and the tick rate that a document gives, if it does.

@@ -1,13 +1,15 @@
 -- Minutes up to the next colon, and what follows them.
 use Prim.Native.Nat.{_+_}
 use mathlib.Core.Path.{_≡_, sym, ap, _∙_}
+use lib.IntN.{pos, _*ℤ_}
 use lib.ListN.{take}
 use borrow.Author.Needs.{needs}
 use Rattle.scan.specs.Split.{splitAt}
 use Rattle.numerals.specs.declared.Numeral.{Numeral}
-use Rattle.times.specs.Sums.{plus}
-use Rattle.times.specs.Expressions.{integer, timeOf, hoursMinutes, afterMinutes}
-use Rattle.times.proofs.Parts.{first-length, rest-of, minutes-last, minutes-more, minutes-none}
+use Rattle.times.specs.Expressions.{_>>=_, integer, wholeIn, timeOf, hoursMinutes}
+use Rattle.times.specs.Sums.{checked}
+use Rattle.times.specs.Steps.{plus, number, afterMinutes}
+use Rattle.times.proofs.Parts.{first-length, rest-of, minutes-last, minutes-more, minutes-none, plus-then}
 use Rattle.times.proofs.clock.after_hours.Statement.{statement}
 use Rattle.times.proofs.clock.after_hours.Tie as tie
 
@@ -43,8 +45,9 @@ returns c =
     let a = found .before .before .args in
     let units = c .before .plus .ensures ∙ (λ i. plus (c .before .before .before .times .ensures i) (c .before .before .times2 .ensures i)) in
     let minutes = sym (c4 .before .before .m .given .1) ∙ c8 .integer .ensures in
-    c .time-of .ensures ∙ (ap timeOf units ∙ (ap (hoursMinutes (Numeral.Is (a .h))) minutes
-    ∙ sym (minutes-last _ _ (found .find-byte .ensures) (a .ctx) (Numeral.Is (a .h)) (c4 .if1 .taken))))
+    let hours = checked (number (a .h) *ℤ pos 3600000000) in
+    c .time-of .ensures ∙ (ap timeOf units ∙ (plus-then hours _ ∙ (ap (λ (n : Numeral). wholeIn n >>= λ y. hoursMinutes (number (a .h)) y) minutes
+    ∙ sym (minutes-last _ _ (found .find-byte .ensures) (a .ctx) (number (a .h)) (c4 .if1 .taken)))))
 
 add-after-minutes : tie.Need-add-after-minutes
 add-after-minutes c = search needs
@@ -71,11 +74,11 @@ returns-2 c =
     let a = found .before .before .args in
     let colon = found .find-byte .result in
     let minutes : Numeral.Is (c4 .m .given .0 .0) ≡ integer (take colon (a .text .now)) =
-        sym (c4 .m .given .1) ∙ c4 .before .before .integer .ensures in
+    sym (c4 .m .given .1) ∙ c4 .before .before .integer .ensures in
     let rest = rest-of (a .text .now) (colon + 1) in
     c .after-minutes .ensures
-    ∙ ((λ i. afterMinutes (Numeral.Is (a .h)) (minutes i) (splitAt 58 (rest i)) (a .ctx))
-    ∙ sym (minutes-more _ _ (found .find-byte .ensures) (a .ctx) (Numeral.Is (a .h)) (c .before .before .if1 .left)))
+    ∙ ((λ i. wholeIn (minutes i) >>= λ y. afterMinutes (number (a .h)) y (splitAt 58 (rest i)) (a .ctx))
+    ∙ sym (minutes-more _ _ (found .find-byte .ensures) (a .ctx) (number (a .h)) (c .before .before .if1 .left)))
 
 returns-3 : tie.Need-returns-3
 returns-3 c = minutes-none _ _ (c .before .before .before .before .find-byte .ensures) _ _ (c .before .before .integer .ensures) (c .enum-told .given .1) _

@@ -1,14 +1,16 @@
 -- Hours, minutes and seconds summed from left to right; what is no time stays as it is.
 use mathlib.Core.Path.{ap, _∙_}
 use mathlib.Core.Logic.{inl, inr}
+use lib.IntN.{pos, _+ℤ_, _*ℤ_}
 use native.Mathlib.Omega.{arith}
 use mir.Syntax.{w64}
 use mir.ValLaws.{toZ-ofZ}
 use borrow.Author.Needs.{needs}
 use Rattle.times.specs.declared.sums.Sum.{Sum}
-use Rattle.times.specs.Sums.{plus}
-use Rattle.times.specs.Expressions.{timeOf}
-use Rattle.times.proofs.Parts.{summed-other}
+use Rattle.times.specs.Expressions.{_>>=_, timeOf, tested}
+use Rattle.times.specs.Sums.{checked}
+use Rattle.times.specs.Steps.{plus, number}
+use Rattle.times.proofs.Parts.{then-other, plus-then}
 use Rattle.times.proofs.clock.summed.Statement.{statement}
 use Rattle.times.proofs.clock.summed.Tie as tie
 
@@ -32,12 +34,20 @@ time-of-requires c κs = search needs
 
 returns : tie.Need-returns
 returns c =
-    rw (c .before .before .before .before .before .before .s .given .1)
-    (c .time-of .ensures ∙ ap timeOf (c .before .plus2 .ensures ∙ (λ i. plus ((c .before .before .plus .ensures ∙ (λ j. plus (c .before .before .before .before .times .ensures j) (c .before .before .before .times2 .ensures j))) i) (Sum.Is (toZ-ofZ w64 (c .before .before .before .before .before .before .s .given .0 .0) (record { sfits = c .before .before .before .before .before .known-told .given .0 .1 }) i)))))
+    let c6 = c .before .before .before .before .before .before in
+    let z = c6 .s .given .0 .0 in
+    let read = toZ-ofZ w64 z (record { sfits = c .before .before .before .before .before .known-told .given .0 .1 }) in
+    let hours = checked (number (c6 .before .before .args .h) *ℤ pos 3600000000) in
+    let minutes = checked (number (c6 .before .before .args .m) *ℤ pos 60000000) in
+    let first = c .before .before .plus .ensures
+    ∙ (λ i. plus (c .before .before .before .before .times .ensures i) (c .before .before .before .times2 .ensures i)) in
+    let sum = c .before .plus2 .ensures ∙ (λ i. plus (first i) (Sum.Is (read i))) in
+    rw (c6 .s .given .1)
+    (c .time-of .ensures ∙ (ap timeOf sum ∙ (plus-then (plus hours minutes) (Sum.Is z) ∙ (λ i. plus-then hours minutes i >>= λ x. tested (x +ℤ z)))))
 
 returns-2 : tie.Need-returns-2
 returns-2 c =
-    summed-other (c .before .args .h) (c .before .args .m) (c .before .args .s)
+    then-other (c .before .args .s) _
     (λ z e. elim (rw e at (c .match .keys2)) [ inl k ↦ omega arith | inr (inl k) ↦ omega arith | inr (inr (inl k)) ↦ omega arith | inr (inr (inr k)) ↦ omega arith ])
 
 pub summed-spec : {M : Type 1} → statement M
