@@ -8,7 +8,7 @@ use native.Mathlib.Nat.{add-zero, add-suc, suc-add, zero-add}
 use lib.ListN.{length, getD, drop, replicate, drop-of-length-le}
 use lib.Seq.{drop-drop}
 use Rattle.scan.specs.Loop.{go, loop}
-use Rattle.scan.specs.Bytes.{runEnd}
+use Rattle.scan.specs.Bytes.{runEnd, runLength}
 use Rattle.scan.specs.Names.{sameBytes, sameFolded}
 use Rattle.scan.proofs.Naming.{same-eq}
 use Rattle.colors.specs.declared.read.Rgba.{Rgba}
@@ -74,11 +74,12 @@ abbrev pub values : List (List ℕ)
 values = valuesOf colorTable
 
 fit : rightFrom names values 0 colorTable ≡ true
-unfolding sameBytes runEnd loop go
+unfolding sameBytes runEnd runLength loop go
 fit = refl
 
 module _ (k : ℕ) (h : k < 20) (s : List ℕ) where
-  here : namedIn s (drop k colorTable) ≡ cond (sameFolded s (nameAt names values k)) (Color.Is (valueAt names values k)) (namedIn s (drop 1 (drop k colorTable)))
+  here : namedIn s (drop k colorTable) ≡ cond (sameFolded s (nameAt names values k)) (Color.Is (valueAt names values k))
+      (namedIn s (drop 1 (drop k colorTable)))
   here = (rw (zero-add k) at (rows names values 0 colorTable fit k h)) s
 
   pub name-hit : sameFolded s (nameAt names values k) ≡ true → namedIn s (drop k colorTable) ≡ Color.Is (valueAt names values k)

@@ -42,7 +42,8 @@ module _ (s : List ℕ) (a e : ℕ) (times : List ℕ → List ℕ) where
   unfolding hexChannel
   channel-cut-end f = rw (f, and-false)
 
-  pub channel-is : (w : List ℕ) → boundary s a ≡ true → boundary s e ≡ true → times (part a e s) ≡ w → hexChannel s a e times ≡ channelOf (numeralOf w 16 255 false)
+  pub channel-is : (w : List ℕ) → boundary s a ≡ true → boundary s e ≡ true → times (part a e s) ≡ w
+      → hexChannel s a e times ≡ channelOf (numeralOf w 16 255 false)
   unfolding hexChannel
   channel-is w f g t = rw (f, g, t)
 
@@ -122,7 +123,13 @@ module _ (s w : List ℕ) (one : ℕ) (x : Ends (other 44) w 0 one) where
 
     module _ (g : two < length w) (three : ℕ) (z : Ends (other 44) w (two + 1) three) where
       pub parts-three : length w ≤ three → rgbParts s (splitAt 44 w) ≡ rgbOf (take one w) (part (one + 1) two w) (part (two + 1) (length w) w)
-      parts-three k = rw (split-part 44 w 0 one x h, split-part 44 w (one + 1) two y g, split-rest 44 w (two + 1) three z k, to-end w (two + 1), sub-zero one)
+      parts-three k = rw (
+        split-part 44 w 0 one x h,
+        split-part 44 w (one + 1) two y g,
+        split-rest 44 w (two + 1) three z k,
+        to-end w (two + 1),
+        sub-zero one,
+      )
 
       pub parts-many : three < length w → rgbParts s (splitAt 44 w) ≡ namedIn s colorTable
       parts-many k =

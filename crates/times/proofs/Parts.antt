@@ -107,7 +107,8 @@ module _ (s : List ℕ) (r : ℕ) (e : Ends (other 58) s 0 r) (ctx : TimingCtx) 
     seconds-last l = rw (parts-last 58 s r e l) (then-is (summed h m (secondsOf (take r s))))
 
     pub seconds-more :
-        r < length s → afterMinutes h m (splitAt 58 s) ctx ≡ (summed h m (secondsOf (take r s)) >>= λ t. afterSeconds t (splitAt 58 (drop (r + 1) s)) ctx)
+        r < length s → afterMinutes h m (splitAt 58 s) ctx ≡
+        (summed h m (secondsOf (take r s)) >>= λ t. afterSeconds t (splitAt 58 (drop (r + 1) s)) ctx)
     seconds-more l = rw (parts-more 58 s r e l)
 
   module _ (h : ℤ) where

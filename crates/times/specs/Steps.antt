@@ -10,7 +10,8 @@ use Rattle.times.specs.declared.sums.Sum.{Sum}
 use Rattle.times.specs.declared.offset.TimingCtx.{TimingCtx}
 use Rattle.times.specs.declared.offset.Time.{Time}
 use Rattle.times.specs.Sums.{checked, signed}
-use Rattle.times.specs.Expressions.{_>>=_, tested, timeDecimal, cut, Rate, counted, withValue, frameRate, whole, micros, secondsOf, hoursMinutes, framesIn}
+use Rattle.times.specs.Expressions.{_>>=_, tested, timeDecimal, cut, Rate, counted, withValue, frameRate}
+use Rattle.times.specs.Expressions.{whole, micros, secondsOf, hoursMinutes, framesIn}
 
 -- a sum of sums, each tested
 abbrev pub plus : Sum → Sum → Sum

@@ -22,9 +22,11 @@ color-of-requires c κs = search needs
 
 returns : tie.Need-returns
 returns c =
-    let alpha = c .before .before .before .before .before .args .alpha in
+    let c3 = c .before .before .before in
+    let c5 = c3 .before .before in
+    let alpha = c5 .args .alpha in
     c .color-of .ensures
-    ∙ (λ i. colorOf (c .before .before .before .hex-channel .ensures i) (c .before .before .hex-channel2 .ensures i) (c .before .hex-channel3 .ensures i) alpha)
+    ∙ (λ i. colorOf (c3 .hex-channel .ensures i) (c .before .before .hex-channel2 .ensures i) (c .before .hex-channel3 .ensures i) alpha)
 
 pub hex-channels-spec : {M : Type 1} → statement M
 hex-channels-spec =

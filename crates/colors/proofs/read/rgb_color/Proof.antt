@@ -98,7 +98,9 @@ color-of-requires c κs = search needs
 
 returns-4 : tie.Need-returns-4
 returns-4 c =
-    let red = c .before .before .before .before .before in
+    let c3 = c .before .before .before in
+    let c5 = c3 .before .before in
+    let red = c5 in
     let three = red .before .before .before in
     let two = three .before .before in
     let one = two .before .before in
@@ -106,7 +108,7 @@ returns-4 c =
     let first = parts-three (a .text .now) (a .inside .now) _ (one .find-byte .ensures) (two .before .if1 .left) in
     let second = first _ (two .find-byte2 .ensures) (three .before .if2 .left) in
     c .color-of .ensures
-    ∙ ((λ i. colorOf (red .decimal-channel .ensures i) (c .before .before .before .decimal-channel2 .ensures i) (c .before .decimal-channel3 .ensures i) full)
+    ∙ ((λ i. colorOf (red .decimal-channel .ensures i) (c3 .decimal-channel2 .ensures i) (c .before .decimal-channel3 .ensures i) full)
     ∙ sym (second _ (three .find-byte3 .ensures) (red .before .before .if3 .left)))
 
 pub rgb-color-spec : {M : Type 1} → statement M

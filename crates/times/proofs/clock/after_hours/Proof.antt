@@ -81,7 +81,9 @@ returns-2 c =
     ∙ sym (minutes-more _ _ (found .find-byte .ensures) (a .ctx) (number (a .h)) (c .before .before .if1 .left)))
 
 returns-3 : tie.Need-returns-3
-returns-3 c = minutes-none _ _ (c .before .before .before .before .find-byte .ensures) _ _ (c .before .before .integer .ensures) (c .enum-told .given .1) _
+returns-3 c =
+    let c4 = c .before .before .before .before in
+    minutes-none _ _ (c4 .find-byte .ensures) _ _ (c .before .before .integer .ensures) (c .enum-told .given .1) _
 
 pub after-hours-spec : {M : Type 1} → statement M
 after-hours-spec =

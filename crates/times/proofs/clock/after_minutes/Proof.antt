@@ -76,7 +76,13 @@ returns-3 c =
     let on : ℤ → Time = λ t. afterSeconds t (splitAt 58 (drop (found .find-byte .result + 1) (a .text .now))) (a .ctx) in
     let total = c2 .summed .ensures ∙ ap (summed (number (a .h)) (number (a .m))) (c2 .before .seconds .ensures) in
     then-other (c2 .summed .result) on
-    (λ z e. elim (rw e at (c .match .keys2)) [ inl k ↦ omega arith | inr (inl k) ↦ omega arith | inr (inr (inl k)) ↦ omega arith | inr (inr (inr k)) ↦ omega arith ])
+    (λ z e. elim (rw e at (c .match .keys2)) [
+      | inl k ↦ omega arith
+      | inr (inl k) ↦ omega arith
+      | inr (inr (inl k)) ↦ omega arith
+      | inr (inr
+          (inr k)) ↦ omega arith
+    ])
     ∙ (ap (λ (t : Time). t >>= on) total
     ∙ sym (seconds-more _ _ (found .find-byte .ensures) (a .ctx) (number (a .h)) (number (a .m)) (c .before .if1 .left)))
 

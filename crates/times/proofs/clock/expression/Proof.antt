@@ -33,8 +33,10 @@ units-requires c κs = search needs
 returns : tie.Need-returns
 unfolding ofInt ofBits
 returns c =
-    let a = c .before .before .before .before .before .before .before .before .args in
-    c .units .ensures ∙ sym (metric-ms (a .text .now) (omega arith) (a .ctx) (c .before .before .before .before .before .match .keys1) (omega arith) (c .before .before .if2 .taken))
+    let c5 = c .before .before .before .before .before in
+    let c8 = c5 .before .before .before in
+    let a = c8 .args in
+    c .units .ensures ∙ sym (metric-ms (a .text .now) (omega arith) (a .ctx) (c5 .match .keys1) (omega arith) (c .before .before .if2 .taken))
 
 slice-aggregate-units-2 : tie.Need-slice-aggregate-units-2
 slice-aggregate-units-2 c = sym (length-take-le _ (c .before .before .before .before .before .args .text .now) (omega arith))

@@ -66,7 +66,9 @@ returns-2 c =
     ∙ sym (point-none _ _ (found .find-byte .ensures) (c .before .before .if1 .left))))
 
 returns-3 : tie.Need-returns-3
-returns-3 c = point-nothing _ _ (c .before .before .before .before .find-byte .ensures) _ (c .before .before .integer .ensures) (c .enum-told .given .1)
+returns-3 c =
+    let c4 = c .before .before .before .before in
+    point-nothing _ _ (c4 .find-byte .ensures) _ (c .before .before .integer .ensures) (c .enum-told .given .1)
 
 pub seconds-spec : {M : Type 1} → statement M
 seconds-spec =

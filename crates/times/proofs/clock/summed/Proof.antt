@@ -48,7 +48,13 @@ returns c =
 returns-2 : tie.Need-returns-2
 returns-2 c =
     then-other (c .before .args .s) _
-    (λ z e. elim (rw e at (c .match .keys2)) [ inl k ↦ omega arith | inr (inl k) ↦ omega arith | inr (inr (inl k)) ↦ omega arith | inr (inr (inr k)) ↦ omega arith ])
+    (λ z e. elim (rw e at (c .match .keys2)) [
+      | inl k ↦ omega arith
+      | inr (inl k) ↦ omega arith
+      | inr (inr (inl k)) ↦ omega arith
+      | inr (inr
+          (inr k)) ↦ omega arith
+    ])
 
 pub summed-spec : {M : Type 1} → statement M
 summed-spec =
