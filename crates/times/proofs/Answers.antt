@@ -8,7 +8,7 @@ use native.Mathlib.Omega.{arith}
 use lib.IntN.{ℤ, _+ℤ_}
 use Rattle.times.specs.declared.sums.Sum.{Sum}
 use Rattle.times.specs.declared.offset.Time.{Time}
-use Rattle.times.specs.declared.offset.Time.the-variants.{Is, Nothing, Digits, Cut, Overflow}
+use Rattle.times.specs.declared.offset.Time.the-variants.{Is, Nothing, Beyond, LongFraction, Overflow}
 use Rattle.times.specs.Sums.{isI64, checked, sumNumber, sumValues, SumSays, Adds}
 use Rattle.times.specs.Expressions.{numberOf, valuesOf, Says, ReadsTime}
 
@@ -25,36 +25,36 @@ said (a, b) e = (ap numberOf e ∙ a, ap valuesOf e ∙ b)
 says-time : (t : Time) (z : ℤ) → Says t 0 (z ∷ []) → t ≡ Is z
 says-time (Is y) z s = ap Is (one-value (s .1))
 says-time Nothing z s = no-value (s .1)
-says-time Digits z s = no-value (s .1)
-says-time Cut z s = no-value (s .1)
+says-time Beyond z s = no-value (s .1)
+says-time LongFraction z s = no-value (s .1)
 says-time Overflow z s = no-value (s .1)
 
 says-none : (t : Time) → Says t 0 [] → t ≡ Nothing
 says-none (Is y) s = no-value (sym (s .1))
 says-none Nothing s = refl
-says-none Digits s = absurd (omega (arith, s .0))
-says-none Cut s = absurd (omega (arith, s .0))
+says-none Beyond s = absurd (omega (arith, s .0))
+says-none LongFraction s = absurd (omega (arith, s .0))
 says-none Overflow s = absurd (omega (arith, s .0))
 
-says-digits : (t : Time) → Says t 14 [] → t ≡ Digits
-says-digits (Is y) s = no-value (sym (s .1))
-says-digits Nothing s = absurd (omega (arith, s .0))
-says-digits Digits s = refl
-says-digits Cut s = absurd (omega (arith, s .0))
-says-digits Overflow s = absurd (omega (arith, s .0))
+says-beyond : (t : Time) → Says t 14 [] → t ≡ Beyond
+says-beyond (Is y) s = no-value (sym (s .1))
+says-beyond Nothing s = absurd (omega (arith, s .0))
+says-beyond Beyond s = refl
+says-beyond LongFraction s = absurd (omega (arith, s .0))
+says-beyond Overflow s = absurd (omega (arith, s .0))
 
-says-cut : (t : Time) → Says t 15 [] → t ≡ Cut
-says-cut (Is y) s = no-value (sym (s .1))
-says-cut Nothing s = absurd (omega (arith, s .0))
-says-cut Digits s = absurd (omega (arith, s .0))
-says-cut Cut s = refl
-says-cut Overflow s = absurd (omega (arith, s .0))
+says-long : (t : Time) → Says t 15 [] → t ≡ LongFraction
+says-long (Is y) s = no-value (sym (s .1))
+says-long Nothing s = absurd (omega (arith, s .0))
+says-long Beyond s = absurd (omega (arith, s .0))
+says-long LongFraction s = refl
+says-long Overflow s = absurd (omega (arith, s .0))
 
 says-overflow : (t : Time) → Says t 16 [] → t ≡ Overflow
 says-overflow (Is y) s = no-value (sym (s .1))
 says-overflow Nothing s = absurd (omega (arith, s .0))
-says-overflow Digits s = absurd (omega (arith, s .0))
-says-overflow Cut s = absurd (omega (arith, s .0))
+says-overflow Beyond s = absurd (omega (arith, s .0))
+says-overflow LongFraction s = absurd (omega (arith, s .0))
 says-overflow Overflow s = refl
 
 pub reads-time : {t r : Time} → r ≡ t → ReadsTime t r
@@ -63,8 +63,8 @@ reads-time {t} {r} e =
       is = e;
       time = λ z. ((λ s. sym e ∙ says-time r z s), λ f. said (refl, refl) (e ∙ f));
       none = ((λ s. sym e ∙ says-none r s), λ f. said (refl, refl) (e ∙ f));
-      digits = ((λ s. sym e ∙ says-digits r s), λ f. said (refl, refl) (e ∙ f));
-      cut-inside = ((λ s. sym e ∙ says-cut r s), λ f. said (refl, refl) (e ∙ f));
+      beyond = ((λ s. sym e ∙ says-beyond r s), λ f. said (refl, refl) (e ∙ f));
+      long-fraction = ((λ s. sym e ∙ says-long r s), λ f. said (refl, refl) (e ∙ f));
       overflow = ((λ s. sym e ∙ says-overflow r s), λ f. said (refl, refl) (e ∙ f));
     }
 

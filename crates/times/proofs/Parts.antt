@@ -33,23 +33,23 @@ use Rattle.times.specs.Steps.{plus, eachTime, rateTime, fractioned, summ
 then-is : (t : Time) → (t >>= λ z. Time.Is z) ≡ t
 then-is (Time.Is z) = refl
 then-is Time.Nothing = refl
-then-is Time.Digits = refl
-then-is Time.Cut = refl
+then-is Time.Beyond = refl
+then-is Time.LongFraction = refl
 then-is Time.Overflow = refl
 
 then-then : (t : Time) (f g : ℤ → Time) → ((t >>= f) >>= g) ≡ (t >>= λ z. f z >>= g)
 then-then (Time.Is z) f g = refl
 then-then Time.Nothing f g = refl
-then-then Time.Digits f g = refl
-then-then Time.Cut f g = refl
+then-then Time.Beyond f g = refl
+then-then Time.LongFraction f g = refl
 then-then Time.Overflow f g = refl
 
 -- an answer that has no value is kept
 pub then-other : (t : Time) (f : ℤ → Time) → ((z : ℤ) → t ≡ Time.Is z → ⊥) → t ≡ (t >>= f)
 then-other (Time.Is z) f n = absurd (n z refl)
 then-other Time.Nothing f n = refl
-then-other Time.Digits f n = refl
-then-other Time.Cut f n = refl
+then-other Time.Beyond f n = refl
+then-other Time.LongFraction f n = refl
 then-other Time.Overflow f n = refl
 
 -- the program's sums of sums

@@ -24,7 +24,7 @@ use Rattle.decimals.specs.Floats.{valueIn}
 use Rattle.times.specs.declared.sums.Sum.{Sum}
 use Rattle.times.specs.declared.offset.TimingCtx.{TimingCtx}
 use Rattle.times.specs.declared.offset.Time.{Time}
-use Rattle.times.specs.declared.offset.Time.the-variants.{Is, Nothing, Digits, Cut, Overflow}
+use Rattle.times.specs.declared.offset.Time.the-variants.{Is, Nothing, Beyond, LongFraction, Overflow}
 use Rattle.times.specs.Text.{ascii}
 use Rattle.times.specs.Sums.{checked, signed}
 
@@ -33,15 +33,15 @@ use Rattle.times.specs.Sums.{checked, signed}
 abbrev pub numberOf : Time → ℕ
 numberOf (Is z) = 0
 numberOf Nothing = 0
-numberOf Digits = 14
-numberOf Cut = 15
+numberOf Beyond = 14
+numberOf LongFraction = 15
 numberOf Overflow = 16
 
 abbrev pub valuesOf : Time → List ℤ
 valuesOf (Is z) = z ∷ []
 valuesOf Nothing = []
-valuesOf Digits = []
-valuesOf Cut = []
+valuesOf Beyond = []
+valuesOf LongFraction = []
 valuesOf Overflow = []
 
 abbrev pub Says : Time → ℕ → List ℤ → Type 0
@@ -52,8 +52,8 @@ infixl 55 _>>=_
 abbrev pub _>>=_ : Time → (ℤ → Time) → Time
 _>>=_ (Is z) next = next z
 _>>=_ Nothing next = Nothing
-_>>=_ Digits next = Digits
-_>>=_ Cut next = Cut
+_>>=_ Beyond next = Beyond
+_>>=_ LongFraction next = LongFraction
 _>>=_ Overflow next = Overflow
 
 -- a product or a sum of times, if it is an i64
@@ -74,12 +74,12 @@ abbrev pub float : ℕ → Float
 float n = ofInt binary64 (pos n)
 
 -- a float of microseconds, cut toward zero
-abbrev pub cut : Float → ℤ
-cut x = toSigned 63 x
+abbrev pub truncated : Float → ℤ
+truncated x = toSigned 63 x
 
 -- v / r seconds in microseconds, each operation rounded
 abbrev pub atRate : Float → Float → ℤ
-atRate v r = cut (mul binary64 (div binary64 v r) (float 1000000))
+atRate v r = truncated (mul binary64 (div binary64 v r) (float 1000000))
 
 -- a rate, or none
 pub data Rate : Type 0 where
@@ -123,7 +123,7 @@ counted v no-rate = Nothing
 
 -- v of a metric; a product is rounded before it is cut
 abbrev pub inMetric : Metric → TimingCtx → Float → Time
-inMetric (each u) ctx v = Is (cut (mul binary64 v (float u)))
+inMetric (each u) ctx v = Is (truncated (mul binary64 v (float u)))
 inMetric by-frames ctx v = counted v (frameRate ctx)
 inMetric by-ticks ctx v = counted v (tickRate ctx)
 
@@ -131,7 +131,7 @@ inMetric by-ticks ctx v = counted v (tickRate ctx)
 abbrev pub withValue : Decimal → (Float → Time) → Time
 withValue (Decimal.Is d) next = next (valueIn binary64 (d .negative) (d .digits) (d .scale))
 withValue Decimal.Nothing next = Nothing
-withValue Decimal.Beyond next = Digits
+withValue Decimal.Beyond next = Beyond
 
 -- a time-count and its metric; white space may stand around the count
 unfoldable pub offsetTime : List ℕ → Metric → TimingCtx → Time
@@ -165,7 +165,7 @@ unfoldable pub microsOf : List ℕ → ℤ
 microsOf w = numberIn (integer (take 6 (w ++ replicate 6 48)))
 
 abbrev pub micros : List ℕ → Time
-micros f = cond (ltb 6 (charsLength 6 f)) Cut (Is (microsOf (take (charsLength 6 f) f)))
+micros f = cond (ltb 6 (charsLength 6 f)) LongFraction (Is (microsOf (take (charsLength 6 f) f)))
 
 -- seconds, without a point or with a fraction behind the first one
 abbrev pub secondsIn : List ℕ → Halves → Time
@@ -194,7 +194,7 @@ framesIn z (Decimal.Is d) (rate r) =
     cond (lt (float 0) r) (tested (z +ℤ atRate (valueIn binary64 (d .negative) (d .digits) (d .scale)) r)) (Is z)
 framesIn z (Decimal.Is d) no-rate = Is z
 framesIn z Decimal.Nothing r = Is z
-framesIn z Decimal.Beyond r = Digits
+framesIn z Decimal.Beyond r = Beyond
 
 -- By the number of parts between colons: fewer than two are no time; hours and minutes; seconds behind them; frames behind those, and parts
 -- that are not looked at. What is read is read from left to right, and all of it before any sum but that of the frames.
@@ -249,6 +249,6 @@ pub record ReadsTime (t r : Time) : Type 0 where
   pub is : r ≡ t
   pub time : (z : ℤ) → Says r 0 (z ∷ []) ↔ (t ≡ Is z)
   pub none : Says r 0 [] ↔ (t ≡ Nothing)
-  pub digits : Says r 14 [] ↔ (t ≡ Digits)
-  pub cut-inside : Says r 15 [] ↔ (t ≡ Cut)
+  pub beyond : Says r 14 [] ↔ (t ≡ Beyond)
+  pub long-fraction : Says r 15 [] ↔ (t ≡ LongFraction)
   pub overflow : Says r 16 [] ↔ (t ≡ Overflow)

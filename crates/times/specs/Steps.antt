@@ -10,7 +10,7 @@ use Rattle.times.specs.declared.sums.Sum.{Sum}
 use Rattle.times.specs.declared.offset.TimingCtx.{TimingCtx}
 use Rattle.times.specs.declared.offset.Time.{Time}
 use Rattle.times.specs.Sums.{checked, signed}
-use Rattle.times.specs.Expressions.{_>>=_, tested, timeDecimal, cut, Rate, counted, withValue, frameRate}
+use Rattle.times.specs.Expressions.{_>>=_, tested, timeDecimal, truncated, Rate, counted, withValue, frameRate}
 use Rattle.times.specs.Expressions.{whole, micros, secondsOf, hoursMinutes, framesIn}
 
 -- a sum of sums, each tested
@@ -21,7 +21,7 @@ plus Sum.Overflow b = Sum.Overflow
 
 -- ---- offset times
 abbrev pub eachTime : Decimal → Float → Time
-eachTime d u = withValue d (λ v. Time.Is (cut (mul binary64 v u)))
+eachTime d u = withValue d (λ v. Time.Is (truncated (mul binary64 v u)))
 
 abbrev pub rateTime : Decimal → Rate → Time
 rateTime d r = withValue d (λ v. counted v r)
@@ -29,6 +29,10 @@ rateTime d r = withValue d (λ v. counted v r)
 -- ---- clock times
 abbrev pub number : Whole → ℤ
 number w = signed (w .negative) (w .magnitude)
+
+-- hours and minutes, by the microseconds of each
+abbrev pub inUnits : ℤ → ℕ → ℤ → ℕ → Sum
+inUnits h hour m minute = plus (checked (h *ℤ pos hour)) (checked (m *ℤ pos minute))
 
 -- seconds and a fraction
 abbrev pub fractioned : ℤ → List ℕ → Time

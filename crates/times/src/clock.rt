@@ -88,7 +88,7 @@ fn fractioned(seconds: Whole, fraction: &[u8]) -> Time
 {
     let len = six_chars(fraction);
     if 6 < len {
-        return Time::Cut;
+        return Time::LongFraction;
     }
     time_of(plus(crate::sums::times(seconds, 1000000), micros(fraction, len)))
 }
@@ -109,15 +109,19 @@ fn seconds(text: &[u8]) -> Time
     }
 }
 
+// Hours and minutes, by the microseconds of each.
+fn in_units(h: Whole, hour: u64, m: Whole, minute: u64) -> Sum
+    requires { ⌜ (0 < hour) × (0 < minute) ⌝ }
+    ensures { λ r. ⌜ r ≡ steps.inUnits (number h) hour (number m) minute ⌝ }
+{
+    plus(crate::sums::times(h, hour), crate::sums::times(m, minute))
+}
+
 fn summed(h: Whole, m: Whole, s: Time) -> Time
     ensures { λ r. ⌜ r ≡ steps.summed (number h) (number m) s ⌝ }
 {
     match s {
-        Time::Is(us) => {
-            let hours = crate::sums::times(h, 3600000000);
-            let minutes = crate::sums::times(m, 60000000);
-            time_of(plus(plus(hours, minutes), Sum::Is(us)))
-        }
+        Time::Is(us) => { time_of(plus(in_units(h, 3600000000, m, 60000000), Sum::Is(us))) }
         _ => s,
     }
 }
@@ -136,7 +140,7 @@ fn framed(us: i64, frames: &[u8], ctx: TimingCtx) -> Time
             Time::Is(us)
         }
         Decimal::Nothing => Time::Is(us),
-        Decimal::Beyond => Time::Digits,
+        Decimal::Beyond => Time::Beyond,
     }
 }
 
@@ -148,10 +152,7 @@ fn after_hours(h: Whole, text: &[u8], ctx: TimingCtx) -> Time
     match integer(&text[..colon]) {
         Numeral::Is(m) => {
             if text.len() <= colon {
-                return time_of(plus(
-                    crate::sums::times(h, 3600000000),
-                    crate::sums::times(m, 60000000),
-                ));
+                return time_of(in_units(h, 3600000000, m, 60000000));
             }
             after_minutes(h, m, &text[colon + 1..], ctx)
         }

@@ -8,7 +8,7 @@ use Rattle.scan.specs.Split.{splitAt}
 use Rattle.numerals.specs.declared.Numeral.{Numeral}
 use Rattle.times.specs.Expressions.{_>>=_, integer, wholeIn, timeOf, hoursMinutes}
 use Rattle.times.specs.Sums.{checked}
-use Rattle.times.specs.Steps.{plus, number, afterMinutes}
+use Rattle.times.specs.Steps.{number, afterMinutes}
 use Rattle.times.proofs.Parts.{first-length, rest-of, minutes-last, minutes-more, minutes-none, plus-then}
 use Rattle.times.proofs.clock.after_hours.Statement.{statement}
 use Rattle.times.proofs.clock.after_hours.Tie as tie
@@ -25,29 +25,23 @@ integer-requires c κs = search needs
 enum-known-m : tie.Need-enum-known-m
 enum-known-m c = search needs
 
-times-requires : tie.Need-times-requires
-times-requires c κs = search needs
-
-times-requires-2 : tie.Need-times-requires-2
-times-requires-2 c κs = search needs
-
-plus-requires : tie.Need-plus-requires
-plus-requires c κs = search needs
+in-units-requires : tie.Need-in-units-requires
+in-units-requires c κs = search needs
 
 time-of-requires : tie.Need-time-of-requires
 time-of-requires c κs = search needs
 
 returns : tie.Need-returns
 returns c =
-    let c4 = c .before .before .before .before in
-    let c8 = c4 .before .before .before .before in
-    let found = c8 .before .before in
+    let c2 = c .before .before in
+    let c6 = c2 .before .before .before .before in
+    let found = c6 .before .before in
     let a = found .before .before .args in
-    let units = c .before .plus .ensures ∙ (λ i. plus (c .before .before .before .times .ensures i) (c .before .before .times2 .ensures i)) in
-    let minutes = sym (c4 .before .before .m .given .1) ∙ c8 .integer .ensures in
+    let minutes = sym (c2 .before .before .m .given .1) ∙ c6 .integer .ensures in
     let hours = checked (number (a .h) *ℤ pos 3600000000) in
-    c .time-of .ensures ∙ (ap timeOf units ∙ (plus-then hours _ ∙ (ap (λ (n : Numeral). wholeIn n >>= λ y. hoursMinutes (number (a .h)) y) minutes
-    ∙ sym (minutes-last _ _ (found .find-byte .ensures) (a .ctx) (number (a .h)) (c4 .if1 .taken)))))
+    c .time-of .ensures ∙ (ap timeOf (c .before .in-units .ensures) ∙ (plus-then hours _
+    ∙ (ap (λ (n : Numeral). wholeIn n >>= λ y. hoursMinutes (number (a .h)) y) minutes
+    ∙ sym (minutes-last _ _ (found .find-byte .ensures) (a .ctx) (number (a .h)) (c2 .if1 .taken)))))
 
 add-after-minutes : tie.Need-add-after-minutes
 add-after-minutes c = search needs
@@ -93,9 +87,7 @@ after-hours-spec =
     slice-aggregate-integer
     integer-requires
     enum-known-m
-    times-requires
-    times-requires-2
-    plus-requires
+    in-units-requires
     time-of-requires
     returns
     add-after-minutes

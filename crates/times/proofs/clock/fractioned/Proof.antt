@@ -1,4 +1,4 @@
--- Seconds and a fraction: cut where its first six characters have more than six bytes, and summed elsewhere.
+-- Seconds and a fraction: a long one where its first six characters have more than six bytes, and summed elsewhere.
 use mathlib.Core.Path.{_≡_, ap, _∙_}
 use native.Mathlib.Omega.{arith}
 use lib.IntN.{pos, _*ℤ_}

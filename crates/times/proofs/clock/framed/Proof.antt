@@ -9,7 +9,7 @@ use borrow.Author.Needs.{needs}
 use Rattle.decimals.proofs.Reading.{decimal-limits}
 use Rattle.times.specs.declared.offset.Time.{Time}
 use Rattle.times.specs.Sums.{checked}
-use Rattle.times.specs.Expressions.{cut, float, timeOf}
+use Rattle.times.specs.Expressions.{truncated, float, timeOf}
 use Rattle.times.proofs.clock.framed.Statement.{statement}
 use Rattle.times.proofs.clock.framed.Tie as tie
 
@@ -49,7 +49,7 @@ returns c =
     ∙ ap checked (λ i. toZ-ofZ w64 _ (c13 .fits .us) i +ℤ
     (toZ-ofZ w64 _ (record { sfits = c .before .before .truncate .ok })
     ∙ (c .before .before .truncate .ensures
-    ∙ ap (λ (x : Float). cut (mul binary64 (div binary64 x (c13 .args .ctx .«frame_rate»)) (float 1000000))) (c4 .to-f64 .ensures))) i)))
+    ∙ ap (λ (x : Float). truncated (mul binary64 (div binary64 x (c13 .args .ctx .«frame_rate»)) (float 1000000))) (c4 .to-f64 .ensures))) i)))
 
 enum-told : tie.Need-enum-told
 enum-told c = search needs

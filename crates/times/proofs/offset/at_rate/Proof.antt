@@ -8,7 +8,7 @@ use borrow.Author.Tests.{not-true, not-false}
 use borrow.Author.Needs.{needs}
 use Rattle.decimals.proofs.Reading.{decimal-limits}
 use Rattle.times.specs.declared.offset.Time.{Time}
-use Rattle.times.specs.Expressions.{cut, float}
+use Rattle.times.specs.Expressions.{truncated, float}
 use Rattle.times.proofs.offset.at_rate.Statement.{statement}
 use Rattle.times.proofs.offset.at_rate.Tie as tie
 
@@ -58,7 +58,7 @@ returns-3 c =
     let f : le (c9 .args .rate) (float 0) ≡ false = c .before .before .if2 .left in
     rw (sym (c7 .read-count .ensures), c5 .d .given .1, not-false (c9 .args .present) (c3 .if1 .left), f)
     (ap Time.Is (toZ-ofZ w64 _ (record { sfits = c .truncate .ok }) ∙ (c .truncate .ensures
-    ∙ ap (λ (x : Float). cut (mul binary64 (div binary64 x (c9 .args .rate)) (float 1000000))) (c .before .to-f64 .ensures))))
+    ∙ ap (λ (x : Float). truncated (mul binary64 (div binary64 x (c9 .args .rate)) (float 1000000))) (c .before .to-f64 .ensures))))
 
 returns-4 : tie.Need-returns-4
 returns-4 c = rw (sym (c .before .before .read-count .ensures), c .enum-told .given .1)
