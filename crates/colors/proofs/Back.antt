@@ -46,7 +46,11 @@ module _ (s : List ℕ) (v : Visible s) where
   none-ends e k zero l h = endsWith-out s e k 0 (omega arith)
   none-ends e k (suc n) l h =
       by-test (leb k e)
-      (λ t. let g : k ≤ e = leb-true k e t in let m : suc n - 1 ≡ n = omega arith in endsWith-on s e k (suc n) (omega arith) (λ w. omega (arith, no-white (e - k) (omega arith))) ∙ rw m (none-ends e (k + 1) n l (omega arith)))
+      (λ t.
+      let g : k ≤ e = leb-true k e t in
+      let m : suc n - 1 ≡ n = omega arith in
+      endsWith-on s e k (suc n) (omega arith) (λ w. omega (arith, no-white (e - k) (omega arith)))
+      ∙ rw m (none-ends e (k + 1) n l (omega arith)))
       (λ t. endsWith-short s e k (suc n) (leb-false k e t))
 
 pub trimmed-visible : (s : List ℕ) → Visible s → trimmed s ≡ s
@@ -73,7 +77,8 @@ visible-hex n s v =
 hex-back : (n : ℕ) → n < 256 → numeralOf (hex n) 16 255 false ≡ Numeral.Is (record { negative = false; magnitude = n })
 hex-back n h =
     let v : valueFrom 16 0 (hex n) ≡ n = padded-value 16 (omega arith) (omega arith) 2 n h in
-    numeral-plain 16 255 (hex n) false (omega arith) (omega (arith, padded-length 16 2 n)) (padded-digits 16 (omega arith) (omega arith) 2 n) (omega arith) ∙ rw v
+    numeral-plain 16 255 (hex n) false (omega arith) (omega (arith, padded-length 16 2 n))
+    (padded-digits 16 (omega arith) (omega arith) 2 n) (omega arith) ∙ rw v
 
 starts : (n : ℕ) → leb 0x80 (digitChar (n / 16 % 16)) ≡ false
 starts n = lt-leb 0x80 (digitChar (n / 16 % 16)) (digit-visible (n / 16) .1)
@@ -98,7 +103,15 @@ module _ (c : Rgba) (w : Bytes c) where
   eight : hexColor (hex (c .r) ++ hex (c .g) ++ hex (c .b) ++ hex (c .a)) ≡ Color.Is c
   unfolding hexColor hexChannel boundary padded
   eight =
-      rw (starts (c .g), starts (c .b), starts (c .a), hex-back (c .r) (w .red), hex-back (c .g) (w .green), hex-back (c .b) (w .blue), hex-back (c .a) (w .alpha))
+      rw (
+        starts (c .g),
+        starts (c .b),
+        starts (c .a),
+        hex-back (c .r) (w .red),
+        hex-back (c .g) (w .green),
+        hex-back (c .b) (w .blue),
+        hex-back (c .a) (w .alpha),
+      )
 
   pub rgb-back : colorIn (rgbText c) ≡ Color.Is (rgba (c .r) (c .g) (c .b) 255)
   unfolding rgbText padded
@@ -111,5 +124,6 @@ module _ (c : Rgba) (w : Bytes c) where
   unfolding rgbaText padded
   rgba-back =
       hash-back (hex (c .r) ++ hex (c .g) ++ hex (c .b) ++ hex (c .a))
-      (visible-hex (c .r) (hex (c .g) ++ hex (c .b) ++ hex (c .a)) (visible-hex (c .g) (hex (c .b) ++ hex (c .a)) (visible-hex (c .b) (hex (c .a)) (visible-hex (c .a) [] tt))))
+      (visible-hex (c .r) (hex (c .g) ++ hex (c .b) ++ hex (c .a))
+      (visible-hex (c .g) (hex (c .b) ++ hex (c .a)) (visible-hex (c .b) (hex (c .a)) (visible-hex (c .a) [] tt))))
       eight

@@ -1,5 +1,6 @@
 -- What the proofs of several functions use.
 pub mod Names
+pub mod Answers
 pub mod Reading
 pub mod Writing
 pub mod Back

@@ -3,7 +3,6 @@ use Prim.Native.Nat.{ℕ, _+_, _-_, _≤_, _<_}
 use mathlib.Core.Path.{_≡_, refl, sym, _∙_}
 use mathlib.Core.Bool.{true, false, and-false, or-true}
 use mathlib.Core.List.{List, [], _∷_}
-use mathlib.Core.Logic.{_⊎_, inl, inr}
 use native.Mathlib.Omega.{arith}
 use native.Mathlib.Nat.{sub-zero}
 use lib.Dec.{ltb}
@@ -25,7 +24,9 @@ use Rattle.numerals.proofs.Numerals.{numeral-inv}
 use Rattle.colors.specs.declared.read.Color.{Color}
 use Rattle.colors.specs.declared.read.Channel.{Channel}
 use Rattle.colors.specs.Named.{colorTable, namedIn}
-use Rattle.colors.specs.Colors.{channelOf, hexChannel, copies, hexColor, hexRed, rgbOf, rgbParts, isRgb, color, Small, Channels}
+use Rattle.colors.specs.Text.{ascii}
+use Rattle.colors.specs.Colors.{channelOf, hexChannel, full, hexColor, rgbOf, rgbParts, isRgb, color}
+use Rattle.colors.specs.Steps.{Small, copies, channelAt, hexChannels}
 
 -- ---- a channel
 pub small : (s : List ℕ) (radix : ℕ) (n : Numeral) → n ≡ numeralOf s radix 255 false → Small n
@@ -41,7 +42,8 @@ module _ (s : List ℕ) (a e : ℕ) (times : List ℕ → List ℕ) where
   unfolding hexChannel
   channel-cut-end f = rw (f, and-false)
 
-  pub channel-is : (w : List ℕ) → boundary s a ≡ true → boundary s e ≡ true → times (part a e s) ≡ w → hexChannel s a e times ≡ channelOf (numeralOf w 16 255 false)
+  pub channel-is : (w : List ℕ) → boundary s a ≡ true → boundary s e ≡ true → times (part a e s) ≡ w
+      → hexChannel s a e times ≡ channelOf (numeralOf w 16 255 false)
   unfolding hexChannel
   channel-is w f g t = rw (f, g, t)
 
@@ -61,18 +63,17 @@ to-end s a = take-all (length s - a) (drop a s) (simp length-drop (omega arith))
 
 -- ---- what follows `#`, by its length
 module _ (s : List ℕ) where
-  pub hex-three : length s ≡ 3 → hexColor s ≡ hexRed s 1
+  pub hex-three : length s ≡ 3 → hexColor s ≡ hexChannels s 1 full
   unfolding hexColor
   hex-three e = rw e
 
-  pub hex-wide : (length s ≡ 6) ⊎ (length s ≡ 8) → hexColor s ≡ hexRed s 2
+  pub hex-six : length s ≡ 6 → hexColor s ≡ hexChannels s 2 full
   unfolding hexColor
-  hex-wide (inl e) = rw e
-  hex-wide (inr e) = rw e
+  hex-six e = rw e
 
-  pub wide-room : (length s ≡ 6) ⊎ (length s ≡ 8) → Channels s 2
-  wide-room (inl e) = record { some = omega arith; few = omega arith; room = omega arith }
-  wide-room (inr e) = record { some = omega arith; few = omega arith; room = omega arith }
+  pub hex-eight : length s ≡ 8 → hexColor s ≡ hexChannels s 2 (channelAt s 6 2)
+  unfolding hexColor
+  hex-eight e = rw e
 
   pub hex-none : (length s ≡ 3 → ⊥) → (length s ≡ 6 → ⊥) → (length s ≡ 8 → ⊥) → hexColor s ≡ Color.Nothing
   unfolding hexColor
@@ -80,7 +81,7 @@ module _ (s : List ℕ) where
 
 -- ---- `rgb(` .. `)`
 module _ (s : List ℕ) where
-  pub rgb-is : startsAt s 0 (114 ∷ 103 ∷ 98 ∷ 40 ∷ []) ≡ true → 4 ≤ length s - 1 → getD s (length s - 1) 0 ≡ 41 → isRgb s ≡ true
+  pub rgb-is : startsAt s 0 (ascii "rgb(") ≡ true → 4 ≤ length s - 1 → getD s (length s - 1) 0 ≡ 41 → isRgb s ≡ true
   unfolding isRgb
   rgb-is m l e = rw (m, le-leb 5 (length s) (omega arith), eq-eqb (getD s (length s - 1) 0) 41 e)
 
@@ -88,7 +89,7 @@ module _ (s : List ℕ) where
   unfolding isRgb
   rgb-short l = rw (lt-leb 5 (length s) (omega arith), and-false)
 
-  pub rgb-unmarked : startsAt s 0 (114 ∷ 103 ∷ 98 ∷ 40 ∷ []) ≡ false → isRgb s ≡ false
+  pub rgb-unmarked : startsAt s 0 (ascii "rgb(") ≡ false → isRgb s ≡ false
   unfolding isRgb
   rgb-unmarked m = rw m
 
@@ -122,7 +123,13 @@ module _ (s w : List ℕ) (one : ℕ) (x : Ends (other 44) w 0 one) where
 
     module _ (g : two < length w) (three : ℕ) (z : Ends (other 44) w (two + 1) three) where
       pub parts-three : length w ≤ three → rgbParts s (splitAt 44 w) ≡ rgbOf (take one w) (part (one + 1) two w) (part (two + 1) (length w) w)
-      parts-three k = rw (split-part 44 w 0 one x h, split-part 44 w (one + 1) two y g, split-rest 44 w (two + 1) three z k, to-end w (two + 1), sub-zero one)
+      parts-three k = rw (
+        split-part 44 w 0 one x h,
+        split-part 44 w (one + 1) two y g,
+        split-rest 44 w (two + 1) three z k,
+        to-end w (two + 1),
+        sub-zero one,
+      )
 
       pub parts-many : three < length w → rgbParts s (splitAt 44 w) ≡ namedIn s colorTable
       parts-many k =

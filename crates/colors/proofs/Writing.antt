@@ -35,13 +35,15 @@ appended-on {a} {b} {t} {t′} {t″} {i} {j} x y =
       laid = sets-on a b t t′ t″ i j (x .laid) (y .laid) (x .next);
     }
 
-pub rgb-put : (c : Rgba) {t t₁ t₂ t₃ : List ℕ} {at g b e : ℕ} → at < length t → Appended (hex (c .r)) (at + 1) (set t at 35) t₁ g → Appended (hex (c .g)) g t₁ t₂ b → Appended (hex (c .b)) b t₂ t₃ e → Appended (rgbText c) at t t₃ e
+pub rgb-put : (c : Rgba) {t t₁ t₂ t₃ : List ℕ} {at g b e : ℕ} → at < length t → Appended (hex (c .r)) (at + 1) (set t at 35) t₁ g
+    → Appended (hex (c .g)) g t₁ t₂ b → Appended (hex (c .b)) b t₂ t₃ e → Appended (rgbText c) at t t₃ e
 unfolding rgbText
 rgb-put c {t = t} {at = at} h x y z = appended-on (appended-on (appended-on mark x) y) z
   where
     mark : Appended (35 ∷ []) at t (set t at 35) (at + 1)
     mark = record { next = refl; within = omega arith; laid = refl }
 
-pub rgba-put : (c : Rgba) {t t₁ t₂ : List ℕ} {at n e : ℕ} → Appended (rgbText c) at t t₁ n → Appended (hex (c .a)) n t₁ t₂ e → Appended (rgbaText c) at t t₂ e
+pub rgba-put : (c : Rgba) {t t₁ t₂ : List ℕ} {at n e : ℕ} → Appended (rgbText c) at t t₁ n → Appended (hex (c .a)) n t₁ t₂ e
+    → Appended (rgbaText c) at t t₂ e
 unfolding rgbaText
 rgba-put c x y = appended-on x y

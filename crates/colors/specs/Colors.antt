@@ -1,10 +1,12 @@
 -- Colours, from TTML 2, 10.3, whose forms are:
 --     <color> : "#" rrggbb | "#" rrggbbaa | "rgb" "(" r-value "," g-value "," b-value ")" | "rgba" "(" .. ")" | <named-color>
 -- and the Rust's `parse_ttml_color_rgba`. docs/DIFFERENCES.md says where the two differ. Definitions alone.
-use Prim.Native.Nat.{ℕ, _+_, _-_, _*_, _≤_}
-use mathlib.Core.Bool.{Bool, true, false, cond, not, _&&_, _||_}
+use Prim.Native.Nat.{ℕ, _-_}
+use mathlib.Core.Path.{_≡_}
+use mathlib.Core.Logic.{_↔_}
+use mathlib.Core.Bool.{Bool, false, cond, _&&_}
 use mathlib.Core.List.{List, [], _∷_, _++_}
-use lib.ListN.{length, getD, take, drop}
+use lib.ListN.{length, getD}
 use lib.Dec.{eqb, leb}
 use Rattle.scan.specs.Marks.{startsAt}
 use Rattle.scan.specs.Part.{part}
@@ -16,13 +18,23 @@ use Rattle.unicode.specs.Utf8.{boundary}
 use Rattle.colors.specs.declared.read.Rgba.{Rgba}
 use Rattle.colors.specs.declared.read.Color.{Color}
 use Rattle.colors.specs.declared.read.Channel.{Channel}
+use Rattle.colors.specs.Text.{ascii}
 use Rattle.colors.specs.Named.{rgba, colorTable, namedIn}
 
--- document 01's number for each answer; 0 where it has none
+-- ---- the answer
+-- document 01's number, 0 where none is met, and the values of each case
 abbrev pub numberOf : Color → ℕ
 numberOf (Color.Is c) = 0
 numberOf Color.Nothing = 0
 numberOf Color.Cut = 15
+
+abbrev pub valuesOf : Color → List Rgba
+valuesOf (Color.Is c) = c ∷ []
+valuesOf Color.Nothing = []
+valuesOf Color.Cut = []
+
+abbrev pub Says : Color → ℕ → List Rgba → Type 0
+Says r n values = (numberOf r ≡ n) × (valuesOf r ≡ values)
 
 -- ---- channels
 
@@ -36,13 +48,24 @@ unfoldable pub hexChannel : List ℕ → ℕ → ℕ → (List ℕ → List ℕ)
 hexChannel s a e times =
     cond (boundary s a && boundary s e) (channelOf (numeralOf (times (part a e s)) 16 255 false)) Channel.Cut
 
--- channels one after the other: the first that is none, or is cut, ends the reading
-abbrev pub after : Channel → (ℕ → Color) → Color
-after (Channel.Is n) next = next n
-after Channel.Nothing next = Color.Nothing
-after Channel.Cut next = Color.Cut
-
 -- ---- the forms
+-- go on with a channel; the first that is none, or is cut, ends the reading
+infixl 55 _>>=_
+abbrev pub _>>=_ : Channel → (ℕ → Color) → Color
+_>>=_ (Channel.Is n) next = next n
+_>>=_ Channel.Nothing next = Color.Nothing
+_>>=_ Channel.Cut next = Color.Cut
+
+abbrev pub colorOf : (red green blue alpha : Channel) → Color
+colorOf red green blue alpha = do
+  r ← red
+  g ← green
+  b ← blue
+  a ← alpha
+  Color.Is (rgba r g b a)
+
+abbrev pub full : Channel
+full = Channel.Is 255
 
 abbrev pub once : List ℕ → List ℕ
 once w = w
@@ -54,13 +77,9 @@ twice w = w ++ w
 unfoldable pub hexColor : List ℕ → Color
 unfolding hexChannel
 hexColor s =
-    cond (eqb (length s) 3)
-    (after (hexChannel s 0 1 twice) λ r. after (hexChannel s 1 2 twice) λ g. after (hexChannel s 2 3 twice) λ b. Color.Is (rgba r g b 255))
-    (cond (eqb (length s) 6)
-    (after (hexChannel s 0 2 once) λ r. after (hexChannel s 2 4 once) λ g. after (hexChannel s 4 6 once) λ b. Color.Is (rgba r g b 255))
-    (cond (eqb (length s) 8)
-    (after (hexChannel s 0 2 once) λ r. after (hexChannel s 2 4 once) λ g. after (hexChannel s 4 6 once) λ b.
-    after (hexChannel s 6 8 once) λ a. Color.Is (rgba r g b a))
+    cond (eqb (length s) 3) (colorOf (hexChannel s 0 1 twice) (hexChannel s 1 2 twice) (hexChannel s 2 3 twice) full)
+    (cond (eqb (length s) 6) (colorOf (hexChannel s 0 2 once) (hexChannel s 2 4 once) (hexChannel s 4 6 once) full)
+    (cond (eqb (length s) 8) (colorOf (hexChannel s 0 2 once) (hexChannel s 2 4 once) (hexChannel s 4 6 once) (hexChannel s 6 8 once))
     Color.Nothing))
 
 -- a decimal channel; white space may stand around it
@@ -68,7 +87,7 @@ abbrev pub decimalChannel : List ℕ → Channel
 decimalChannel s = channelOf (numeralOf (trimmed s) 10 255 false)
 
 abbrev pub rgbOf : List ℕ → List ℕ → List ℕ → Color
-rgbOf x y z = after (decimalChannel x) λ r. after (decimalChannel y) λ g. after (decimalChannel z) λ b. Color.Is (rgba r g b 255)
+rgbOf x y z = colorOf (decimalChannel x) (decimalChannel y) (decimalChannel z) full
 
 -- what stands between `rgb(` and `)`: three channels; any other number of them is looked for among the names
 abbrev pub rgbParts : List ℕ → List (List ℕ) → Color
@@ -80,7 +99,7 @@ rgbParts s (x ∷ y ∷ z ∷ w ∷ more) = namedIn s colorTable
 
 -- `rgb(` and at the end `)`, which is another byte than the bracket that opens
 unfoldable pub isRgb : List ℕ → Bool
-isRgb s = startsAt s 0 (114 ∷ 103 ∷ 98 ∷ 40 ∷ []) && leb 5 (length s) && eqb (getD s (length s - 1) 0) 41
+isRgb s = startsAt s 0 (ascii "rgb(") && leb 5 (length s) && eqb (getD s (length s - 1) 0) 41
 
 unfoldable pub color : List ℕ → Color
 unfolding hexColor isRgb
@@ -101,31 +120,10 @@ opaque (Color.Is c) = Color.Is (rgba (c .r) (c .g) (c .b) 255)
 opaque Color.Nothing = Color.Nothing
 opaque Color.Cut = Color.Cut
 
--- ---- what the program's steps ensure
-
--- a number that is a channel
-abbrev pub Small : Numeral → Type 0
-Small (Numeral.Is w) = w .magnitude ≤ 255
-Small Numeral.Nothing = Unit {0}
-
--- the text has three channels of the width, or four of two digits
-pub record Channels (s : List ℕ) (width : ℕ) : Type 0 where
-  pub some : 1 ≤ width
-  pub few : width ≤ 2
-  pub room : 3 * width ≤ length s
-
-abbrev pub copies : ℕ → List ℕ → List ℕ
-copies width w = cond (eqb width 1) (twice w) (once w)
-
-abbrev pub hexAlpha : List ℕ → ℕ → ℕ → ℕ → Color
-hexAlpha s r g b =
-    cond (eqb (length s) 8) (after (hexChannel s 6 8 (copies 2)) λ a. Color.Is (rgba r g b a)) (Color.Is (rgba r g b 255))
-
-abbrev pub hexBlue : List ℕ → ℕ → ℕ → ℕ → Color
-hexBlue s width r g = after (hexChannel s (2 * width) (2 * width + width) (copies width)) λ b. hexAlpha s r g b
-
-abbrev pub hexGreen : List ℕ → ℕ → ℕ → Color
-hexGreen s width r = after (hexChannel s width (width + width) (copies width)) λ g. hexBlue s width r g
-
-abbrev pub hexRed : List ℕ → ℕ → Color
-hexRed s width = after (hexChannel s 0 (0 + width) (copies width)) λ r. hexGreen s width r
+-- What `parse_ttml_color_rgba` and `parse_ttml_color_rgb` promise of their answer r, c being the colour of the text: it says a colour exactly if
+-- the text is that colour, no colour exactly if it is none, and 15 exactly if it is cut inside a character.
+pub record ReadsColor (c r : Color) : Type 0 where
+  pub is : r ≡ c
+  pub color-is : (v : Rgba) → Says r 0 (v ∷ []) ↔ (c ≡ Color.Is v)
+  pub none : Says r 0 [] ↔ (c ≡ Color.Nothing)
+  pub cut-inside : Says r 15 [] ↔ (c ≡ Color.Cut)

@@ -1,3 +1,5 @@
+pub mod Text
 pub mod Named
 pub mod Colors
 pub mod Written
+pub mod Steps

@@ -3,9 +3,9 @@ ghost use mathlib.Core.Path.{_≡_};
 ghost use Prim.Native.Nat.{_+_, _≤_};
 ghost use lib.ListN.{length};
 ghost use Rattle.scan.specs.Split.{splitAt};
-ghost use Rattle.colors.specs.Named.{rgba};
 ghost use Rattle.colors.specs.Colors as colors;
-ghost use Rattle.colors.specs.Colors.{channelOf, hexChannel, hexColor, decimalChannel, rgbOf, rgbParts, colorIn, opaque, Small, Channels, copies, hexAlpha, hexBlue, hexGreen, hexRed};
+ghost use Rattle.colors.specs.Colors.{channelOf, colorOf, hexColor, decimalChannel, rgbParts, colorIn, opaque, ReadsColor};
+ghost use Rattle.colors.specs.Steps.{Small, Channels, channelAt, hexChannels};
 use numerals::Numeral;
 
 pub struct Rgba {
@@ -44,7 +44,7 @@ fn small_channel(n: Numeral) -> Channel
 // The channel from the place, of one hexadecimal digit that counts twice, or of two.
 fn hex_channel(text: &[u8], at: usize, width: usize) -> Channel
     requires { ⌜ (1 ≤ width) × (width ≤ 2) × (at + width ≤ length (now text)) ⌝ }
-    ensures { λ r. ⌜ r ≡ hexChannel (now (text .entry)) at (at + width) (copies width) ⌝ }
+    ensures { λ r. ⌜ r ≡ channelAt (now (text .entry)) at width ⌝ }
 {
     if !unicode::is_boundary(text, at) {
         return Channel::Cut;
@@ -60,7 +60,7 @@ fn hex_channel(text: &[u8], at: usize, width: usize) -> Channel
 }
 
 fn with_alpha(r: u8, g: u8, b: u8, alpha: Channel) -> Color
-    ensures { λ s. ⌜ s ≡ colors.after alpha (λ x. Color.Is (rgba r g b x)) ⌝ }
+    ensures { λ s. ⌜ s ≡ colorOf (Channel.Is r) (Channel.Is g) (Channel.Is b) alpha ⌝ }
 {
     match alpha {
         Channel::Is(a) => Color::Is(Rgba { r, g, b, a }),
@@ -69,46 +69,34 @@ fn with_alpha(r: u8, g: u8, b: u8, alpha: Channel) -> Color
     }
 }
 
-fn hex_alpha(text: &[u8], r: u8, g: u8, b: u8) -> Color
-    ensures { λ s. ⌜ s ≡ hexAlpha (now (text .entry)) r g b ⌝ }
+// The colour of four channels: the first that is none, or is cut, decides.
+fn color_of(red: Channel, green: Channel, blue: Channel, alpha: Channel) -> Color
+    ensures { λ s. ⌜ s ≡ colorOf red green blue alpha ⌝ }
 {
-    if text.len() == 8 {
-        return with_alpha(r, g, b, hex_channel(text, 6, 2));
-    }
-    Color::Is(Rgba { r, g, b, a: 255 })
-}
-
-fn hex_blue(text: &[u8], width: usize, r: u8, g: u8) -> Color
-    requires { ⌜ Channels (now text) width ⌝ }
-    ensures { λ s. ⌜ s ≡ hexBlue (now (text .entry)) width r g ⌝ }
-{
-    match hex_channel(text, 2 * width, width) {
-        Channel::Is(b) => hex_alpha(text, r, g, b),
+    match red {
+        Channel::Is(r) => match green {
+            Channel::Is(g) => match blue {
+                Channel::Is(b) => with_alpha(r, g, b, alpha),
+                Channel::Nothing => Color::Nothing,
+                Channel::Cut => Color::Cut,
+            },
+            Channel::Nothing => Color::Nothing,
+            Channel::Cut => Color::Cut,
+        },
         Channel::Nothing => Color::Nothing,
         Channel::Cut => Color::Cut,
     }
 }
 
-fn hex_green(text: &[u8], width: usize, r: u8) -> Color
+// Three channels of the width, and an alpha.
+fn hex_channels(text: &[u8], width: usize, alpha: Channel) -> Color
     requires { ⌜ Channels (now text) width ⌝ }
-    ensures { λ s. ⌜ s ≡ hexGreen (now (text .entry)) width r ⌝ }
+    ensures { λ s. ⌜ s ≡ hexChannels (now (text .entry)) width alpha ⌝ }
 {
-    match hex_channel(text, width, width) {
-        Channel::Is(g) => hex_blue(text, width, r, g),
-        Channel::Nothing => Color::Nothing,
-        Channel::Cut => Color::Cut,
-    }
-}
-
-fn hex_red(text: &[u8], width: usize) -> Color
-    requires { ⌜ Channels (now text) width ⌝ }
-    ensures { λ s. ⌜ s ≡ hexRed (now (text .entry)) width ⌝ }
-{
-    match hex_channel(text, 0, width) {
-        Channel::Is(r) => hex_green(text, width, r),
-        Channel::Nothing => Color::Nothing,
-        Channel::Cut => Color::Cut,
-    }
+    let red = hex_channel(text, 0, width);
+    let green = hex_channel(text, width, width);
+    let blue = hex_channel(text, 2 * width, width);
+    color_of(red, green, blue, alpha)
 }
 
 // What follows a `#`: three digits, or two for each of three or four channels.
@@ -116,8 +104,9 @@ fn hex_color(text: &[u8]) -> Color
     ensures { λ r. ⌜ r ≡ hexColor (now (text .entry)) ⌝ }
 {
     match text.len() {
-        3 => hex_red(text, 1),
-        6 | 8 => hex_red(text, 2),
+        3 => hex_channels(text, 1, Channel::Is(255)),
+        6 => hex_channels(text, 2, Channel::Is(255)),
+        8 => hex_channels(text, 2, hex_channel(text, 6, 2)),
         _ => Color::Nothing,
     }
 }
@@ -130,36 +119,6 @@ fn decimal_channel(text: &[u8]) -> Channel
     let start = span.start;
     let end = span.end;
     small_channel(numerals::read_numeral(&text[start..end], 10, 255, false))
-}
-
-fn rgb_blue(r: u8, g: u8, text: &[u8]) -> Color
-    ensures { λ s. ⌜ s ≡ colors.after (decimalChannel (now (text .entry))) (λ b. Color.Is (rgba r g b 255)) ⌝ }
-{
-    match decimal_channel(text) {
-        Channel::Is(b) => Color::Is(Rgba { r, g, b, a: 255 }),
-        Channel::Nothing => Color::Nothing,
-        Channel::Cut => Color::Cut,
-    }
-}
-
-fn rgb_green(r: u8, green: &[u8], blue: &[u8]) -> Color
-    ensures { λ s. ⌜ s ≡ colors.after (decimalChannel (now (green .entry))) (λ g. colors.after (decimalChannel (now (blue .entry))) (λ b. Color.Is (rgba r g b 255))) ⌝ }
-{
-    match decimal_channel(green) {
-        Channel::Is(g) => rgb_blue(r, g, blue),
-        Channel::Nothing => Color::Nothing,
-        Channel::Cut => Color::Cut,
-    }
-}
-
-fn rgb_red(red: &[u8], green: &[u8], blue: &[u8]) -> Color
-    ensures { λ s. ⌜ s ≡ rgbOf (now (red .entry)) (now (green .entry)) (now (blue .entry)) ⌝ }
-{
-    match decimal_channel(red) {
-        Channel::Is(r) => rgb_green(r, green, blue),
-        Channel::Nothing => Color::Nothing,
-        Channel::Cut => Color::Cut,
-    }
 }
 
 // Three channels between commas; any other number of them is left to the names.
@@ -177,7 +136,10 @@ fn rgb_color(text: &[u8], inside: &[u8]) -> Color
     if scan::find_byte(inside, two + 1, b',') < inside.len() {
         return crate::named::named(text);
     }
-    rgb_red(&inside[..one], &inside[one + 1..two], &inside[two + 1..])
+    let red = decimal_channel(&inside[..one]);
+    let green = decimal_channel(&inside[one + 1..two]);
+    let blue = decimal_channel(&inside[two + 1..]);
+    color_of(red, green, blue, Channel::Is(255))
 }
 
 // A colour without white space around it.
@@ -203,7 +165,7 @@ fn trimmed_color(text: &[u8]) -> Color
 
 // The colour that a text is.
 pub fn parse_ttml_color_rgba(text: &[u8]) -> Color
-    ensures { λ r. ⌜ r ≡ colorIn (now (text .entry)) ⌝ }
+    ensures { λ r. ⌜ ReadsColor (colorIn (now (text .entry))) r ⌝ }
 {
     let span = unicode::trim(text);
     let start = span.start;
@@ -213,7 +175,7 @@ pub fn parse_ttml_color_rgba(text: &[u8]) -> Color
 
 // The same without its alpha, which is given as 255.
 pub fn parse_ttml_color_rgb(text: &[u8]) -> Color
-    ensures { λ r. ⌜ r ≡ opaque (colorIn (now (text .entry))) ⌝ }
+    ensures { λ r. ⌜ ReadsColor (opaque (colorIn (now (text .entry)))) r ⌝ }
 {
     match parse_ttml_color_rgba(text) {
         Color::Is(c) => Color::Is(Rgba {

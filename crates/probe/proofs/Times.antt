@@ -6,7 +6,7 @@ use mathlib.Core.List.{List}
 use lib.ListN.{set}
 use lib.IntN.{ℤ}
 use Rattle.times.specs.declared.offset.Time.{Time}
-use Rattle.times.specs.declared.offset.Time.the-variants.{Is, Nothing, Digits, Cut, Overflow}
+use Rattle.times.specs.declared.offset.Time.the-variants.{Is, Nothing, Beyond, LongFraction, Overflow}
 use Rattle.probe.specs.Answers.{Answered}
 use Rattle.probe.specs.Times.{timeCode, timeCells}
 use Rattle.probe.proofs.Cells.{answers}
@@ -17,10 +17,10 @@ time-is x z v will t e h f = answers _ _ _ _ _ _ _ h (rw e) (rw (e, f))
 pub time-none : (x : Time) (will : Bool) (t : List ℤ) → x ≡ Nothing → will ≡ true → Answered will (timeCode x) (timeCells x) 2 t t 0
 time-none x will t e h = answers _ _ _ _ _ _ _ h (rw e) (rw e)
 
-pub time-digits : (x : Time) (will : Bool) (t : List ℤ) → x ≡ Digits → will ≡ true → Answered will (timeCode x) (timeCells x) 2 t t 14
+pub time-digits : (x : Time) (will : Bool) (t : List ℤ) → x ≡ Beyond → will ≡ true → Answered will (timeCode x) (timeCells x) 2 t t 14
 time-digits x will t e h = answers _ _ _ _ _ _ _ h (rw e) (rw e)
 
-pub time-cut : (x : Time) (will : Bool) (t : List ℤ) → x ≡ Cut → will ≡ true → Answered will (timeCode x) (timeCells x) 2 t t 15
+pub time-cut : (x : Time) (will : Bool) (t : List ℤ) → x ≡ LongFraction → will ≡ true → Answered will (timeCode x) (timeCells x) 2 t t 15
 time-cut x will t e h = answers _ _ _ _ _ _ _ h (rw e) (rw e)
 
 pub time-overflow : (x : Time) (will : Bool) (t : List ℤ) → x ≡ Overflow → will ≡ true → Answered will (timeCode x) (timeCells x) 2 t t 16

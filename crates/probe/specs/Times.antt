@@ -6,7 +6,7 @@ use lib.IntN.{ℤ}
 use lib.Ieee.{Float}
 use Rattle.times.specs.declared.offset.TimingCtx.{TimingCtx}
 use Rattle.times.specs.declared.offset.Time.{Time}
-use Rattle.times.specs.declared.offset.Time.the-variants.{Is, Nothing, Digits, Cut, Overflow}
+use Rattle.times.specs.declared.offset.Time.the-variants.{Is, Nothing, Beyond, LongFraction, Overflow}
 use Rattle.times.specs.Expressions.{numberOf}
 
 abbrev pub timing : Float → Bool → Float → Bool → TimingCtx
@@ -16,14 +16,14 @@ timing frames has-frames ticks has-ticks = record { «frame_rate» = frames; «h
 abbrev pub timeCode : Time → ℕ
 timeCode (Is z) = 1
 timeCode Nothing = numberOf Nothing
-timeCode Digits = numberOf Digits
-timeCode Cut = numberOf Cut
+timeCode Beyond = numberOf Beyond
+timeCode LongFraction = numberOf LongFraction
 timeCode Overflow = numberOf Overflow
 
 -- its microseconds
 abbrev pub timeCells : Time → List ℤ
 timeCells (Is z) = z ∷ []
 timeCells Nothing = []
-timeCells Digits = []
-timeCells Cut = []
+timeCells Beyond = []
+timeCells LongFraction = []
 timeCells Overflow = []

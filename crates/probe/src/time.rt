@@ -37,8 +37,8 @@ pub extern "C" fn probe_time(
             1
         }
         Time::Nothing => 0,
-        Time::Digits => 14,
-        Time::Cut => 15,
+        Time::Beyond => 14,
+        Time::LongFraction => 15,
         Time::Overflow => 16,
     }
 }

@@ -331,8 +331,8 @@ fn tells_timed(given: &[u8], start: usize, ctx: TimingCtx, told: &[u8]) -> bool 
     match times::parse_ttml_time(&given[start..], ctx) {
         Time::Is(us) => is_time(told, us),
         Time::Nothing => told.len() == 0,
-        Time::Digits => is_one(told, 14),
-        Time::Cut => is_one(told, 15),
+        Time::Beyond => is_one(told, 14),
+        Time::LongFraction => is_one(told, 15),
         Time::Overflow => is_one(told, 16),
     }
 }

@@ -5,7 +5,7 @@ use mathlib.Core.Bool.{true, false}
 use mathlib.Core.List.{List, [], _∷_, _++_, append-assoc}
 use native.Mathlib.Omega.{arith}
 use native.Mathlib.Nat.{le-max-left, le-max-right, pow-le-pow-right}
-use lib.IntN.{ℤ, pos, negsuc}
+use lib.IntN.{ℤ, pos, negsuc, _+ℤ_}
 use lib.Signed.{mag}
 use lib.ListN.{length, getD, take, replicate, length-append}
 use lib.Seq.{take-all, take-append-add}
@@ -20,12 +20,10 @@ use Rattle.numerals.specs.Numerals.{digitOf, digitsOnly, valueFrom}
 use Rattle.numerals.specs.Written.{padded, decimalWidth}
 use Rattle.numerals.proofs.Numerals.{value-append, digits-append, numeral-plain}
 use Rattle.numerals.proofs.Writing.{padded-byte, padded-length, padded-digits, padded-value, width-fits}
-use Rattle.times.specs.declared.sums.Sum.{Sum}
 use Rattle.times.specs.declared.offset.TimingCtx.{TimingCtx}
 use Rattle.times.specs.declared.offset.Time.{Time}
-use Rattle.times.specs.Sums.{checked, plus}
-use Rattle.times.specs.Expressions as spec
-use Rattle.times.specs.Expressions.{integer, charsLength, numberIn, microsOf, timeOf, secondsOf, clockTime, timeIn}
+use Rattle.times.specs.Sums.{checked}
+use Rattle.times.specs.Expressions.{_>>=_, tested, integer, charsLength, numberIn, microsOf, secondsOf, clockTime, timeIn}
 use Rattle.times.specs.Written.{millis, hoursWidth, clockOfMillis, clockText}
 use Rattle.times.proofs.Summing.{checked-fits}
 use Rattle.times.proofs.Clocks.{clock-length}
@@ -117,13 +115,15 @@ module _ (s : List ℕ) (some : 4 ≤ length s) (marks : Every Mark s) where
   clock-alone ctx =
       let m : Mark (getD s (length s - 1) 0) = every-at Mark s (length s - 1) (omega arith) marks in
       rw (bare, ne-eqb (length s) 0 (λ e. omega arith))
-      (metric-none s ctx (λ e. omega arith) (λ e. omega arith) (λ e. omega arith) (λ e. omega arith) (λ e. omega arith))
+      (metric-none s (omega arith) ctx (getD s (length s - 1) 0) refl
+      (λ e. omega arith) (λ e. omega arith) (λ e. omega arith) (λ e. omega arith) (λ e. omega arith))
 
 -- ---- digits read back
 whole : (w n : ℕ) → 0 < w → n < 10 ^ w → n < 2 ^ 63 → integer (padded 10 w n) ≡ Numeral.Is (record { negative = false; magnitude = n })
 whole w n h l f =
     let v : valueFrom 10 0 (padded 10 w n) ≡ n = padded-value 10 (omega arith) (omega arith) w n l in
-    numeral-plain 10 (2 ^ 63 - 1) (padded 10 w n) true (omega arith) (omega (arith, padded-length 10 w n)) (padded-digits 10 (omega arith) (omega arith) w n) (omega arith)
+    numeral-plain 10 (2 ^ 63 - 1) (padded 10 w n) true (omega arith) (omega (arith, padded-length 10 w n))
+    (padded-digits 10 (omega arith) (omega arith) w n) (omega arith)
     ∙ ap (λ (m : ℕ). Numeral.Is (record { negative = false; magnitude = m })) v
 
 chars-ascii : (s : List ℕ) (n : ℕ) → length s ≤ n → Every Digit s → charsLength n s ≡ length s
@@ -142,32 +142,45 @@ module _ (f : ℕ) (few : f < 1000) where
   thousand =
       value-append 10 0 (padded 10 3 f) zeros ∙ rw (padded-value 10 (omega arith) (omega arith) 3 f few) (omega arith)
 
-  microseconds : spec.micros (padded 10 3 f) ≡ pos (f * 1000)
+  microseconds : microsOf (take (charsLength 6 (padded 10 3 f)) (padded 10 3 f)) ≡ pos (f * 1000)
   unfolding microsOf zeros digitsOnly digitOf
   microseconds =
       let l : length (padded 10 3 f) ≡ 3 = padded-length 10 3 f in
       let c : charsLength 6 (padded 10 3 f) ≡ length (padded 10 3 f) = chars-ascii (padded 10 3 f) 6 (omega arith) (padded-every 3 f) in
-      let t : take (charsLength 6 (padded 10 3 f)) (padded 10 3 f) ≡ padded 10 3 f = take-all (charsLength 6 (padded 10 3 f)) (padded 10 3 f) (omega arith) in
+      let t : take (charsLength 6 (padded 10 3 f)) (padded 10 3 f) ≡ padded 10 3 f =
+      take-all (charsLength 6 (padded 10 3 f)) (padded 10 3 f) (omega arith) in
       let six : 6 ≡ length (padded 10 3 f) + 3 = omega arith in
-      let u : take 6 (padded 10 3 f ++ replicate 6 48) ≡ padded 10 3 f ++ zeros = ap (λ (k : ℕ). take k (padded 10 3 f ++ replicate 6 48)) six ∙ take-append-add (padded 10 3 f) (replicate 6 48) 3 in
-      let d : digitsOnly 10 (padded 10 3 f ++ zeros) ≡ true = digits-append 10 (padded 10 3 f) zeros ∙ rw (padded-digits 10 (omega arith) (omega arith) 3 f) in
-      let i : integer (padded 10 3 f ++ zeros) ≡ Numeral.Is (record { negative = false; magnitude = f * 1000 }) = numeral-plain 10 (2 ^ 63 - 1) (padded 10 3 f ++ zeros) true (omega arith) (simp length-append (omega arith)) d (omega (arith, thousand)) ∙ ap (λ (m : ℕ). Numeral.Is (record { negative = false; magnitude = m })) thousand in
+      let u : take 6 (padded 10 3 f ++ replicate 6 48) ≡ padded 10 3 f ++ zeros =
+      ap (λ (k : ℕ). take k (padded 10 3 f ++ replicate 6 48)) six ∙ take-append-add (padded 10 3 f) (replicate 6 48) 3 in
+      let d : digitsOnly 10 (padded 10 3 f ++ zeros) ≡ true = digits-append 10 (padded 10 3 f) zeros
+      ∙ rw (padded-digits 10 (omega arith) (omega arith) 3 f) in
+      let i : integer (padded 10 3 f ++ zeros) ≡ Numeral.Is (record { negative = false; magnitude = f * 1000 }) =
+      numeral-plain 10 (2 ^ 63 - 1) (padded 10 3 f ++ zeros) true (omega arith) (simp length-append (omega arith)) d
+      (omega (arith, thousand)) ∙ ap (λ (m : ℕ). Numeral.Is (record { negative = false; magnitude = m })) thousand in
       ap microsOf t ∙ (ap (λ (w : List ℕ). numberIn (integer w)) u ∙ ap numberIn i)
 
-sum-is : (a b : ℕ) → a + b < 2 ^ 63 → plus (checked (pos a)) (Sum.Is (pos b)) ≡ Sum.Is (pos (a + b))
-sum-is a b h = ap (λ (x : Sum). plus x (Sum.Is (pos b))) (checked-fits (pos a) (omega arith)) ∙ checked-fits (pos (a + b)) h
+sum-is : (a b k : ℕ) → a + b ≡ k → k < 2 ^ 63 → (tested (pos a) >>= λ x. tested (x +ℤ pos b)) ≡ Time.Is (pos k)
+sum-is a b k e h = rw (checked-fits (pos a) (omega arith), e, checked-fits (pos k) h)
 
-sums-are : (a b c k : ℕ) → a + b + c ≡ k → k < 2 ^ 63 → timeOf (plus (plus (checked (pos a)) (checked (pos b))) (Sum.Is (pos c))) ≡ Time.Is (pos k)
+sums-are :
+    (a b c k : ℕ) → a + b + c ≡ k → k < 2 ^ 63
+    → ((tested (pos a) >>= λ x. tested (pos b) >>= λ y. tested (x +ℤ y)) >>= λ z. tested (z +ℤ pos c)) ≡ Time.Is (pos k)
 sums-are a b c k e h =
-    rw (checked-fits (pos a) (omega arith), checked-fits (pos b) (omega arith), checked-fits (pos (a + b)) (omega arith), checked-fits (pos (a + b + c)) (omega arith), e)
+    rw (checked-fits (pos a) (omega arith), checked-fits (pos b) (omega arith), checked-fits (pos (a + b)) (omega arith), e, checked-fits (pos k) h)
 
 seconds-back : (n f : ℕ) → n < 60 → f < 1000 → secondsOf (padded 10 2 n ++ (46 ∷ padded 10 3 f)) ≡ Time.Is (pos (n * 1000000 + f * 1000))
 unfolding secondsOf
 seconds-back n f h l =
-    let c : charsLength 6 (padded 10 3 f) ≡ length (padded 10 3 f) = chars-ascii (padded 10 3 f) 6 (omega (arith, padded-length 10 3 f)) (padded-every 3 f) in
+    let c : charsLength 6 (padded 10 3 f) ≡ length (padded 10 3 f) =
+    chars-ascii (padded 10 3 f) 6 (omega (arith, padded-length 10 3 f)) (padded-every 3 f) in
     let short = le-ltb 6 (charsLength 6 (padded 10 3 f)) (omega (arith, padded-length 10 3 f)) in
-    rw (once-here 46 (padded 10 2 n) (padded 10 3 f) (padded-not 46 2 n (λ d. omega arith)), whole 2 n (omega arith) (omega arith) (omega arith), short, microseconds f l)
-    (ap timeOf (sum-is (n * 1000000) (f * 1000) (omega arith)))
+    rw (
+      once-here 46 (padded 10 2 n) (padded 10 3 f) (padded-not 46 2 n (λ d. omega arith)),
+      whole 2 n (omega arith) (omega arith) (omega arith),
+      short,
+      microseconds f l,
+    )
+    (sum-is (n * 1000000) (f * 1000) (n * 1000000 + f * 1000) refl (omega arith))
 
 -- ---- the whole clock time
 module _ (t : ℕ) (fits : t * 1000 < 2 ^ 63) where
@@ -193,9 +206,15 @@ module _ (t : ℕ) (fits : t * 1000 < 2 ^ 63) where
   unfolding text
   marks =
       let d : Every Mark (46 ∷ padded 10 3 (t % 1000)) = ((omega arith, omega arith), padded-marks 3 (t % 1000)) in
-      let c : Every Mark (58 ∷ (padded 10 2 seconds ++ (46 ∷ padded 10 3 (t % 1000)))) = ((omega arith, omega arith), every-append Mark (padded 10 2 seconds) (46 ∷ padded 10 3 (t % 1000)) (padded-marks 2 seconds) d) in
-      let b : Every Mark (58 ∷ (padded 10 2 minutes ++ (58 ∷ (padded 10 2 seconds ++ (46 ∷ padded 10 3 (t % 1000)))))) = ((omega arith, omega arith), every-append Mark (padded 10 2 minutes) (58 ∷ (padded 10 2 seconds ++ (46 ∷ padded 10 3 (t % 1000)))) (padded-marks 2 minutes) c) in
-      every-append Mark (padded 10 (hoursWidth hours) hours) (58 ∷ (padded 10 2 minutes ++ (58 ∷ (padded 10 2 seconds ++ (46 ∷ padded 10 3 (t % 1000)))))) (padded-marks (hoursWidth hours) hours) b
+      let c : Every Mark (58 ∷ (padded 10 2 seconds ++ (46 ∷ padded 10 3 (t % 1000)))) =
+      ((omega arith, omega arith), every-append Mark (padded 10 2 seconds) (46 ∷ padded 10 3 (t % 1000)) (padded-marks 2 seconds) d) in
+      let b : Every Mark (58 ∷ (padded 10 2 minutes ++ (58 ∷ (padded 10 2 seconds ++ (46 ∷ padded 10 3 (t % 1000)))))) = (
+        (omega arith, omega arith),
+        every-append Mark (padded 10 2 minutes) (58 ∷ (padded 10 2 seconds ++ (46 ∷ padded 10 3 (t % 1000))))
+            (padded-marks 2 minutes) c,
+      ) in
+      every-append Mark (padded 10 (hoursWidth hours) hours)
+      (58 ∷ (padded 10 2 minutes ++ (58 ∷ (padded 10 2 seconds ++ (46 ∷ padded 10 3 (t % 1000)))))) (padded-marks (hoursWidth hours) hours) b
 
   parts : splitAt 58 text ≡ padded 10 (hoursWidth hours) hours ∷ (padded 10 2 minutes ∷ ((padded 10 2 seconds ++ (46 ∷ padded 10 3 (t % 1000))) ∷ []))
   unfolding text
@@ -210,7 +229,8 @@ module _ (t : ℕ) (fits : t * 1000 < 2 ^ 63) where
   hours-fit : hours < 10 ^ hoursWidth hours
   unfolding hoursWidth hours
   hours-fit =
-      let w : 10 ^ decimalWidth (t / 3600000) ≤ 10 ^ hoursWidth (t / 3600000) = pow-le-pow-right (omega arith) (le-max-right 2 (decimalWidth (t / 3600000))) in
+      let w : 10 ^ decimalWidth (t / 3600000) ≤ 10 ^ hoursWidth (t / 3600000) =
+      pow-le-pow-right (omega arith) (le-max-right 2 (decimalWidth (t / 3600000))) in
       omega (arith, width-fits (t / 3600000) (omega arith))
 
   hours-some : 2 ≤ hoursWidth hours
@@ -222,7 +242,14 @@ module _ (t : ℕ) (fits : t * 1000 < 2 ^ 63) where
   back ctx =
       let l : 4 ≤ length text = omega (arith, clock-length t, ap length laid-out) in
       let all : t / 3600000 * 3600000000 + t / 60000 % 60 * 60000000 + (t / 1000 % 60 * 1000000 + t % 1000 * 1000) ≡ t * 1000 = omega arith in
-      rw (laid-out, clock-alone text l marks ctx, parts, whole (hoursWidth hours) hours (omega (arith, hours-some)) hours-fit (omega arith), whole 2 minutes (omega arith) (omega arith) (omega arith), seconds-back seconds (t % 1000) (omega arith) (omega arith))
+      rw (
+        laid-out,
+        clock-alone text l marks ctx,
+        parts,
+        whole (hoursWidth hours) hours (omega (arith, hours-some)) hours-fit (omega arith),
+        whole 2 minutes (omega arith) (omega arith) (omega arith),
+        seconds-back seconds (t % 1000) (omega arith) (omega arith),
+      )
       (sums-are (t / 3600000 * 3600000000) (t / 60000 % 60 * 60000000) (t / 1000 % 60 * 1000000 + t % 1000 * 1000) (t * 1000) all fits)
 
 pub read-back : (z : ℤ) → mag z < 2 ^ 63 → (ctx : TimingCtx) → timeIn (clockText z) ctx ≡ Time.Is (pos (millis z * 1000))

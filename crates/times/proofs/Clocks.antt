@@ -50,7 +50,8 @@ laid-on a b t t′ t″ at n m p q l =
       laid = sets-on a b t t′ t″ at n (p .laid) (q .laid) (p .next);
     }
 
-pub field-laid : (w k mark : ℕ) (t t′ : List ℕ) (at n : ℕ) → Appended (padded 10 w k) at t t′ n → n + 1 ≤ length t → length t′ ≡ length t → Appended (field w k mark) at t (set t′ n mark) (n + 1)
+pub field-laid : (w k mark : ℕ) (t t′ : List ℕ) (at n : ℕ) → Appended (padded 10 w k) at t t′ n → n + 1 ≤ length t → length t′ ≡ length t
+    → Appended (field w k mark) at t (set t′ n mark) (n + 1)
 unfolding field
 field-laid w k mark t t′ at n p h l =
     laid-on (padded 10 w k) (mark ∷ []) t t′ (set t′ n mark) at n (n + 1) p (record { next = refl; within = omega arith; laid = refl }) l

@@ -1,11 +1,12 @@
--- Worked cases: texts as times, and times as texts. Each table is one computed equation. Assumes nothing.
+-- Document 01's cases on times, texts as times and times as texts: one table, one computed equation. Assumes nothing.
 use Prim.Native.Nat.{ℕ}
 use mathlib.Core.Path.{_≡_, refl}
 use mathlib.Core.Bool.{true, false}
-use mathlib.Core.List.{[], _∷_}
-use lib.IntN.{pos, negsuc}
-use lib.Ieee.{ofInt, mul, div, le, toSigned, round}
+use mathlib.Core.List.{List, [], _∷_, _++_}
+use lib.IntN.{ℤ, pos, negsuc}
+use lib.Ieee.{binary64, ofInt, mul, div, le, toSigned, round}
 use Rattle.scan.specs.Loop.{go, loop}
+use Rattle.scan.specs.Marks.{startsAt}
 use Rattle.scan.specs.Bytes.{digitByte, runLength}
 use Rattle.unicode.specs.Utf8.{sequenceAt, charAt}
 use Rattle.unicode.specs.White.{isWhite, whiteAt, whiteBefore, trimmed}
@@ -13,7 +14,9 @@ use Rattle.numerals.specs.Numerals.{numeralOf}
 use Rattle.numerals.specs.Written.{padded, decimalWidth}
 use Rattle.decimals.specs.Decimal.{decimalOf}
 use Rattle.times.specs.declared.offset.TimingCtx.{TimingCtx}
+use Rattle.times.specs.declared.offset.Time.{Time}
 use Rattle.times.specs.declared.offset.Time.the-variants.{Is, Nothing}
+use Rattle.times.specs.Text.{ascii}
 use Rattle.times.specs.Sums.{checked}
 use Rattle.times.specs.Expressions.{float, charsLength, microsOf, offsetTime, timeIn}
 use Rattle.times.specs.Written.{clockText}
@@ -22,34 +25,40 @@ use Rattle.times.specs.Written.{clockText}
 abbrev bare : TimingCtx
 bare = record { «frame_rate» = float 0; «has_frame_rate» = false; «tick_rate» = float 0; «has_tick_rate» = false }
 
-abbrev rated : ℕ → TimingCtx
-rated n = record { «frame_rate» = float n; «has_frame_rate» = true; «tick_rate» = float 0; «has_tick_rate» = false }
+abbrev rated : ℤ → TimingCtx
+rated z = record { «frame_rate» = ofInt binary64 z; «has_frame_rate» = true; «tick_rate» = float 0; «has_tick_rate» = false }
 
--- `00:05`, `00:00:01.1234567`, `00:00:01.+5`, `00:00:01.5é`, `-1s`; `5f` without a rate, at 0 and at 25; `5`
-pub read-cases :
-    timeIn (48 ∷ 48 ∷ 58 ∷ 48 ∷ 53 ∷ []) bare
-    ∷ timeIn (48 ∷ 48 ∷ 58 ∷ 48 ∷ 48 ∷ 58 ∷ 48 ∷ 49 ∷ 46 ∷ 49 ∷ 50 ∷ 51 ∷ 52 ∷ 53 ∷ 54 ∷ 55 ∷ []) bare
-    ∷ timeIn (48 ∷ 48 ∷ 58 ∷ 48 ∷ 48 ∷ 58 ∷ 48 ∷ 49 ∷ 46 ∷ 43 ∷ 53 ∷ []) bare
-    ∷ timeIn (48 ∷ 48 ∷ 58 ∷ 48 ∷ 48 ∷ 58 ∷ 48 ∷ 49 ∷ 46 ∷ 53 ∷ 195 ∷ 169 ∷ []) bare
-    ∷ timeIn (45 ∷ 49 ∷ 115 ∷ []) bare
-    ∷ timeIn (53 ∷ 102 ∷ []) bare
-    ∷ timeIn (53 ∷ 102 ∷ []) (rated 0)
-    ∷ timeIn (53 ∷ 102 ∷ []) (rated 25)
-    ∷ timeIn (53 ∷ []) bare
-    ∷ []
-    ≡ Is (pos 300000000) ∷ Is (pos 1123456) ∷ Is (pos 1050000) ∷ Is (pos 1000000) ∷ Is (negsuc 999999) ∷ Nothing ∷ Nothing ∷ Is (pos 200000) ∷ Nothing ∷ []
-unfolding timeIn offsetTime trimmed whiteAt whiteBefore isWhite sequenceAt charAt loop go digitByte runLength numeralOf decimalOf charsLength microsOf checked mul div le ofInt toSigned round
-read-cases = refl
+-- a text that is read, or a time that is written, and what it gives
+pub data Case : Type 0 where
+  read : List ℕ → TimingCtx → Time → Case
+  written : ℤ → List ℕ → Case
 
--- `00:00:00.000`, `00:00:00.001`, `2562047788:00:54.775`
-pub written-cases :
-    clockText (negsuc 0)
-    ∷ clockText (pos 1999)
-    ∷ clockText (pos 9223372036854775807)
+abbrev outcome : Case → Case
+outcome (read s ctx t) = read s ctx (timeIn s ctx)
+outcome (written z w) = written z (clockText z)
+
+abbrev outcomes : List Case → List Case
+outcomes [] = []
+outcomes (c ∷ cs) = outcome c ∷ outcomes cs
+
+abbrev pub cases : List Case
+cases =
+    read (ascii "00:05") bare (Is (pos 300000000))
+    ∷ read (ascii "00:00:01.1234567") bare (Is (pos 1123456))
+    ∷ read (ascii "00:00:01.+5") bare (Is (pos 1050000))
+    ∷ read (ascii "00:00:01.5" ++ (0xC3 ∷ 0xA9 ∷ [])) bare (Is (pos 1000000))  -- é
+    ∷ read (ascii "-1s") bare (Is (negsuc 999999))
+    ∷ read (ascii "5f") bare Nothing
+    ∷ read (ascii "5f") (rated (pos 0)) Nothing
+    ∷ read (ascii "5f") (rated (negsuc 24)) Nothing
+    ∷ read (ascii "5f") (rated (pos 25)) (Is (pos 200000))
+    ∷ read (ascii "5") bare Nothing
+    ∷ written (negsuc 0) (ascii "00:00:00.000")
+    ∷ written (pos 1999) (ascii "00:00:00.001")
+    ∷ written (pos 9223372036854775807) (ascii "2562047788:00:54.775")
     ∷ []
-    ≡ (48 ∷ 48 ∷ 58 ∷ 48 ∷ 48 ∷ 58 ∷ 48 ∷ 48 ∷ 46 ∷ 48 ∷ 48 ∷ 48 ∷ [])
-    ∷ (48 ∷ 48 ∷ 58 ∷ 48 ∷ 48 ∷ 58 ∷ 48 ∷ 48 ∷ 46 ∷ 48 ∷ 48 ∷ 49 ∷ [])
-    ∷ (50 ∷ 53 ∷ 54 ∷ 50 ∷ 48 ∷ 52 ∷ 55 ∷ 55 ∷ 56 ∷ 56 ∷ 58 ∷ 48 ∷ 48 ∷ 58 ∷ 53 ∷ 52 ∷ 46 ∷ 55 ∷ 55 ∷ 53 ∷ [])
-    ∷ []
-unfolding clockText padded decimalWidth
-written-cases = refl
+
+pub cases-hold : outcomes cases ≡ cases
+unfolding timeIn offsetTime trimmed whiteAt whiteBefore isWhite sequenceAt charAt loop go digitByte runLength startsAt numeralOf decimalOf charsLength
+    microsOf checked mul div le ofInt toSigned round clockText padded decimalWidth
+cases-hold = refl

@@ -1,26 +1,62 @@
 -- Laws of time expressions, one for each way through the code: the parts between colons, the point, and the metric at the end. Assumes nothing.
 use Prim.Native.Nat.{ℕ, _+_, _-_, _≤_, _<_}
 use mathlib.Core.Path.{_≡_, refl, sym, _∙_}
+use mathlib.Core.Bool.{Bool, true, false, cond}
 use mathlib.Core.List.{List, [], _∷_}
 use native.Mathlib.Omega.{arith}
-use lib.Dec.{ltb}
-use lib.IntN.{ℤ, pos}
+use lib.Dec.{eqb, ltb}
+use lib.IntN.{ℤ, pos, _+ℤ_, _*ℤ_}
 use lib.ListN.{length, getD, take, drop, length-drop}
 use lib.Seq.{take-all, length-take-le}
-use borrow.Author.Tests.{ltb-true, ltb-false, lt-ltb, eq-eqb, ne-eqb}
+use borrow.Author.Tests.{ltb-true, ltb-false, lt-ltb, eqb-true, eqb-false, eq-eqb, ne-eqb}
 use Rattle.unicode.proofs.Utf8Laws.{by-test}
 use Rattle.scan.specs.Bytes.{other}
+use Rattle.scan.specs.Marks.{startsAt}
 use Rattle.scan.specs.Posts.{Ends}
 use Rattle.scan.specs.Split.{splitAt}
+use Rattle.scan.proofs.Searches.{mark-not, mark-beyond}
 use Rattle.scan.proofs.Splits.{split-more, split-last, once-more, once-none}
 use Rattle.scan.specs.Part.{part}
 use Rattle.unicode.specs.White.{Trimmed, trimmed}
-use Rattle.numerals.specs.declared.Whole.{Whole}
 use Rattle.numerals.specs.declared.Numeral.{Numeral}
+use Rattle.decimals.specs.declared.read.Decimal.{Decimal}
+use Rattle.times.specs.declared.sums.Sum.{Sum}
 use Rattle.times.specs.declared.offset.TimingCtx.{TimingCtx}
 use Rattle.times.specs.declared.offset.Time.{Time}
+use Rattle.times.specs.Sums.{checked}
 use Rattle.times.specs.Expressions as spec
-use Rattle.times.specs.Expressions.{timeDecimal, eachTime, rateTime, frameRate, tickRate, float, offsetTime, integer, unfractioned, secondsOf, summed, framed, afterSeconds, afterMinutes, afterHours, clockTime, timeIn}
+use Rattle.times.specs.Expressions.{_>>=_, timeOf, timeDecimal, frameRate, tickRate, float, offsetTime, integer, wholeIn, tested}
+use Rattle.times.specs.Expressions.{secondsOf, framesIn, clockOf, clockTime, timeIn}
+use Rattle.times.specs.Steps.{plus, eachTime, rateTime, fractioned, summed, afterSeconds, afterMinutes, afterHours}
+
+-- ---- going on
+then-is : (t : Time) → (t >>= λ z. Time.Is z) ≡ t
+then-is (Time.Is z) = refl
+then-is Time.Nothing = refl
+then-is Time.Beyond = refl
+then-is Time.LongFraction = refl
+then-is Time.Overflow = refl
+
+then-then : (t : Time) (f g : ℤ → Time) → ((t >>= f) >>= g) ≡ (t >>= λ z. f z >>= g)
+then-then (Time.Is z) f g = refl
+then-then Time.Nothing f g = refl
+then-then Time.Beyond f g = refl
+then-then Time.LongFraction f g = refl
+then-then Time.Overflow f g = refl
+
+-- an answer that has no value is kept
+pub then-other : (t : Time) (f : ℤ → Time) → ((z : ℤ) → t ≡ Time.Is z → ⊥) → t ≡ (t >>= f)
+then-other (Time.Is z) f n = absurd (n z refl)
+then-other Time.Nothing f n = refl
+then-other Time.Beyond f n = refl
+then-other Time.LongFraction f n = refl
+then-other Time.Overflow f n = refl
+
+-- the program's sums of sums
+pub plus-then : (a b : Sum) → timeOf (plus a b) ≡ (timeOf a >>= λ x. timeOf b >>= λ y. tested (x +ℤ y))
+plus-then (Sum.Is x) (Sum.Is y) = refl
+plus-then (Sum.Is x) Sum.Overflow = refl
+plus-then Sum.Overflow b = refl
 
 -- what follows a place, as the program's `&s[k..]` has it
 pub rest-of : (s : List ℕ) (k : ℕ) → take (length s - k) (drop k s) ≡ drop k s
@@ -41,82 +77,77 @@ module _ (b : ℕ) (s : List ℕ) (r : ℕ) (e : Ends (other b) s 0 r) where
   parts-last h = rw (first-whole h) (split-last b s (omega (arith, e .is)))
 
 -- ---- the parts of a clock time
+no-parts : (n : Numeral) → Time.Nothing ≡ (wholeIn n >>= λ x. Time.Nothing)
+no-parts (Numeral.Is w) = refl
+no-parts Numeral.Nothing = refl
+
+summed-then : (x y : ℤ) (s : Time) (g : ℤ → Time) → (s >>= λ z. spec.hoursMinutes x y >>= λ a. tested (a +ℤ z) >>= g) ≡ (summed x y s >>= g)
+summed-then x y s g =
+    sym (then-then s (λ z. spec.hoursMinutes x y >>= λ a. tested (a +ℤ z)) g
+    ∙ (λ i. s >>= λ z. then-then (spec.hoursMinutes x y) (λ a. tested (a +ℤ z)) g i))
+
+-- what the steps of the program make up
+pub by-steps : (h : List ℕ) (ps : List (List ℕ)) (ctx : TimingCtx) → clockOf (h ∷ ps) ctx ≡ (wholeIn (integer h) >>= λ x. afterHours x ps ctx)
+by-steps h [] ctx = no-parts (integer h)
+by-steps h (m ∷ []) ctx = refl
+by-steps h (m ∷ s ∷ []) ctx = λ i. wholeIn (integer h) >>= λ x. wholeIn (integer m) >>= λ y. sym (then-is (summed x y (secondsOf s))) i
+by-steps h (m ∷ s ∷ f ∷ ps) ctx =
+    λ i. wholeIn (integer h) >>= λ x. wholeIn (integer m) >>= λ y.
+    summed-then x y (secondsOf s) (λ t. framesIn t (timeDecimal f) (frameRate ctx)) i
+
 module _ (s : List ℕ) (r : ℕ) (e : Ends (other 58) s 0 r) (ctx : TimingCtx) where
-  pub frames-first : (t : Time) → afterSeconds t (splitAt 58 s) ctx ≡ framed t (timeDecimal (take r s)) ctx
-  frames-first t = by-test (ltb r (length s)) (λ w. rw (parts-more 58 s r e (ltb-true r (length s) w))) (λ w. rw (parts-last 58 s r e (ltb-false r (length s) w)))
+  pub frames-first : (t : ℤ) → afterSeconds t (splitAt 58 s) ctx ≡ framesIn t (timeDecimal (take r s)) (frameRate ctx)
+  frames-first t =
+      by-test (ltb r (length s))
+      (λ w. rw (parts-more 58 s r e (ltb-true r (length s) w)))
+      (λ w. rw (parts-last 58 s r e (ltb-false r (length s) w)))
 
-  module _ (h m : Numeral) where
+  module _ (h m : ℤ) where
     pub seconds-last : length s ≤ r → afterMinutes h m (splitAt 58 s) ctx ≡ summed h m (secondsOf (take r s))
-    seconds-last l = rw (parts-last 58 s r e l)
+    seconds-last l = rw (parts-last 58 s r e l) (then-is (summed h m (secondsOf (take r s))))
 
-    pub seconds-more : r < length s → afterMinutes h m (splitAt 58 s) ctx ≡ afterSeconds (summed h m (secondsOf (take r s))) (splitAt 58 (drop (r + 1) s)) ctx
+    pub seconds-more :
+        r < length s → afterMinutes h m (splitAt 58 s) ctx ≡
+        (summed h m (secondsOf (take r s)) >>= λ t. afterSeconds t (splitAt 58 (drop (r + 1) s)) ctx)
     seconds-more l = rw (parts-more 58 s r e l)
 
-  module _ (h : Numeral) where
-    pub minutes-last : length s ≤ r → afterHours h (splitAt 58 s) ctx ≡ summed h (integer (take r s)) (Time.Is (pos 0))
+  module _ (h : ℤ) where
+    pub minutes-last : length s ≤ r → afterHours h (splitAt 58 s) ctx ≡ (wholeIn (integer (take r s)) >>= λ y. spec.hoursMinutes h y)
     minutes-last l = rw (parts-last 58 s r e l)
 
-    pub minutes-more : r < length s → afterHours h (splitAt 58 s) ctx ≡ afterMinutes h (integer (take r s)) (splitAt 58 (drop (r + 1) s)) ctx
+    pub minutes-more :
+        r < length s → afterHours h (splitAt 58 s) ctx ≡ (wholeIn (integer (take r s)) >>= λ y. afterMinutes h y (splitAt 58 (drop (r + 1) s)) ctx)
     minutes-more l = rw (parts-more 58 s r e l)
 
   pub hours-last : length s ≤ r → clockTime s ctx ≡ Time.Nothing
   unfolding clockTime
   hours-last l = rw (parts-last 58 s r e l)
 
-  pub hours-more : r < length s → clockTime s ctx ≡ afterHours (integer (take r s)) (splitAt 58 (drop (r + 1) s)) ctx
+  pub hours-more : r < length s → clockTime s ctx ≡ (wholeIn (integer (take r s)) >>= λ x. afterHours x (splitAt 58 (drop (r + 1) s)) ctx)
   unfolding clockTime
-  hours-more l = rw (parts-more 58 s r e l)
+  hours-more l = rw (parts-more 58 s r e l) (by-steps (take r s) (splitAt 58 (drop (r + 1) s)) ctx)
 
--- what is no time stays none
-nothing-after : (ps : List (List ℕ)) (ctx : TimingCtx) → afterSeconds Time.Nothing ps ctx ≡ Time.Nothing
-nothing-after [] ctx = refl
-nothing-after (f ∷ ps) ctx = refl
-
-no-hours : (ps : List (List ℕ)) (ctx : TimingCtx) → afterHours Numeral.Nothing ps ctx ≡ Time.Nothing
-no-hours [] ctx = refl
-no-hours (m ∷ []) ctx = refl
-no-hours (m ∷ (s ∷ ps)) ctx = nothing-after ps ctx
-
-no-minutes : (h : Whole) (ps : List (List ℕ)) (ctx : TimingCtx) → afterMinutes (Numeral.Is h) Numeral.Nothing ps ctx ≡ Time.Nothing
-no-minutes h [] ctx = refl
-no-minutes h (s ∷ ps) ctx = nothing-after ps ctx
-
+-- what is no number is no time
 module _ (s : List ℕ) (r : ℕ) (e : Ends (other 58) s 0 r) (ctx : TimingCtx) (i : Numeral) (d : i ≡ integer (take r s)) (n : i ≡ Numeral.Nothing) where
   none : integer (take r s) ≡ Numeral.Nothing
   none = sym d ∙ n
 
-  pub minutes-none : (h : Whole) → Time.Nothing ≡ afterHours (Numeral.Is h) (splitAt 58 s) ctx
+  pub minutes-none : (h : ℤ) → Time.Nothing ≡ afterHours h (splitAt 58 s) ctx
   minutes-none h =
       by-test (ltb r (length s))
-      (λ w. sym (minutes-more s r e ctx (Numeral.Is h) (ltb-true r (length s) w) ∙ rw none (no-minutes h (splitAt 58 (drop (r + 1) s)) ctx)))
-      (λ w. sym (minutes-last s r e ctx (Numeral.Is h) (ltb-false r (length s) w) ∙ rw none))
+      (λ w. sym (minutes-more s r e ctx h (ltb-true r (length s) w) ∙ rw none))
+      (λ w. sym (minutes-last s r e ctx h (ltb-false r (length s) w) ∙ rw none))
 
   pub hours-none : r < length s → Time.Nothing ≡ clockTime s ctx
-  hours-none l = sym (hours-more s r e ctx l ∙ rw none (no-hours (splitAt 58 (drop (r + 1) s)) ctx))
-
--- the answers that are no time go through sums and frames as they are
-pub summed-other : (h m : Whole) (t : Time) → ((z : ℤ) → t ≡ Time.Is z → ⊥) → t ≡ summed (Numeral.Is h) (Numeral.Is m) t
-summed-other h m (Time.Is z) n = absurd (n z refl)
-summed-other h m Time.Nothing n = refl
-summed-other h m Time.Digits n = refl
-summed-other h m Time.Cut n = refl
-summed-other h m Time.Overflow n = refl
-
-pub after-other : (t : Time) (ps : List (List ℕ)) (ctx : TimingCtx) → ((z : ℤ) → t ≡ Time.Is z → ⊥) → t ≡ afterSeconds t ps ctx
-after-other t [] ctx n = refl
-after-other (Time.Is z) (f ∷ ps) ctx n = absurd (n z refl)
-after-other Time.Nothing (f ∷ ps) ctx n = refl
-after-other Time.Digits (f ∷ ps) ctx n = refl
-after-other Time.Cut (f ∷ ps) ctx n = refl
-after-other Time.Overflow (f ∷ ps) ctx n = refl
+  hours-none l = sym (hours-more s r e ctx l ∙ rw none)
 
 -- ---- seconds, by the point
 module _ (s : List ℕ) (r : ℕ) (e : Ends (other 46) s 0 r) where
-  pub point-none : length s ≤ r → secondsOf s ≡ unfractioned (integer (take r s))
+  pub point-none : length s ≤ r → secondsOf s ≡ (wholeIn (integer (take r s)) >>= λ n. tested (n *ℤ pos 1000000))
   unfolding secondsOf
   point-none h = rw (once-none 46 s (omega (arith, e .is)), first-whole 46 s r e h)
 
-  pub point-here : r < length s → secondsOf s ≡ spec.fractioned (integer (take r s)) (drop (r + 1) s)
+  pub point-here : r < length s → secondsOf s ≡ (wholeIn (integer (take r s)) >>= λ n. fractioned n (drop (r + 1) s))
   unfolding secondsOf
   point-here h = rw (once-more 46 s (omega (arith, e .is)), ← (e .is))
 
@@ -128,46 +159,95 @@ module _ (s : List ℕ) (r : ℕ) (e : Ends (other 46) s 0 r) where
       (λ w. sym (point-none (ltb-false r (length s) w) ∙ rw none))
 
 -- ---- the metric at the end
-module _ (s : List ℕ) (ctx : TimingCtx) where
-  module _ (is-s : getD s (length s - 1) 0 ≡ 115) where
-    pub metric-ms : 1 < length s → getD s (length s - 1 - 1) 0 ≡ 109 → spec.expression s ctx ≡ eachTime (timeDecimal (trimmed (take (length s - 1 - 1) s))) (float 1000)
-    unfolding spec.expression offsetTime
-    metric-ms h e =
-        let z : length s - 1 - 1 ≡ length s - 2 = omega arith in
-        let m : getD s (length s - 2) 0 ≡ 109 = rw z at e in
-        rw (z, eq-eqb (getD s (length s - 1) 0) 115 is-s, lt-ltb 1 (length s) h, eq-eqb (getD s (length s - 2) 0) 109 m)
+abbrev ms : List ℕ
+ms = 109 ∷ 115 ∷ []
 
-    pub metric-s : (1 < length s → getD s (length s - 1 - 1) 0 ≡ 109 → ⊥) → spec.expression s ctx ≡ eachTime (timeDecimal (trimmed (take (length s - 1) s))) (float 1000000)
-    unfolding spec.expression offsetTime
-    metric-s n =
-        by-test (ltb 1 (length s))
-        (λ w.
-        let z : length s - 1 - 1 ≡ length s - 2 = omega arith in
-        let m : getD s (length s - 2) 0 ≡ 109 → ⊥ = rw z at (n (ltb-true 1 (length s) w)) in
-        rw (eq-eqb (getD s (length s - 1) 0) 115 is-s, w, ne-eqb (getD s (length s - 2) 0) 109 m))
-        (λ w. rw (eq-eqb (getD s (length s - 1) 0) 115 is-s, w))
+module _ (s : List ℕ) (some : 0 < length s) where
+  last-is : (b : ℕ) → startsAt s (length s - 1) (b ∷ []) ≡ eqb (getD s (length s - 1) 0) b
+  unfolding startsAt
+  last-is b =
+      let l : length s - 1 < length s = omega arith in
+      rw (lt-ltb (length s - 1) (length s) l) (by (eqb (getD s (length s - 1) 0) b))
+    where
+      by : (t : Bool) → cond t true false ≡ t
+      by true = refl
+      by false = refl
 
-  pub metric-m : getD s (length s - 1) 0 ≡ 109 → spec.expression s ctx ≡ eachTime (timeDecimal (trimmed (take (length s - 1) s))) (float 60000000)
-  unfolding spec.expression offsetTime
-  metric-m e = rw e
+  ends-ms : 1 < length s → getD s (length s - 2) 0 ≡ 109 → getD s (length s - 1) 0 ≡ 115 → startsAt s (length s - 2) ms ≡ true
+  unfolding startsAt
+  ends-ms h m e =
+      let l : length s - 2 < length s = omega arith in
+      let z : length s - 2 + 1 ≡ length s - 1 = omega arith in
+      let g : length s - 1 < length s = omega arith in
+      rw (lt-ltb (length s - 2) (length s) l, m, z, lt-ltb (length s - 1) (length s) g, e)
 
-  pub metric-h : getD s (length s - 1) 0 ≡ 104 → spec.expression s ctx ≡ eachTime (timeDecimal (trimmed (take (length s - 1) s))) (float 3600000000)
-  unfolding spec.expression offsetTime
-  metric-h e = rw e
+  not-ms : ((1 < length s) → (getD s (length s - 2) 0 ≡ 109) → (getD s (length s - 1) 0 ≡ 115) → ⊥) → startsAt s (length s - 2) ms ≡ false
+  not-ms n =
+      by-test (ltb 1 (length s))
+      (λ w.
+      let h = ltb-true 1 (length s) w in
+      let z : length s - 2 + 1 ≡ length s - 1 = omega arith in
+      let o : length s - 2 + 0 ≡ length s - 2 = omega arith in
+      by-test (eqb (getD s (length s - 2) 0) 109)
+      (λ u. mark-not s ms (length s - 2) 1 (omega arith) (λ e. n h (eqb-true (getD s (length s - 2) 0) 109 u) (rw z at e)))
+      (λ u. mark-not s ms (length s - 2) 0 (omega arith) (λ e. eqb-false (getD s (length s - 2) 0) 109 u (rw o at e))))
+      (λ w. let h = ltb-false 1 (length s) w in mark-beyond s ms (length s - 2) 1 (omega arith) (omega arith))
 
-  pub metric-f : getD s (length s - 1) 0 ≡ 102 → spec.expression s ctx ≡ rateTime (timeDecimal (trimmed (take (length s - 1) s))) (frameRate ctx)
-  unfolding spec.expression offsetTime
-  metric-f e = rw e
+  abbrev count : ℕ → Decimal
+  count n = timeDecimal (trimmed (take n s))
 
-  pub metric-t : getD s (length s - 1) 0 ≡ 116 → spec.expression s ctx ≡ rateTime (timeDecimal (trimmed (take (length s - 1) s))) (tickRate ctx)
-  unfolding spec.expression offsetTime
-  metric-t e = rw e
+  module _ (ctx : TimingCtx) where
+    abbrev byLast : Bool → ℕ → Time
+    byLast t b =
+        cond t (offsetTime (take (length s - 2) s) (spec.each 1000) ctx)
+        (cond (eqb b 115) (offsetTime (take (length s - 1) s) (spec.each 1000000) ctx)
+        (cond (eqb b 109) (offsetTime (take (length s - 1) s) (spec.each 60000000) ctx)
+        (cond (eqb b 104) (offsetTime (take (length s - 1) s) (spec.each 3600000000) ctx)
+        (cond (eqb b 102) (offsetTime (take (length s - 1) s) spec.by-frames ctx)
+        (cond (eqb b 116) (offsetTime (take (length s - 1) s) spec.by-ticks ctx)
+        (clockTime s ctx))))))
 
-  pub metric-none : (getD s (length s - 1) 0 ≡ 115 → ⊥) → (getD s (length s - 1) 0 ≡ 109 → ⊥) → (getD s (length s - 1) 0 ≡ 104 → ⊥) → (getD s (length s - 1) 0 ≡ 102 → ⊥) → (getD s (length s - 1) 0 ≡ 116 → ⊥) → spec.expression s ctx ≡ clockTime s ctx
-  unfolding spec.expression
-  metric-none a b c d e =
-      let last = getD s (length s - 1) 0 in
-      rw (ne-eqb last 115 a, ne-eqb last 109 b, ne-eqb last 104 c, ne-eqb last 102 d, ne-eqb last 116 e)
+    by-last : spec.expression s ctx ≡ byLast (startsAt s (length s - 2) ms) (getD s (length s - 1) 0)
+    unfolding spec.expression
+    by-last = rw (last-is 115, last-is 109, last-is 104, last-is 102, last-is 116)
+
+    module _ (is-s : getD s (length s - 1) 0 ≡ 115) where
+      pub metric-ms : 1 < length s → getD s (length s - 1 - 1) 0 ≡ 109 → spec.expression s ctx ≡ eachTime (count (length s - 1 - 1)) (float 1000)
+      unfolding offsetTime
+      metric-ms h e =
+          let z : length s - 1 - 1 ≡ length s - 2 = omega arith in
+          by-last ∙ rw (ends-ms h (rw z at e) is-s, z)
+
+      pub metric-s : (1 < length s → getD s (length s - 1 - 1) 0 ≡ 109 → ⊥) → spec.expression s ctx ≡ eachTime (count (length s - 1)) (float 1000000)
+      unfolding offsetTime
+      metric-s n =
+          let z : length s - 1 - 1 ≡ length s - 2 = omega arith in
+          by-last ∙ rw (not-ms (λ h m e. n h (rw (← z) at m)), is-s)
+
+    -- the other metrics
+    module _ (b : ℕ) (is-b : getD s (length s - 1) 0 ≡ b) (not-s : b ≡ 115 → ⊥) where
+      by-byte : spec.expression s ctx ≡ byLast false b
+      by-byte = by-last ∙ rw (not-ms (λ h m e. not-s (sym is-b ∙ e)), is-b)
+
+    pub metric-m : getD s (length s - 1) 0 ≡ 109 → spec.expression s ctx ≡ eachTime (count (length s - 1)) (float 60000000)
+    unfolding offsetTime
+    metric-m e = by-byte 109 e (λ z. omega arith)
+
+    pub metric-h : getD s (length s - 1) 0 ≡ 104 → spec.expression s ctx ≡ eachTime (count (length s - 1)) (float 3600000000)
+    unfolding offsetTime
+    metric-h e = by-byte 104 e (λ z. omega arith)
+
+    pub metric-f : getD s (length s - 1) 0 ≡ 102 → spec.expression s ctx ≡ rateTime (count (length s - 1)) (frameRate ctx)
+    unfolding offsetTime
+    metric-f e = by-byte 102 e (λ z. omega arith)
+
+    pub metric-t : getD s (length s - 1) 0 ≡ 116 → spec.expression s ctx ≡ rateTime (count (length s - 1)) (tickRate ctx)
+    unfolding offsetTime
+    metric-t e = by-byte 116 e (λ z. omega arith)
+
+    module _ (b : ℕ) (is-b : getD s (length s - 1) 0 ≡ b) where
+      pub metric-none : (b ≡ 115 → ⊥) → (b ≡ 109 → ⊥) → (b ≡ 104 → ⊥) → (b ≡ 102 → ⊥) → (b ≡ 116 → ⊥) → spec.expression s ctx ≡ clockTime s ctx
+      metric-none a m h f t = by-byte b is-b a ∙ rw (ne-eqb b 115 a, ne-eqb b 109 m, ne-eqb b 104 h, ne-eqb b 102 f, ne-eqb b 116 t)
 
 -- ---- white space around it
 module _ (s : List ℕ) (a e : ℕ) (w : Trimmed s a e) (ctx : TimingCtx) where

@@ -80,7 +80,8 @@ module _ (a b x y : ℤ) (ea : x ≡ a) (eb : y ≡ b) (fa : mag a < 2 ^ 63) (fb
       pub up-over : ltZ z x ≡ true → 2 ^ 63 ≤ mag (a +ℤ b)
       up-over t = by a b fa fb (rw eb at up) (rw (ez, ea, eb) at t)
         where
-          by : (u v : ℤ) → mag u < 2 ^ 63 → mag v < 2 ^ 63 → leZ (pos 0) v ≡ true → ltZ (pos 9223372036854775807 -ℤ v) u ≡ true → 2 ^ 63 ≤ mag (u +ℤ v)
+          by : (u v : ℤ) → mag u < 2 ^ 63 → mag v < 2 ^ 63 → leZ (pos 0) v ≡ true → ltZ (pos 9223372036854775807 -ℤ v) u ≡ true
+              → 2 ^ 63 ≤ mag (u +ℤ v)
           by (pos m) (pos n) h l e t = omega (arith, ltb-true (9223372036854775807 - n) m (rw (top n l) at t))
           by (negsuc m) (pos n) h l e t = false-true (rw (top n l) at t)
           by u (negsuc n) h l e t = false-true e
@@ -88,7 +89,8 @@ module _ (a b x y : ℤ) (ea : x ≡ a) (eb : y ≡ b) (fa : mag a < 2 ^ 63) (fb
       pub up-fits : ltZ z x ≡ false → mag (a +ℤ b) < 2 ^ 63
       up-fits t = by a b fa fb (rw eb at up) (rw (ez, ea, eb) at t)
         where
-          by : (u v : ℤ) → mag u < 2 ^ 63 → mag v < 2 ^ 63 → leZ (pos 0) v ≡ true → ltZ (pos 9223372036854775807 -ℤ v) u ≡ false → mag (u +ℤ v) < 2 ^ 63
+          by : (u v : ℤ) → mag u < 2 ^ 63 → mag v < 2 ^ 63 → leZ (pos 0) v ≡ true → ltZ (pos 9223372036854775807 -ℤ v) u ≡ false
+              → mag (u +ℤ v) < 2 ^ 63
           by (pos m) (pos n) h l e t = omega (arith, ltb-false (9223372036854775807 - n) m (rw (top n l) at t))
           by (negsuc m) (pos n) h l e t = omega (arith, difference-mag n (suc m) 9223372036854775807 (omega arith) (omega arith))
           by u (negsuc n) h l e t = false-true e
@@ -105,27 +107,42 @@ module _ (a b x y : ℤ) (ea : x ≡ a) (eb : y ≡ b) (fa : mag a < 2 ^ 63) (fb
       pub down-over : ltZ x z ≡ true → 2 ^ 63 ≤ mag (a +ℤ b)
       down-over t = by a b fa fb (rw eb at down) (rw (ez, ea, eb) at t)
         where
-          by : (u v : ℤ) → mag u < 2 ^ 63 → mag v < 2 ^ 63 → leZ (pos 0) v ≡ false → ltZ u (negsuc 9223372036854775807 -ℤ v) ≡ true → 2 ^ 63 ≤ mag (u +ℤ v)
+          by : (u v : ℤ) → mag u < 2 ^ 63 → mag v < 2 ^ 63 → leZ (pos 0) v ≡ false → ltZ u (negsuc 9223372036854775807 -ℤ v) ≡ true
+              → 2 ^ 63 ≤ mag (u +ℤ v)
           by u (pos n) h l e t = absurd (omega (arith, leb-false 0 n e))
           by (pos m) (negsuc n) h l e t =
               by-test (ltb (suc n) 9223372036854775808)
-              (λ w. let g : suc n < 9223372036854775808 = ltb-true (suc n) 9223372036854775808 w in false-true (rw (shortfall (suc n) 9223372036854775808 g) at t))
-              (λ w. let g : 9223372036854775808 ≤ suc n = ltb-false (suc n) 9223372036854775808 w in absurd (omega (arith, ltb-true m (suc n - 9223372036854775808) (rw (difference (suc n) 9223372036854775808 g) at t))))
+              (λ w.
+              let g : suc n < 9223372036854775808 = ltb-true (suc n) 9223372036854775808 w in
+              false-true (rw (shortfall (suc n) 9223372036854775808 g) at t))
+              (λ w.
+              let g : 9223372036854775808 ≤ suc n = ltb-false (suc n) 9223372036854775808 w in
+              absurd
+              (omega (arith, ltb-true m (suc n - 9223372036854775808) (rw (difference (suc n) 9223372036854775808 g) at t))))
           by (negsuc m) (negsuc n) h l e t =
               by-test (ltb (suc n) 9223372036854775808)
-              (λ w. let g : suc n < 9223372036854775808 = ltb-true (suc n) 9223372036854775808 w in omega (arith, ltb-true (9223372036854775808 - suc (suc n)) m (rw (shortfall (suc n) 9223372036854775808 g) at t)))
+              (λ w.
+              let g : suc n < 9223372036854775808 = ltb-true (suc n) 9223372036854775808 w in
+              omega
+              (arith, ltb-true (9223372036854775808 - suc (suc n)) m (rw (shortfall (suc n) 9223372036854775808 g) at t)))
               (λ w. let g : 9223372036854775808 ≤ suc n = ltb-false (suc n) 9223372036854775808 w in omega arith)
 
       pub down-fits : ltZ x z ≡ false → mag (a +ℤ b) < 2 ^ 63
       down-fits t = by a b fa fb (rw eb at down) (rw (ez, ea, eb) at t)
         where
-          by : (u v : ℤ) → mag u < 2 ^ 63 → mag v < 2 ^ 63 → leZ (pos 0) v ≡ false → ltZ u (negsuc 9223372036854775807 -ℤ v) ≡ false → mag (u +ℤ v) < 2 ^ 63
+          by : (u v : ℤ) → mag u < 2 ^ 63 → mag v < 2 ^ 63 → leZ (pos 0) v ≡ false → ltZ u (negsuc 9223372036854775807 -ℤ v) ≡ false
+              → mag (u +ℤ v) < 2 ^ 63
           by u (pos n) h l e t = absurd (omega (arith, leb-false 0 n e))
           by (pos m) (negsuc n) h l e t = omega (arith, difference-mag m (suc n) 9223372036854775807 (omega arith) (omega arith))
           by (negsuc m) (negsuc n) h l e t =
               by-test (ltb (suc n) 9223372036854775808)
-              (λ w. let g : suc n < 9223372036854775808 = ltb-true (suc n) 9223372036854775808 w in omega (arith, ltb-false (9223372036854775808 - suc (suc n)) m (rw (shortfall (suc n) 9223372036854775808 g) at t)))
-              (λ w. let g : 9223372036854775808 ≤ suc n = ltb-false (suc n) 9223372036854775808 w in false-true (sym (rw (difference (suc n) 9223372036854775808 g) at t)))
+              (λ w.
+              let g : suc n < 9223372036854775808 = ltb-true (suc n) 9223372036854775808 w in
+              omega
+              (arith, ltb-false (9223372036854775808 - suc (suc n)) m (rw (shortfall (suc n) 9223372036854775808 g) at t)))
+              (λ w.
+              let g : 9223372036854775808 ≤ suc n = ltb-false (suc n) 9223372036854775808 w in
+              false-true (sym (rw (difference (suc n) 9223372036854775808 g) at t)))
 
 -- ---- a sign and a magnitude
 module _ (n : ℕ) where

@@ -1,3 +1,5 @@
+pub mod Text
 pub mod Sums
 pub mod Expressions
 pub mod Written
+pub mod Steps

@@ -1,6 +1,9 @@
 -- Sums and products of times, tested for overflow (document 01, number 16: "An i64 product or sum of times overflows"). Definitions alone.
 use Prim.Native.Nat.{ℕ, _^_}
-use mathlib.Core.Bool.{Bool, cond}
+use mathlib.Core.Path.{_≡_}
+use mathlib.Core.Logic.{_↔_}
+use mathlib.Core.List.{List, [], _∷_}
+use mathlib.Core.Bool.{Bool, true, false, cond}
 use lib.IntN.{ℤ, pos, negsuc, negℤ, _+ℤ_}
 use lib.Dec.{ltb}
 use Rattle.times.specs.declared.sums.Sum.{Sum}
@@ -19,8 +22,21 @@ checked z = cond (isI64 z) (Is z) Overflow
 abbrev pub signed : Bool → ℕ → ℤ
 signed negative n = cond negative (negℤ (pos n)) (pos n)
 
--- a sum of sums, each tested
-abbrev pub plus : Sum → Sum → Sum
-plus (Is a) (Is b) = checked (a +ℤ b)
-plus (Is a) Overflow = Overflow
-plus Overflow b = Overflow
+-- ---- the answer
+-- document 01's number, 0 where none is met, and the values of each case
+abbrev pub sumNumber : Sum → ℕ
+sumNumber (Is z) = 0
+sumNumber Overflow = 16
+
+abbrev pub sumValues : Sum → List ℤ
+sumValues (Is z) = z ∷ []
+sumValues Overflow = []
+
+abbrev pub SumSays : Sum → ℕ → List ℤ → Type 0
+SumSays r n values = (sumNumber r ≡ n) × (sumValues r ≡ values)
+
+-- What `add` promises: it says z exactly if z is the sum and an i64, and 16 exactly if the sum is none.
+pub record Adds (a b : ℤ) (r : Sum) : Type 0 where
+  pub is : r ≡ checked (a +ℤ b)
+  pub sum : (z : ℤ) → SumSays r 0 (z ∷ []) ↔ ((z ≡ a +ℤ b) × (isI64 z ≡ true))
+  pub overflow : SumSays r 16 [] ↔ (isI64 (a +ℤ b) ≡ false)

@@ -3,9 +3,11 @@ ghost use mathlib.Core.Path.{_≡_};
 ghost use Prim.Native.Nat.{_≤_, _<_, min};
 ghost use lib.ListN.{length, take};
 ghost use Rattle.scan.specs.Split.{splitAt};
-ghost use Rattle.times.specs.Sums as sums;
 ghost use Rattle.times.specs.Expressions as expressions;
-ghost use Rattle.times.specs.Expressions.{timeDecimal, timeOf, charsLength, microsOf, secondsOf, afterHours, afterMinutes, afterSeconds, clockTime, timeIn};
+ghost use Rattle.times.specs.Expressions.{timeDecimal, timeOf, frameRate, framesIn, charsLength, microsOf, secondsOf, clockTime};
+ghost use Rattle.times.specs.Expressions.{timeIn, ReadsTime};
+ghost use Rattle.times.specs.Steps as steps;
+ghost use Rattle.times.specs.Steps.{number, afterHours, afterMinutes, afterSeconds};
 use crate::offset::Time;
 use crate::offset::TimingCtx;
 use crate::sums::Sum;
@@ -29,7 +31,7 @@ fn time_of(sum: Sum) -> Time
 }
 
 fn plus(a: Sum, b: Sum) -> Sum
-    ensures { λ r. ⌜ r ≡ sums.plus a b ⌝ }
+    ensures { λ r. ⌜ r ≡ steps.plus a b ⌝ }
 {
     match a {
         Sum::Is(x) => match b {
@@ -82,11 +84,11 @@ fn micros(text: &[u8], len: usize) -> Sum
 }
 
 fn fractioned(seconds: Whole, fraction: &[u8]) -> Time
-    ensures { λ r. ⌜ r ≡ expressions.fractioned (Numeral.Is seconds) (now (fraction .entry)) ⌝ }
+    ensures { λ r. ⌜ r ≡ steps.fractioned (number seconds) (now (fraction .entry)) ⌝ }
 {
     let len = six_chars(fraction);
     if 6 < len {
-        return Time::Cut;
+        return Time::LongFraction;
     }
     time_of(plus(crate::sums::times(seconds, 1000000), micros(fraction, len)))
 }
@@ -107,21 +109,25 @@ fn seconds(text: &[u8]) -> Time
     }
 }
 
+// Hours and minutes, by the microseconds of each.
+fn in_units(h: Whole, hour: u64, m: Whole, minute: u64) -> Sum
+    requires { ⌜ (0 < hour) × (0 < minute) ⌝ }
+    ensures { λ r. ⌜ r ≡ steps.inUnits (number h) hour (number m) minute ⌝ }
+{
+    plus(crate::sums::times(h, hour), crate::sums::times(m, minute))
+}
+
 fn summed(h: Whole, m: Whole, s: Time) -> Time
-    ensures { λ r. ⌜ r ≡ expressions.summed (Numeral.Is h) (Numeral.Is m) s ⌝ }
+    ensures { λ r. ⌜ r ≡ steps.summed (number h) (number m) s ⌝ }
 {
     match s {
-        Time::Is(us) => {
-            let hours = crate::sums::times(h, 3600000000);
-            let minutes = crate::sums::times(m, 60000000);
-            time_of(plus(plus(hours, minutes), Sum::Is(us)))
-        }
+        Time::Is(us) => { time_of(plus(in_units(h, 3600000000, m, 60000000), Sum::Is(us))) }
         _ => s,
     }
 }
 
 fn framed(us: i64, frames: &[u8], ctx: TimingCtx) -> Time
-    ensures { λ r. ⌜ r ≡ expressions.framed (Time.Is us) (timeDecimal (now (frames .entry))) ctx ⌝ }
+    ensures { λ r. ⌜ r ≡ framesIn us (timeDecimal (now (frames .entry))) (frameRate ctx) ⌝ }
 {
     match decimals::read_decimal(frames, 15, 22) {
         Decimal::Is(d) => {
@@ -134,19 +140,19 @@ fn framed(us: i64, frames: &[u8], ctx: TimingCtx) -> Time
             Time::Is(us)
         }
         Decimal::Nothing => Time::Is(us),
-        Decimal::Beyond => Time::Digits,
+        Decimal::Beyond => Time::Beyond,
     }
 }
 
 // The clock time whose hours are h and whose minutes start at a place.
 fn after_hours(h: Whole, text: &[u8], ctx: TimingCtx) -> Time
-    ensures { λ r. ⌜ r ≡ afterHours (Numeral.Is h) (splitAt 58 (now (text .entry))) ctx ⌝ }
+    ensures { λ r. ⌜ r ≡ afterHours (number h) (splitAt 58 (now (text .entry))) ctx ⌝ }
 {
     let colon = scan::find_byte(text, 0, b':');
     match integer(&text[..colon]) {
         Numeral::Is(m) => {
             if text.len() <= colon {
-                return summed(h, m, Time::Is(0));
+                return time_of(in_units(h, 3600000000, m, 60000000));
             }
             after_minutes(h, m, &text[colon + 1..], ctx)
         }
@@ -155,7 +161,7 @@ fn after_hours(h: Whole, text: &[u8], ctx: TimingCtx) -> Time
 }
 
 fn after_minutes(h: Whole, m: Whole, text: &[u8], ctx: TimingCtx) -> Time
-    ensures { λ r. ⌜ r ≡ afterMinutes (Numeral.Is h) (Numeral.Is m) (splitAt 58 (now (text .entry))) ctx ⌝ }
+    ensures { λ r. ⌜ r ≡ afterMinutes (number h) (number m) (splitAt 58 (now (text .entry))) ctx ⌝ }
 {
     let colon = scan::find_byte(text, 0, b':');
     let total = summed(h, m, seconds(&text[..colon]));
@@ -169,7 +175,7 @@ fn after_minutes(h: Whole, m: Whole, text: &[u8], ctx: TimingCtx) -> Time
 }
 
 fn after_seconds(us: i64, text: &[u8], ctx: TimingCtx) -> Time
-    ensures { λ r. ⌜ r ≡ afterSeconds (Time.Is us) (splitAt 58 (now (text .entry))) ctx ⌝ }
+    ensures { λ r. ⌜ r ≡ afterSeconds us (splitAt 58 (now (text .entry))) ctx ⌝ }
 {
     let colon = scan::find_byte(text, 0, b':');
     framed(us, &text[..colon], ctx)
@@ -214,7 +220,7 @@ fn expression(text: &[u8], ctx: TimingCtx) -> Time
 
 // The time that a text is, in microseconds.
 pub fn parse_ttml_time(text: &[u8], ctx: TimingCtx) -> Time
-    ensures { λ r. ⌜ r ≡ timeIn (now (text .entry)) ctx ⌝ }
+    ensures { λ r. ⌜ ReadsTime (timeIn (now (text .entry)) ctx) r ⌝ }
 {
     let span = unicode::trim(text);
     let start = span.start;

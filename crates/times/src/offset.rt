@@ -1,7 +1,8 @@
 // Offset times: a count and its metric.
 ghost use mathlib.Core.Path.{_≡_};
 ghost use Rattle.unicode.specs.White.{trimmed};
-ghost use Rattle.times.specs.Expressions.{timeDecimal, eachTime, rateTime, given};
+ghost use Rattle.times.specs.Expressions.{timeDecimal, given};
+ghost use Rattle.times.specs.Steps.{eachTime, rateTime};
 use decimals::Decimal;
 
 // The frame rate and the tick rate that a document gives, if it does.
@@ -19,9 +20,9 @@ pub enum Time {
     // no time
     Nothing,
     // 14: a decimal past its limits
-    Digits,
+    Beyond,
     // 15: the first six characters of a fraction have more than six bytes
-    Cut,
+    LongFraction,
     // 16: a product or a sum overflows
     Overflow,
 }
@@ -43,7 +44,7 @@ pub fn units(text: &[u8], unit: f64) -> Time
     match read_count(text) {
         Decimal::Is(d) => Time::Is(decimals::truncate(decimals::to_f64(d) * unit)),
         Decimal::Nothing => Time::Nothing,
-        Decimal::Beyond => Time::Digits,
+        Decimal::Beyond => Time::Beyond,
     }
 }
 
@@ -62,6 +63,6 @@ pub fn at_rate(text: &[u8], present: bool, rate: f64) -> Time
             Time::Is(decimals::truncate(decimals::to_f64(d) / rate * 1000000.0))
         }
         Decimal::Nothing => Time::Nothing,
-        Decimal::Beyond => Time::Digits,
+        Decimal::Beyond => Time::Beyond,
     }
 }

@@ -1,8 +1,8 @@
 // Signed sums and products of times, tested for overflow.
 ghost use mathlib.Core.Path.{_≡_};
 ghost use Prim.Native.Nat.{_<_};
-ghost use lib.IntN.{_+ℤ_, _*ℤ_, pos};
-ghost use Rattle.times.specs.Sums.{checked, signed};
+ghost use lib.IntN.{_*ℤ_, pos};
+ghost use Rattle.times.specs.Sums.{checked, signed, Adds};
 use numerals::Whole;
 
 pub enum Sum {
@@ -12,7 +12,7 @@ pub enum Sum {
 
 // a + b, if it is an i64.
 pub fn add(a: i64, b: i64) -> Sum
-    ensures { λ r. ⌜ r ≡ checked (a +ℤ b) ⌝ }
+    ensures { λ r. ⌜ Adds a b r ⌝ }
 {
     if 0 <= b {
         if 9223372036854775807 - b < a {

@@ -30,7 +30,9 @@ small-channel-requires c κs = small _ _ _ (c .read-numeral .ensures)
 
 returns : tie.Need-returns
 returns c =
-    c .small-channel .ensures ∙ ap channelOf (c .before .read-numeral .ensures ∙ ap (λ (l : List ℕ). numeralOf l 10 255 false) (c .before .before .before .trim .ensures .is))
+    let c3 = c .before .before .before in
+    c .small-channel .ensures ∙ ap channelOf (c .before .read-numeral .ensures
+    ∙ ap (λ (l : List ℕ). numeralOf l 10 255 false) (c3 .trim .ensures .is))
 
 pub decimal-channel-spec : {M : Type 1} → statement M
 decimal-channel-spec =

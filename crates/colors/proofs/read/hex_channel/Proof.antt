@@ -12,7 +12,8 @@ is-boundary-requires c κs = search needs
 
 returns : tie.Need-returns
 returns c =
-    sym (channel-cut-start (c .before .before .before .args .text .now) (c .before .before .before .args .at) _ _ (sym (c .before .is-boundary .ensures) ∙ not-true _ (c .if1 .taken)))
+    let c3 = c .before .before .before in
+    sym (channel-cut-start (c3 .args .text .now) (c3 .args .at) _ _ (sym (c .before .is-boundary .ensures) ∙ not-true _ (c .if1 .taken)))
 
 add-is-boundary : tie.Need-add-is-boundary
 add-is-boundary c = search needs
@@ -22,7 +23,8 @@ is-boundary-requires-2 c κs = search needs
 
 returns-2 : tie.Need-returns-2
 returns-2 c =
-    sym (channel-cut-end (c .before .before .before .before .before .args .text .now) (c .before .before .before .before .before .args .at) _ _ (sym (c .before .is-boundary2 .ensures) ∙ not-true _ (c .if2 .taken)))
+    let c5 = c .before .before .before .before .before in
+    sym (channel-cut-end (c5 .args .text .now) (c5 .args .at) _ _ (sym (c .before .is-boundary2 .ensures) ∙ not-true _ (c .if2 .taken)))
 
 shared-slice-read-t9 : tie.Need-shared-slice-read-t9
 shared-slice-read-t9 c = search needs
@@ -41,9 +43,17 @@ small-channel-requires c κs = small _ _ _ (c .read-numeral .ensures)
 
 returns-3 : tie.Need-returns-3
 returns-3 c =
+    let c5 = c .before .before .before .before .before in
+    let c6 = c5 .before in
+    let c7 = c6 .before in
+    let c8 = c7 .before in
+    let c9 = c8 .before in
+    let c11 = c9 .before .before in
     c .small-channel .ensures
     ∙ (ap channelOf (c .before .read-numeral .ensures)
-    ∙ sym (channel-is (c .before .before .before .before .before .before .before .before .before .before .before .args .text .now) (c .before .before .before .before .before .before .before .before .before .before .before .args .at) _ _ _ (sym (c .before .before .before .before .before .before .before .before .before .is-boundary .ensures) ∙ not-false _ (c .before .before .before .before .before .before .before .before .if1 .left)) (sym (c .before .before .before .before .before .before .before .is-boundary2 .ensures) ∙ not-false _ (c .before .before .before .before .before .before .if2 .left)) (narrow (c .before .before .before .before .before .before .before .before .before .before .before .args .text .now) (c .before .before .before .before .before .before .before .before .before .before .before .args .at) (c .before .before .before .before .before .before .before .before .before .before .before .args .width) (c .before .before .before .before .before .if3 .taken) (c .before .before .before .before .before .before .before .before .before .before .before .pre .2))))
+    ∙ sym (channel-is (c11 .args .text .now) (c11 .args .at) _ _ _ (sym (c9 .is-boundary .ensures)
+    ∙ not-false _ (c8 .if1 .left)) (sym (c7 .is-boundary2 .ensures) ∙ not-false _ (c6 .if2 .left))
+    (narrow (c11 .args .text .now) (c11 .args .at) (c11 .args .width) (c5 .if3 .taken) (c11 .pre .2))))
 
 add-read-numeral : tie.Need-add-read-numeral
 add-read-numeral c = search needs
@@ -65,9 +75,17 @@ small-channel-requires-2 c κs = small _ _ _ (c .read-numeral2 .ensures)
 
 returns-4 : tie.Need-returns-4
 returns-4 c =
+    let c3 = c .before .before .before in
+    let c4 = c3 .before in
+    let c5 = c4 .before in
+    let c6 = c5 .before in
+    let c7 = c6 .before in
+    let c9 = c7 .before .before in
     c .small-channel2 .ensures
     ∙ (ap channelOf (c .before .read-numeral2 .ensures)
-    ∙ sym (channel-is (c .before .before .before .before .before .before .before .before .before .args .text .now) (c .before .before .before .before .before .before .before .before .before .args .at) _ _ _ (sym (c .before .before .before .before .before .before .before .is-boundary .ensures) ∙ not-false _ (c .before .before .before .before .before .before .if1 .left)) (sym (c .before .before .before .before .before .is-boundary2 .ensures) ∙ not-false _ (c .before .before .before .before .if2 .left)) (wide (c .before .before .before .before .before .before .before .before .before .args .text .now) (c .before .before .before .before .before .before .before .before .before .args .at) (c .before .before .before .before .before .before .before .before .before .args .width) (c .before .before .before .if3 .left) _)))
+    ∙ sym (channel-is (c9 .args .text .now) (c9 .args .at) _ _ _ (sym (c7 .is-boundary .ensures)
+    ∙ not-false _ (c6 .if1 .left)) (sym (c5 .is-boundary2 .ensures) ∙ not-false _ (c4 .if2 .left))
+    (wide (c9 .args .text .now) (c9 .args .at) (c9 .args .width) (c3 .if3 .left) _)))
 
 pub hex-channel-spec : {M : Type 1} → statement M
 hex-channel-spec =

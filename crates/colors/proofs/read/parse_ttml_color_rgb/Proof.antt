@@ -2,6 +2,7 @@
 use mathlib.Core.Path.{sym, ap, _∙_}
 use Rattle.colors.specs.Colors.{opaque}
 use borrow.Author.Needs.{needs}
+use Rattle.colors.proofs.Answers.{reads-color}
 use Rattle.colors.proofs.read.parse_ttml_color_rgb.Statement.{statement}
 use Rattle.colors.proofs.read.parse_ttml_color_rgb.Tie as tie
 
@@ -18,13 +19,13 @@ enum-told-2 : tie.Need-enum-told-2
 enum-told-2 c = search needs
 
 returns : tie.Need-returns
-returns c = ap opaque (sym (c .before .c .given .1) ∙ c .before .before .before .parse-ttml-color-rgba .ensures)
+returns c = reads-color (ap opaque (sym (c .before .c .given .1) ∙ c .before .before .before .parse-ttml-color-rgba .ensures .is))
 
 returns-2 : tie.Need-returns-2
-returns-2 c = ap opaque (sym (c .enum-told .given .1) ∙ c .before .before .parse-ttml-color-rgba .ensures)
+returns-2 c = reads-color (ap opaque (sym (c .enum-told .given .1) ∙ c .before .before .parse-ttml-color-rgba .ensures .is))
 
 returns-3 : tie.Need-returns-3
-returns-3 c = ap opaque (sym (c .enum-told2 .given .1) ∙ c .before .before .parse-ttml-color-rgba .ensures)
+returns-3 c = reads-color (ap opaque (sym (c .enum-told2 .given .1) ∙ c .before .before .parse-ttml-color-rgba .ensures .is))
 
 pub parse-ttml-color-rgb-spec : {M : Type 1} → statement M
 parse-ttml-color-rgb-spec =

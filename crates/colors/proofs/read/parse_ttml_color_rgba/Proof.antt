@@ -2,6 +2,7 @@
 use mathlib.Core.Path.{ap, _∙_}
 use Rattle.colors.specs.Colors.{color, colorIn}
 use borrow.Author.Needs.{needs}
+use Rattle.colors.proofs.Answers.{reads-color}
 use Rattle.colors.proofs.read.parse_ttml_color_rgba.Statement.{statement}
 use Rattle.colors.proofs.read.parse_ttml_color_rgba.Tie as tie
 
@@ -22,7 +23,7 @@ trimmed-color-requires c κs = search needs
 
 returns : tie.Need-returns
 unfolding colorIn
-returns c = c .trimmed-color .ensures ∙ ap color (c .before .before .trim .ensures .is)
+returns c = reads-color (c .trimmed-color .ensures ∙ ap color (c .before .before .trim .ensures .is))
 
 pub parse-ttml-color-rgba-spec : {M : Type 1} → statement M
 parse-ttml-color-rgba-spec =

@@ -1,6 +1,7 @@
 -- `rgb_color` answers the colour of three channels between commas, and of any other number of them that of the name.
 use mathlib.Core.Path.{sym, _∙_}
 use lib.Seq.{length-take-le}
+use Rattle.colors.specs.Colors.{colorOf, full}
 use Rattle.colors.proofs.Reading.{parts-one, parts-two, parts-three, parts-many}
 use borrow.Author.Needs.{needs}
 use Rattle.colors.proofs.read.rgb_color.Statement.{statement}
@@ -14,7 +15,9 @@ named-requires c κs = search needs
 
 returns : tie.Need-returns
 returns c =
-    c .named .ensures ∙ sym (parts-one (c .before .before .before .before .before .args .text .now) (c .before .before .before .before .before .args .inside .now) _ (c .before .before .find-byte .ensures) (c .before .if1 .taken))
+    let one = c .before .before in
+    let a = one .before .before .before .args in
+    c .named .ensures ∙ sym (parts-one (a .text .now) (a .inside .now) _ (one .find-byte .ensures) (c .before .if1 .taken))
 
 add-find-byte : tie.Need-add-find-byte
 add-find-byte c = search needs
@@ -27,7 +30,11 @@ named-requires-2 c κs = search needs
 
 returns-2 : tie.Need-returns-2
 returns-2 c =
-    c .named2 .ensures ∙ sym (parts-two (c .before .before .before .before .before .before .before .args .text .now) (c .before .before .before .before .before .before .before .args .inside .now) _ (c .before .before .before .before .find-byte .ensures) (c .before .before .before .if1 .left) _ (c .before .before .find-byte2 .ensures) (c .before .if2 .taken))
+    let two = c .before .before in
+    let one = two .before .before in
+    let a = one .before .before .before .args in
+    let first = parts-two (a .text .now) (a .inside .now) _ (one .find-byte .ensures) (two .before .if1 .left) in
+    c .named2 .ensures ∙ sym (first _ (two .find-byte2 .ensures) (c .before .if2 .taken))
 
 add-find-byte-2 : tie.Need-add-find-byte-2
 add-find-byte-2 c = search needs
@@ -40,42 +47,69 @@ named-requires-3 c κs = search needs
 
 returns-3 : tie.Need-returns-3
 returns-3 c =
-    c .named3 .ensures ∙ sym (parts-many (c .before .before .before .before .before .before .before .before .before .args .text .now) (c .before .before .before .before .before .before .before .before .before .args .inside .now) _ (c .before .before .before .before .before .before .find-byte .ensures) (c .before .before .before .before .before .if1 .left) _ (c .before .before .before .before .find-byte2 .ensures) (c .before .before .before .if2 .left) _ (c .before .before .find-byte3 .ensures) (c .before .if3 .taken))
+    let three = c .before .before in
+    let two = three .before .before in
+    let one = two .before .before in
+    let a = one .before .before .before .args in
+    let first = parts-many (a .text .now) (a .inside .now) _ (one .find-byte .ensures) (two .before .if1 .left) in
+    let second = first _ (two .find-byte2 .ensures) (three .before .if2 .left) in
+    c .named3 .ensures ∙ sym (second _ (three .find-byte3 .ensures) (c .before .if3 .taken))
 
-slice-aggregate-rgb-red : tie.Need-slice-aggregate-rgb-red
-slice-aggregate-rgb-red c =
-    sym (length-take-le (c .before .before .before .before .before .before .find-byte .result) (c .before .before .before .before .before .before .before .before .before .args .inside .now) (c .before .before .before .before .before .before .find-byte .ensures .within))
+slice-aggregate-decimal-channel : tie.Need-slice-aggregate-decimal-channel
+slice-aggregate-decimal-channel c =
+    let one = c .before .before .before .before .before .before in
+    sym (length-take-le (one .find-byte .result) (one .before .before .before .args .inside .now) (one .find-byte .ensures .within))
 
-add-rgb-red : tie.Need-add-rgb-red
-add-rgb-red c = search needs
+decimal-channel-requires : tie.Need-decimal-channel-requires
+decimal-channel-requires c κs = search needs
 
-sub-rgb-red : tie.Need-sub-rgb-red
-sub-rgb-red c = search needs
+add-decimal-channel : tie.Need-add-decimal-channel
+add-decimal-channel c = search needs
 
-part-rgb-red-start : tie.Need-part-rgb-red-start
-part-rgb-red-start c = search needs
+sub-decimal-channel : tie.Need-sub-decimal-channel
+sub-decimal-channel c = search needs
 
-part-rgb-red-end : tie.Need-part-rgb-red-end
-part-rgb-red-end c = search needs
+part-decimal-channel-start : tie.Need-part-decimal-channel-start
+part-decimal-channel-start c = search needs
 
-add-rgb-red-2 : tie.Need-add-rgb-red-2
-add-rgb-red-2 c = search needs
+part-decimal-channel-end : tie.Need-part-decimal-channel-end
+part-decimal-channel-end c = search needs
 
-sub-rgb-red-2 : tie.Need-sub-rgb-red-2
-sub-rgb-red-2 c = search needs
+decimal-channel-requires-2 : tie.Need-decimal-channel-requires-2
+decimal-channel-requires-2 c κs = search needs
 
-part-rgb-red-start-2 : tie.Need-part-rgb-red-start-2
-part-rgb-red-start-2 c = search needs
+add-decimal-channel-2 : tie.Need-add-decimal-channel-2
+add-decimal-channel-2 c = search needs
 
-part-rgb-red-end-2 : tie.Need-part-rgb-red-end-2
-part-rgb-red-end-2 c = search needs
+sub-decimal-channel-2 : tie.Need-sub-decimal-channel-2
+sub-decimal-channel-2 c = search needs
 
-rgb-red-requires : tie.Need-rgb-red-requires
-rgb-red-requires c κs = search needs
+part-decimal-channel-start-2 : tie.Need-part-decimal-channel-start-2
+part-decimal-channel-start-2 c = search needs
+
+part-decimal-channel-end-2 : tie.Need-part-decimal-channel-end-2
+part-decimal-channel-end-2 c = search needs
+
+decimal-channel-requires-3 : tie.Need-decimal-channel-requires-3
+decimal-channel-requires-3 c κs = search needs
+
+color-of-requires : tie.Need-color-of-requires
+color-of-requires c κs = search needs
 
 returns-4 : tie.Need-returns-4
 returns-4 c =
-    c .rgb-red .ensures ∙ sym (parts-three (c .before .before .before .before .before .before .before .before .before .before .before .before .args .text .now) (c .before .before .before .before .before .before .before .before .before .before .before .before .args .inside .now) _ (c .before .before .before .before .before .before .before .before .before .find-byte .ensures) (c .before .before .before .before .before .before .before .before .if1 .left) _ (c .before .before .before .before .before .before .before .find-byte2 .ensures) (c .before .before .before .before .before .before .if2 .left) _ (c .before .before .before .before .before .find-byte3 .ensures) (c .before .before .before .before .if3 .left))
+    let c3 = c .before .before .before in
+    let c5 = c3 .before .before in
+    let red = c5 in
+    let three = red .before .before .before in
+    let two = three .before .before in
+    let one = two .before .before in
+    let a = one .before .before .before .args in
+    let first = parts-three (a .text .now) (a .inside .now) _ (one .find-byte .ensures) (two .before .if1 .left) in
+    let second = first _ (two .find-byte2 .ensures) (three .before .if2 .left) in
+    c .color-of .ensures
+    ∙ ((λ i. colorOf (red .decimal-channel .ensures i) (c3 .decimal-channel2 .ensures i) (c .before .decimal-channel3 .ensures i) full)
+    ∙ sym (second _ (three .find-byte3 .ensures) (red .before .before .if3 .left)))
 
 pub rgb-color-spec : {M : Type 1} → statement M
 rgb-color-spec =
@@ -92,14 +126,17 @@ rgb-color-spec =
     find-byte-requires-3
     named-requires-3
     returns-3
-    slice-aggregate-rgb-red
-    add-rgb-red
-    sub-rgb-red
-    part-rgb-red-start
-    part-rgb-red-end
-    add-rgb-red-2
-    sub-rgb-red-2
-    part-rgb-red-start-2
-    part-rgb-red-end-2
-    rgb-red-requires
+    slice-aggregate-decimal-channel
+    decimal-channel-requires
+    add-decimal-channel
+    sub-decimal-channel
+    part-decimal-channel-start
+    part-decimal-channel-end
+    decimal-channel-requires-2
+    add-decimal-channel-2
+    sub-decimal-channel-2
+    part-decimal-channel-start-2
+    part-decimal-channel-end-2
+    decimal-channel-requires-3
+    color-of-requires
     returns-4)

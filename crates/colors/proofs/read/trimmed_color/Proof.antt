@@ -31,7 +31,9 @@ hex-color-requires c κs = search needs
 
 returns-2 : tie.Need-returns-2
 returns-2 c =
-    c .hex-color .ensures ∙ (ap hexColor (to-end (c .before .before .before .before .before .before .args .text .now) 1) ∙ sym (color-hash (c .before .before .before .before .before .before .args .text .now) (omega arith) (c .before .before .if2 .taken)))
+    let c6 = c .before .before .before .before .before .before in
+    c .hex-color .ensures ∙ (ap hexColor (to-end (c6 .args .text .now) 1)
+    ∙ sym (color-hash (c6 .args .text .now) (omega arith) (c .before .before .if2 .taken)))
 
 sub-end : tie.Need-sub-end
 sub-end c = search needs
@@ -56,17 +58,25 @@ rgb-color-requires c κs = search needs
 
 returns-3 : tie.Need-returns-3
 returns-3 c =
+    let c4 = c .before .before .before .before in
+    let c5 = c4 .before in
+    let c7 = c5 .before .before in
+    let c8 = c7 .before in
+    let c12 = c8 .before .before .before .before in
     c .rgb-color .ensures
-    ∙ sym (color-rgb (c .before .before .before .before .before .before .before .before .before .before .before .before .args .text .now) (omega arith) (c .before .before .before .before .before .before .before .before .if2 .left) (rgb-is (c .before .before .before .before .before .before .before .before .before .before .before .before .args .text .now) (sym (c .before .before .before .before .before .starts-with .ensures .is) ∙ c .before .before .before .before .if4 .taken) (c .before .before .before .before .before .before .before .if3 .taken) (c .before .before .if5 .taken)))
+    ∙ sym (color-rgb (c12 .args .text .now) (omega arith) (c8 .if2 .left) (rgb-is (c12 .args .text .now) (sym (c5 .starts-with .ensures .is)
+    ∙ c4 .if4 .taken) (c7 .if3 .taken) (c .before .before .if5 .taken)))
 
 named-requires-2 : tie.Need-named-requires-2
 named-requires-2 c κs = search needs
 
 returns-4 : tie.Need-returns-4
 returns-4 c =
+    let c6 = c .before .before .before .before .before .before in
     c .named2 .ensures
-    ∙ sym (color-name (c .before .before .before .before .before .before .args .text .now) (omega arith) (c .before .before .if2 .left)
-    (⊎-elim (λ w. rgb-open (c .before .before .before .before .before .before .args .text .now) (w .5 .left)) (⊎-elim (λ w. rgb-unmarked (c .before .before .before .before .before .before .args .text .now) (sym (w .2 .ensures .is) ∙ w .3 .left)) (λ w. rgb-short (c .before .before .before .before .before .before .args .text .now) (w .left))) (c .before .if3 .came)))
+    ∙ sym (color-name (c6 .args .text .now) (omega arith) (c .before .before .if2 .left)
+    (⊎-elim (λ w. rgb-open (c6 .args .text .now) (w .5 .left)) (⊎-elim (λ w. rgb-unmarked (c6 .args .text .now) (sym (w .2 .ensures .is)
+    ∙ w .3 .left)) (λ w. rgb-short (c6 .args .text .now) (w .left))) (c .before .if3 .came)))
 
 pub trimmed-color-spec : {M : Type 1} → statement M
 trimmed-color-spec =

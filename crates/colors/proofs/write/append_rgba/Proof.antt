@@ -19,14 +19,30 @@ cast-put-digits c = search needs
 
 put-digits-requires : tie.Need-put-digits-requires
 put-digits-requires c κs =
-    (omega (arith, c .before .before .before .before .before .before .before .before .pre, c .before .before .before .before .before .before .if1 .left, c .before .before .before .before .put-rgb .ensures .next, appended-kept (c .before .before .before .before .put-rgb .ensures), rgb-length (c .before .before .before .before .before .before .before .before .args .c)), omega arith, omega arith)
+    let c4 = c .before .before .before .before in
+    let c6 = c4 .before .before in
+    let c8 = c6 .before .before in (
+      omega (
+        arith,
+        c8 .pre,
+        c6 .if1 .left,
+        c4 .put-rgb .ensures .next,
+        appended-kept (c4 .put-rgb .ensures),
+        rgb-length
+            (c8 .args .c),
+      ),
+      omega arith,
+      omega arith,
+    )
 
 same-length : tie.Need-same-length
 same-length c = search needs
 
 returns-2 : tie.Need-returns-2
 returns-2 c =
-    rgba-put (c .before .before .before .before .before .before .before .before .before .before .before .args .c) (c .before .before .before .before .before .before .before .put-rgb .ensures) (c .before .before .put-digits .ensures)
+    let c7 = c .before .before .before .before .before .before .before in
+    let c11 = c7 .before .before .before .before in
+    rgba-put (c11 .args .c) (c7 .put-rgb .ensures) (c .before .before .put-digits .ensures)
 
 pub append-rgba-spec : {M : Type 1} → statement M
 append-rgba-spec =

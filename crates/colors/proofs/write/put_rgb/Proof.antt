@@ -24,18 +24,51 @@ cast-put-digits-2 c = search needs
 
 put-digits-requires-2 : tie.Need-put-digits-requires-2
 put-digits-requires-2 c κs =
-    (omega (arith, c .before .before .before .before .before .before .before .before .pre, length-set (c .before .before .before .before .before .before .before .before .args .out .now) (c .before .before .before .before .before .before .before .before .args .at) 35, c .before .before .before .before .put-digits .ensures .next, appended-kept (c .before .before .before .before .put-digits .ensures), hex-length (c .before .before .before .before .before .before .before .before .args .c .r)), omega arith, omega arith)
+    let c4 = c .before .before .before .before in
+    let c8 = c4 .before .before .before .before in (
+      omega (
+        arith,
+        c8 .pre,
+        length-set (c8 .args .out .now) (c8 .args .at) 35,
+        c4 .put-digits .ensures .next,
+        appended-kept
+            (c4 .put-digits .ensures),
+        hex-length (c8 .args .c .r),
+      ),
+      omega arith,
+      omega arith,
+    )
 
 cast-put-digits-3 : tie.Need-cast-put-digits-3
 cast-put-digits-3 c = search needs
 
 put-digits-requires-3 : tie.Need-put-digits-requires-3
 put-digits-requires-3 c κs =
-    (omega (arith, c .before .before .before .before .before .before .before .before .before .before .before .before .before .pre, length-set (c .before .before .before .before .before .before .before .before .before .before .before .before .before .args .out .now) (c .before .before .before .before .before .before .before .before .before .before .before .before .before .args .at) 35, c .before .before .before .before .before .before .before .before .before .put-digits .ensures .next, appended-kept (c .before .before .before .before .before .before .before .before .before .put-digits .ensures), hex-length (c .before .before .before .before .before .before .before .before .before .before .before .before .before .args .c .r), c .before .before .before .before .put-digits2 .ensures .next, appended-kept (c .before .before .before .before .put-digits2 .ensures), hex-length (c .before .before .before .before .before .before .before .before .before .before .before .before .before .args .c .g)), omega arith, omega arith)
+    let c4 = c .before .before .before .before in
+    let c9 = c4 .before .before .before .before .before in
+    let c13 = c9 .before .before .before .before in (
+      omega (
+        arith,
+        c13 .pre,
+        length-set (c13 .args .out .now) (c13 .args .at) 35,
+        c9 .put-digits .ensures .next,
+        appended-kept
+            (c9 .put-digits .ensures),
+        hex-length (c13 .args .c .r),
+        c4 .put-digits2 .ensures .next,
+        appended-kept (c4 .put-digits2 .ensures),
+        hex-length (c13 .args .c .g),
+      ),
+      omega arith,
+      omega arith,
+    )
 
 returns : tie.Need-returns
 returns c =
-    rgb-put (c .before .before .before .before .before .before .before .before .before .before .before .before .before .before .before .before .args .c) (omega (arith, c .before .before .before .before .before .before .before .before .before .before .before .before .before .before .before .before .pre)) (c .before .before .before .before .before .before .before .before .before .before .before .before .put-digits .ensures) (c .before .before .before .before .before .before .before .put-digits2 .ensures) (c .before .before .put-digits3 .ensures)
+    let c7 = c .before .before .before .before .before .before .before in
+    let c12 = c7 .before .before .before .before .before in
+    let c16 = c12 .before .before .before .before in
+    rgb-put (c16 .args .c) (omega (arith, c16 .pre)) (c12 .put-digits .ensures) (c7 .put-digits2 .ensures) (c .before .before .put-digits3 .ensures)
 
 same-length : tie.Need-same-length
 same-length c = appended-kept (returns c)

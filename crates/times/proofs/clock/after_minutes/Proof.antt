@@ -8,10 +8,11 @@ use mir.Syntax.{w64}
 use mir.ValLaws.{toZ-ofZ}
 use borrow.Author.Needs.{needs}
 use Rattle.scan.specs.Split.{splitAt}
-use Rattle.numerals.specs.declared.Numeral.{Numeral}
+use lib.IntN.{ℤ}
 use Rattle.times.specs.declared.offset.Time.{Time}
-use Rattle.times.specs.Expressions.{secondsOf, summed, afterSeconds}
-use Rattle.times.proofs.Parts.{first-length, rest-of, seconds-last, seconds-more, after-other}
+use Rattle.times.specs.Expressions.{_>>=_, secondsOf}
+use Rattle.times.specs.Steps.{number, summed, afterSeconds}
+use Rattle.times.proofs.Parts.{first-length, rest-of, seconds-last, seconds-more, then-other}
 use Rattle.times.proofs.clock.after_minutes.Statement.{statement}
 use Rattle.times.proofs.clock.after_minutes.Tie as tie
 
@@ -29,9 +30,10 @@ summed-requires c κs = search needs
 
 returns : tie.Need-returns
 returns c =
-    let a = c .before .before .before .before .before .before .args in
-    c .before .summed .ensures ∙ (ap (summed (Numeral.Is (a .h)) (Numeral.Is (a .m))) (c .before .before .seconds .ensures)
-    ∙ sym (seconds-last _ _ (c .before .before .before .before .find-byte .ensures) (a .ctx) (Numeral.Is (a .h)) (Numeral.Is (a .m)) (c .if1 .taken)))
+    let found = c .before .before .before .before in
+    let a = found .before .before .args in
+    c .before .summed .ensures ∙ (ap (summed (number (a .h)) (number (a .m))) (c .before .before .seconds .ensures)
+    ∙ sym (seconds-last _ _ (found .find-byte .ensures) (a .ctx) (number (a .h)) (number (a .m)) (c .if1 .taken)))
 
 enum-known-total : tie.Need-enum-known-total
 enum-known-total c = search needs
@@ -53,19 +55,36 @@ after-seconds-requires c κs = search needs
 
 returns-2 : tie.Need-returns-2
 returns-2 c =
-    let a = c .before .before .before .before .before .before .before .before .before .before .before .args in
-    let total : Time.Is (c .before .before .before .total .given .0 .0) ≡ summed (Numeral.Is (a .h)) (Numeral.Is (a .m)) (secondsOf (take (c .before .before .before .before .before .before .before .before .before .find-byte .result) (a .text .now))) = sym (c .before .before .before .total .given .1) ∙ (c .before .before .before .before .before .before .summed .ensures ∙ ap (summed (Numeral.Is (a .h)) (Numeral.Is (a .m))) (c .before .before .before .before .before .before .before .seconds .ensures)) in
+    let c3 = c .before .before .before in
+    let c6 = c3 .before .before .before in
+    let found = c6 .before .before .before in
+    let a = found .before .before .args in
+    let colon = found .find-byte .result in
+    let read = ap Time.Is (toZ-ofZ w64 _ (record { sfits = c .before .before .known-told .given .0 .1 })) in
+    let total : Time.Is (c3 .total .given .0 .0) ≡ summed (number (a .h)) (number (a .m)) (secondsOf (take colon (a .text .now))) =
+    sym (c3 .total .given .1) ∙ (c6 .summed .ensures ∙ ap (summed (number (a .h)) (number (a .m))) (c6 .before .seconds .ensures)) in
+    let rest = rest-of (a .text .now) (colon + 1) in
     c .after-seconds .ensures
-    ∙ ((λ i. afterSeconds ((ap Time.Is (toZ-ofZ w64 _ (record { sfits = c .before .before .known-told .given .0 .1 })) ∙ total) i) (splitAt 58 (rest-of (a .text .now) (c .before .before .before .before .before .before .before .before .before .find-byte .result + 1) i)) (a .ctx))
-    ∙ sym (seconds-more _ _ (c .before .before .before .before .before .before .before .before .before .find-byte .ensures) (a .ctx) (Numeral.Is (a .h)) (Numeral.Is (a .m)) (c .before .before .before .before .before .if1 .left)))
+    ∙ ((λ i. (read ∙ total) i >>= λ t. afterSeconds t (splitAt 58 (rest i)) (a .ctx))
+    ∙ sym (seconds-more _ _ (found .find-byte .ensures) (a .ctx) (number (a .h)) (number (a .m)) (c3 .before .before .if1 .left)))
 
 returns-3 : tie.Need-returns-3
 returns-3 c =
-    let a = c .before .before .before .before .before .before .before .args in
-    after-other (c .before .before .summed .result) (splitAt 58 (drop (c .before .before .before .before .before .find-byte .result + 1) (a .text .now))) (a .ctx)
-    (λ z e. elim (rw e at (c .match .keys2)) [ inl k ↦ omega arith | inr (inl k) ↦ omega arith | inr (inr (inl k)) ↦ omega arith | inr (inr (inr k)) ↦ omega arith ])
-    ∙ (ap (λ (t : Time). afterSeconds t (splitAt 58 (drop (c .before .before .before .before .before .find-byte .result + 1) (a .text .now))) (a .ctx)) (c .before .before .summed .ensures ∙ ap (summed (Numeral.Is (a .h)) (Numeral.Is (a .m))) (c .before .before .before .seconds .ensures))
-    ∙ sym (seconds-more _ _ (c .before .before .before .before .before .find-byte .ensures) (a .ctx) (Numeral.Is (a .h)) (Numeral.Is (a .m)) (c .before .if1 .left)))
+    let c2 = c .before .before in
+    let found = c2 .before .before .before in
+    let a = found .before .before .args in
+    let on : ℤ → Time = λ t. afterSeconds t (splitAt 58 (drop (found .find-byte .result + 1) (a .text .now))) (a .ctx) in
+    let total = c2 .summed .ensures ∙ ap (summed (number (a .h)) (number (a .m))) (c2 .before .seconds .ensures) in
+    then-other (c2 .summed .result) on
+    (λ z e. elim (rw e at (c .match .keys2)) [
+      | inl k ↦ omega arith
+      | inr (inl k) ↦ omega arith
+      | inr (inr (inl k)) ↦ omega arith
+      | inr (inr
+          (inr k)) ↦ omega arith
+    ])
+    ∙ (ap (λ (t : Time). t >>= on) total
+    ∙ sym (seconds-more _ _ (found .find-byte .ensures) (a .ctx) (number (a .h)) (number (a .m)) (c .before .if1 .left)))
 
 pub after-minutes-spec : {M : Type 1} → statement M
 after-minutes-spec =

@@ -5,8 +5,7 @@ use lib.ListN.{take}
 use mir.Syntax.{w64}
 use mir.ValLaws.{toZ-ofZ}
 use borrow.Author.Needs.{needs}
-use Rattle.times.specs.declared.offset.Time.{Time}
-use Rattle.times.specs.Expressions.{timeDecimal, framed}
+use Rattle.times.specs.Expressions.{timeDecimal, frameRate, framesIn}
 use Rattle.times.proofs.Parts.{first-length, frames-first}
 use Rattle.times.proofs.clock.after_seconds.Statement.{statement}
 use Rattle.times.proofs.clock.after_seconds.Tie as tie
@@ -22,9 +21,12 @@ framed-requires c κs = search needs
 
 returns : tie.Need-returns
 returns c =
+    let found = c .before .before in
+    let a = found .before .before .args in
+    let frames = timeDecimal (take (found .find-byte .result) (a .text .now)) in
     c .framed .ensures
-    ∙ (ap (λ (z : ℤ). framed (Time.Is z) (timeDecimal (take (c .before .before .find-byte .result) (c .before .before .before .before .args .text .now))) (c .before .before .before .before .args .ctx)) (toZ-ofZ w64 _ (c .before .before .before .before .fits .us))
-    ∙ sym (frames-first _ _ (c .before .before .find-byte .ensures) (c .before .before .before .before .args .ctx) (Time.Is (c .before .before .before .before .args .us))))
+    ∙ (ap (λ (z : ℤ). framesIn z frames (frameRate (a .ctx))) (toZ-ofZ w64 _ (found .before .before .fits .us))
+    ∙ sym (frames-first _ _ (found .find-byte .ensures) (a .ctx) (a .us)))
 
 pub after-seconds-spec : {M : Type 1} → statement M
 after-seconds-spec =

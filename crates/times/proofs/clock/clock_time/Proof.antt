@@ -3,7 +3,8 @@ use Prim.Native.Nat.{_+_}
 use mathlib.Core.Path.{sym, _∙_}
 use borrow.Author.Needs.{needs}
 use Rattle.scan.specs.Split.{splitAt}
-use Rattle.times.specs.Expressions.{afterHours}
+use Rattle.times.specs.Expressions.{_>>=_, wholeIn}
+use Rattle.times.specs.Steps.{afterHours}
 use Rattle.times.proofs.Parts.{first-length, rest-of, hours-last, hours-more, hours-none}
 use Rattle.times.proofs.clock.clock_time.Statement.{statement}
 use Rattle.times.proofs.clock.clock_time.Tie as tie
@@ -43,13 +44,20 @@ enum-told c = search needs
 
 returns-2 : tie.Need-returns-2
 returns-2 c =
-    let a = c .before .before .before .before .before .before .before .before .before .before .args in
+    let c3 = c .before .before .before in
+    let c7 = c3 .before .before .before .before in
+    let found = c7 .before in
+    let a = found .before .before .args in
+    let hours = sym (c3 .h .given .1) ∙ c3 .before .before .integer .ensures in
+    let rest = rest-of (a .text .now) (found .find-byte .result + 1) in
     c .after-hours .ensures
-    ∙ ((λ i. afterHours ((sym (c .before .before .before .h .given .1) ∙ c .before .before .before .before .before .integer .ensures) i) (splitAt 58 (rest-of (a .text .now) (c .before .before .before .before .before .before .before .before .find-byte .result + 1) i)) (a .ctx))
-    ∙ sym (hours-more _ _ (c .before .before .before .before .before .before .before .before .find-byte .ensures) (a .ctx) (c .before .before .before .before .before .before .before .if1 .left)))
+    ∙ ((λ i. wholeIn (hours i) >>= λ x. afterHours x (splitAt 58 (rest i)) (a .ctx))
+    ∙ sym (hours-more _ _ (found .find-byte .ensures) (a .ctx) (c7 .if1 .left)))
 
 returns-3 : tie.Need-returns-3
-returns-3 c = hours-none _ _ (c .before .before .before .before .before .find-byte .ensures) _ _ (c .before .before .integer .ensures) (c .enum-told .given .1) (c .before .before .before .before .if1 .left)
+returns-3 c =
+    let c4 = c .before .before .before .before in
+    hours-none _ _ (c4 .before .find-byte .ensures) _ _ (c .before .before .integer .ensures) (c .enum-told .given .1) (c4 .if1 .left)
 
 pub clock-time-spec : {M : Type 1} → statement M
 clock-time-spec =

@@ -1,5 +1,5 @@
 -- A time expression by its last byte, or by its last two.
-use mathlib.Core.Path.{sym, _∙_}
+use mathlib.Core.Path.{refl, sym, _∙_}
 use mathlib.Core.Logic.{⊎-elim}
 use native.Mathlib.Omega.{arith}
 use lib.Ieee.{ofInt, ofBits}
@@ -32,7 +32,11 @@ units-requires c κs = search needs
 
 returns : tie.Need-returns
 unfolding ofInt ofBits
-returns c = c .units .ensures ∙ sym (metric-ms (c .before .before .before .before .before .before .before .before .args .text .now) (c .before .before .before .before .before .before .before .before .args .ctx) (c .before .before .before .before .before .match .keys1) (omega arith) (c .before .before .if2 .taken))
+returns c =
+    let c5 = c .before .before .before .before .before in
+    let c8 = c5 .before .before .before in
+    let a = c8 .args in
+    c .units .ensures ∙ sym (metric-ms (a .text .now) (omega arith) (a .ctx) (c5 .match .keys1) (omega arith) (c .before .before .if2 .taken))
 
 slice-aggregate-units-2 : tie.Need-slice-aggregate-units-2
 slice-aggregate-units-2 c = sym (length-take-le _ (c .before .before .before .before .before .args .text .now) (omega arith))
@@ -69,26 +73,39 @@ clock-time-requires c κs = search needs
 
 returns-2 : tie.Need-returns-2
 unfolding ofInt ofBits
-returns-2 c = c .units2 .ensures ∙ sym (metric-s (c .before .before .before .before .before .before .args .text .now) (c .before .before .before .before .before .before .args .ctx) (c .before .before .before .match .keys1) (⊎-elim (λ w h. w .2 .left) (λ w h. absurd (omega arith)) (c .before .before .if1 .came)))
+returns-2 c =
+    let a = c .before .before .before .before .before .before .args in
+    c .units2 .ensures ∙ sym (metric-s (a .text .now) (omega arith) (a .ctx) (c .before .before .before .match .keys1)
+    (⊎-elim (λ w h. w .2 .left) (λ w h. absurd (omega arith)) (c .before .before .if1 .came)))
 
 returns-3 : tie.Need-returns-3
 unfolding ofInt ofBits
-returns-3 c = c .units3 .ensures ∙ sym (metric-m (c .before .before .before .before .before .args .text .now) (c .before .before .before .before .before .args .ctx) (c .before .before .match .keys2))
+returns-3 c =
+    let a = c .before .before .before .before .before .args in
+    c .units3 .ensures ∙ sym (metric-m (a .text .now) (omega arith) (a .ctx) (c .before .before .match .keys2))
 
 returns-4 : tie.Need-returns-4
 unfolding ofInt ofBits
-returns-4 c = c .units4 .ensures ∙ sym (metric-h (c .before .before .before .before .before .args .text .now) (c .before .before .before .before .before .args .ctx) (c .before .before .match .keys3))
+returns-4 c =
+    let a = c .before .before .before .before .before .args in
+    c .units4 .ensures ∙ sym (metric-h (a .text .now) (omega arith) (a .ctx) (c .before .before .match .keys3))
 
 returns-5 : tie.Need-returns-5
-returns-5 c = c .at-rate .ensures ∙ sym (metric-f (c .before .before .before .before .before .args .text .now) (c .before .before .before .before .before .args .ctx) (c .before .before .match .keys4))
+returns-5 c =
+    let a = c .before .before .before .before .before .args in
+    c .at-rate .ensures ∙ sym (metric-f (a .text .now) (omega arith) (a .ctx) (c .before .before .match .keys4))
 
 returns-6 : tie.Need-returns-6
-returns-6 c = c .at-rate2 .ensures ∙ sym (metric-t (c .before .before .before .before .before .args .text .now) (c .before .before .before .before .before .args .ctx) (c .before .before .match .keys5))
+returns-6 c =
+    let a = c .before .before .before .before .before .args in
+    c .at-rate2 .ensures ∙ sym (metric-t (a .text .now) (omega arith) (a .ctx) (c .before .before .match .keys5))
 
 returns-7 : tie.Need-returns-7
 returns-7 c =
+    let a = c .before .before .before .before .args in
     let none = c .before .match .rest in
-    c .clock-time .ensures ∙ sym (metric-none (c .before .before .before .before .args .text .now) (c .before .before .before .before .args .ctx) (none .0 .0 .0 .0 .1) (none .0 .0 .0 .1) (none .0 .0 .1) (none .0 .1) (none .1))
+    c .clock-time .ensures
+    ∙ sym (metric-none (a .text .now) (omega arith) (a .ctx) _ refl (none .0 .0 .0 .0 .1) (none .0 .0 .0 .1) (none .0 .0 .1) (none .0 .1) (none .1))
 
 pub expression-spec : {M : Type 1} → statement M
 expression-spec =

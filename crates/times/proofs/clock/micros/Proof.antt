@@ -17,7 +17,12 @@ abbrev μ-loop : tie.MeasureT-loop
 μ-loop text len six₀ i₀ six i = len - i
 
 loop-holds : tie.Need-loop-holds Inv-loop μ-loop
-loop-holds c = copied-none (take (c .before .args .len) (c .before .args .text .now)) _ 0 (omega (arith, length-take-le (c .before .args .len) (c .before .args .text .now) (omega arith)))
+loop-holds c =
+    copied-none (take (c .before .args .len) (c .before .args .text .now)) _ 0 (omega (
+      arith,
+      length-take-le (c .before .args .len)
+          (c .before .args .text .now) (omega arith),
+    ))
 
 shared-slice-read-six : tie.Need-shared-slice-read-six Inv-loop μ-loop
 shared-slice-read-six c = omega arith
@@ -32,7 +37,9 @@ loop-less : tie.Need-loop-less Inv-loop μ-loop
 loop-less c = omega arith
 
 loop-again : tie.Need-loop-again Inv-loop μ-loop
-loop-again c = copying (c .before .before .before .before .args .text .now) _ _ (c .before .before .before .before .args .len) _ (omega arith) (omega arith) (c .before .before .loop .inv)
+loop-again c =
+    let c4 = c .before .before .before .before in
+    copying (c4 .args .text .now) _ _ (c4 .args .len) _ (omega arith) (omega arith) (c .before .before .loop .inv)
 
 slice-aggregate-integer : tie.Need-slice-aggregate-integer Inv-loop μ-loop
 slice-aggregate-integer c = omega arith
@@ -51,15 +58,22 @@ enum-told c = search needs
 
 returns : tie.Need-returns Inv-loop μ-loop
 returns c =
-    let a = c .before .before .before .before .before .before .before .before .before .args in
+    let c4 = c .before .before .before .before in
+    let c7 = c4 .before .before .before in
+    let c9 = c7 .before .before in
+    let a = c9 .args in
     let l = length-take-le (a .len) (a .text .now) (omega arith) in
-    c .times .ensures ∙ some-micros (a .text .now) (c .before .before .before .before .before .before .before .loop .six) (a .len) (omega arith) (omega arith) (copied-all _ _ _ _ _ (c .before .before .before .before .before .before .before .loop .inv) (omega arith)) _ (sym (c .before .before .before .before .integer .ensures) ∙ c .before .before .w .given .1)
+    c .times .ensures ∙ some-micros (a .text .now) (c7 .loop .six) (a .len) (omega arith) (omega arith) (copied-all _ _ _ _ _ (c7 .loop .inv)
+    (omega arith)) _ (sym (c4 .integer .ensures) ∙ c .before .before .w .given .1)
 
 returns-2 : tie.Need-returns-2 Inv-loop μ-loop
 returns-2 c =
-    let a = c .before .before .before .before .before .before .before .args in
+    let c5 = c .before .before .before .before .before in
+    let c7 = c5 .before .before in
+    let a = c7 .args in
     let l = length-take-le (a .len) (a .text .now) (omega arith) in
-    no-micros (a .text .now) (c .before .before .before .before .before .loop .six) (a .len) (omega arith) (omega arith) (copied-all _ _ _ _ _ (c .before .before .before .before .before .loop .inv) (omega arith)) (sym (c .before .before .integer .ensures) ∙ c .enum-told .given .1)
+    no-micros (a .text .now) (c5 .loop .six) (a .len) (omega arith) (omega arith) (copied-all _ _ _ _ _ (c5 .loop .inv) (omega arith)) (sym
+    (c .before .before .integer .ensures) ∙ c .enum-told .given .1)
 
 pub micros-spec : {M : Type 1} → statement M
 micros-spec =

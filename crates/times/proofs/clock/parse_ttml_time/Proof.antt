@@ -1,6 +1,7 @@
 -- A time expression without the white space around it; nothing else is no time.
 use mathlib.Core.Path.{sym, _∙_}
 use borrow.Author.Needs.{needs}
+use Rattle.times.proofs.Answers.{reads-time}
 use Rattle.times.proofs.Parts.{blank-time, some-time}
 use Rattle.times.proofs.clock.parse_ttml_time.Statement.{statement}
 use Rattle.times.proofs.clock.parse_ttml_time.Tie as tie
@@ -9,7 +10,7 @@ trim-requires : tie.Need-trim-requires
 trim-requires c κs = search needs
 
 returns : tie.Need-returns
-returns c = sym (blank-time _ _ _ (c .before .trim .ensures) _ (c .if1 .taken))
+returns c = reads-time (sym (blank-time _ _ _ (c .before .trim .ensures) _ (c .if1 .taken)))
 
 sub-expression : tie.Need-sub-expression
 sub-expression c = search needs
@@ -24,7 +25,9 @@ expression-requires : tie.Need-expression-requires
 expression-requires c κs = search needs
 
 returns-2 : tie.Need-returns-2
-returns-2 c = c .expression .ensures ∙ sym (some-time _ _ _ (c .before .before .before .trim .ensures) _ (c .before .before .if1 .left))
+returns-2 c =
+    let spans = c .before .before .before .trim .ensures in
+    reads-time (c .expression .ensures ∙ sym (some-time _ _ _ spans _ (c .before .before .if1 .left)))
 
 pub parse-ttml-time-spec : {M : Type 1} → statement M
 parse-ttml-time-spec =

@@ -25,8 +25,11 @@ enum-told-2 c = search needs
 
 returns : tie.Need-returns
 returns c =
-    rw (c .before .before .before .before .before .a .given .1, c .before .before .b .given .1)
-    (c .add .ensures ∙ ap checked (λ i. toZ-ofZ w64 (c .before .before .before .before .before .a .given .0 .0) (record { sfits = c .before .before .before .before .known-told .given .0 .1 }) i +ℤ toZ-ofZ w64 (c .before .before .b .given .0 .0) (record { sfits = c .before .known-told2 .given .0 .1 }) i))
+    let c4 = c .before .before .before .before in
+    let c5 = c4 .before in
+    rw (c5 .a .given .1, c .before .before .b .given .1)
+    (c .add .ensures .is ∙ ap checked (λ i. toZ-ofZ w64 (c5 .a .given .0 .0) (record { sfits = c4 .known-told .given .0 .1 }) i +ℤ toZ-ofZ w64
+    (c .before .before .b .given .0 .0) (record { sfits = c .before .known-told2 .given .0 .1 }) i))
 
 returns-2 : tie.Need-returns-2
 returns-2 c = search needs

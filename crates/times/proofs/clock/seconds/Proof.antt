@@ -1,8 +1,11 @@
 -- Seconds by the first point, or without one.
 use Prim.Native.Nat.{_+_}
 use mathlib.Core.Path.{sym, ap, _∙_}
+use lib.IntN.{pos, _*ℤ_}
+use Rattle.numerals.specs.declared.Numeral.{Numeral}
 use borrow.Author.Needs.{needs}
-use Rattle.times.specs.Expressions.{fractioned, unfractioned, timeOf}
+use Rattle.times.specs.Expressions.{_>>=_, timeOf, tested, wholeIn}
+use Rattle.times.specs.Steps.{fractioned}
 use Rattle.times.proofs.Parts.{first-length, rest-of, point-none, point-here, point-nothing}
 use Rattle.times.proofs.clock.seconds.Statement.{statement}
 use Rattle.times.proofs.clock.seconds.Tie as tie
@@ -45,18 +48,27 @@ enum-told c = search needs
 
 returns : tie.Need-returns
 returns c =
-    let a = c .before .before .before .before .before .before .before .before .before .before .args in
+    let c4 = c .before .before .before .before in
+    let found = c4 .before .before .before .before in
+    let a = found .before .before .args in
+    let number = sym (c4 .w .given .1) ∙ c4 .before .before .integer .ensures in
+    let rest = rest-of (a .text .now) (found .find-byte .result + 1) in
     c .fractioned .ensures
-    ∙ ((λ i. fractioned ((sym (c .before .before .before .before .w .given .1) ∙ c .before .before .before .before .before .before .integer .ensures) i) (rest-of (a .text .now) (c .before .before .before .before .before .before .before .before .find-byte .result + 1) i))
-    ∙ sym (point-here _ _ (c .before .before .before .before .before .before .before .before .find-byte .ensures) (c .before .before .if1 .taken)))
+    ∙ ((λ i. wholeIn (number i) >>= λ n. fractioned n (rest i)) ∙ sym (point-here _ _ (found .find-byte .ensures) (c .before .before .if1 .taken)))
 
 returns-2 : tie.Need-returns-2
 returns-2 c =
-    c .time-of .ensures ∙ (ap timeOf (c .before .times .ensures) ∙ (ap unfractioned (sym (c .before .before .before .before .w .given .1) ∙ c .before .before .before .before .before .before .integer .ensures)
-    ∙ sym (point-none _ _ (c .before .before .before .before .before .before .before .before .find-byte .ensures) (c .before .before .if1 .left))))
+    let c4 = c .before .before .before .before in
+    let found = c4 .before .before .before .before in
+    let number = sym (c4 .w .given .1) ∙ c4 .before .before .integer .ensures in
+    c .time-of .ensures ∙ (ap timeOf (c .before .times .ensures)
+    ∙ (ap (λ (n : Numeral). wholeIn n >>= λ z. tested (z *ℤ pos 1000000)) number
+    ∙ sym (point-none _ _ (found .find-byte .ensures) (c .before .before .if1 .left))))
 
 returns-3 : tie.Need-returns-3
-returns-3 c = point-nothing _ _ (c .before .before .before .before .find-byte .ensures) _ (c .before .before .integer .ensures) (c .enum-told .given .1)
+returns-3 c =
+    let c4 = c .before .before .before .before in
+    point-nothing _ _ (c4 .find-byte .ensures) _ (c .before .before .integer .ensures) (c .enum-told .given .1)
 
 pub seconds-spec : {M : Type 1} → statement M
 seconds-spec =

@@ -1,4 +1,5 @@
--- How many bytes the first six characters have. The loop's invariant: those passed, and those of the characters that are left, are the bytes of the first six. The measure is what is left of the text.
+-- How many bytes the first six characters have. The loop's invariant: those passed, and those of the characters that are left, are the bytes of the
+-- first six. The measure is what is left of the text.
 use Prim.Native.Nat.{_-_}
 use mathlib.Core.Path.{_≡_}
 use mathlib.Core.Bool.{false, _&&_}
@@ -23,19 +24,28 @@ shared-slice-read-if1 : tie.Need-shared-slice-read-if1 Inv-loop μ-loop
 shared-slice-read-if1 c = omega arith
 
 -- the byte at the place starts a character
-starts : (c : tie.Joined1 Inv-loop μ-loop) → (leb 0x80 (getD (c .before .before .before .before .args .text .now) (c .before .before .before .loop .i) 0) && leb (getD (c .before .before .before .before .args .text .now) (c .before .before .before .loop .i) 0) 0xBF) ≡ false
-starts c = ⊎-elim (λ w. low-starts _ (w .taken)) (λ w. high-starts _ (w .1 .left)) (c .if1 .came)
+starts : (c : tie.Joined1 Inv-loop μ-loop)
+    → (leb 0x80 (getD (c .before .before .before .before .args .text .now) (c .before .before .before .loop .i) 0) && leb
+    (getD (c .before .before .before .before .args .text .now) (c .before .before .before .loop .i) 0) 0xBF) ≡ false
+starts c =
+    ⊎-elim (λ w. low-starts _ (w .taken)) (λ w. high-starts _ (w .1 .left)) (c .if1 .came)
 
 -- it is counted, or goes on with the character before it
-passed : (c : tie.Joined1-2 Inv-loop μ-loop) → SixOn (c .before .before .before .before .args .text .now) (c .if1 .chars) (c .before .before .before .loop .i)
+passed : (c : tie.Joined1-2 Inv-loop μ-loop)
+    → SixOn (c .before .before .before .before .args .text .now) (c .if1 .chars) (c .before .before .before .loop .i)
 passed c =
+    let c3 = c .before .before .before in
     ⊎-elim
-    (λ w. rw (w .2) (six-same _ _ _ (c .before .before .before .loop .inv) (c .before .before .loop-test .taken) (w .0 .left) (w .1 .taken)))
-    (λ w. rw (w .2) (six-next _ _ _ (c .before .before .before .loop .inv) (c .before .before .loop-test .taken) (starts (record { before = c .before; if1 = w .0 })) (omega (arith, c .before .before .before .loop .inv .few, w .1 .left))))
+    (λ w. rw (w .2) (six-same _ _ _ (c3 .loop .inv) (c .before .before .loop-test .taken) (w .0 .left) (w .1 .taken)))
+    (λ w. rw (w .2) (six-next _ _ _ (c3 .loop .inv) (c .before .before .loop-test .taken) (starts (record { before = c .before; if1 = w .0 }))
+    (omega (arith, c3 .loop .inv .few, w .1 .left))))
     (c .if1 .came)
 
 returns : tie.Need-returns Inv-loop μ-loop
-returns c = six-here _ _ _ (c .before .before .before .before .loop .inv) (c .before .before .before .loop-test .taken) (starts (c .before)) (c .if3 .taken)
+returns c =
+    let c3 = c .before .before .before in
+    let c4 = c3 .before in
+    six-here _ _ _ (c4 .loop .inv) (c3 .loop-test .taken) (starts (c .before)) (c .if3 .taken)
 
 add-chars : tie.Need-add-chars Inv-loop μ-loop
 add-chars c = omega arith

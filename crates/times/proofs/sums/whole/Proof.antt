@@ -23,12 +23,16 @@ cast-t6 : tie.Need-cast-t6
 cast-t6 c = search needs
 
 sub-t7 : tie.Need-sub-t7
-sub-t7 c = let m = c .before .before .before .args .w .magnitude in rw (less-one m (omega arith) (omega arith)) (record { sfits = negative-fits m (omega arith) })
+sub-t7 c =
+    let c3 = c .before .before .before in
+    let m = c3 .args .w .magnitude in rw (less-one m (omega arith) (omega arith)) (record { sfits = negative-fits m (omega arith) })
 
 returns-3 : tie.Need-returns-3
 returns-3 c =
-    let m = c .before .before .before .args .w .magnitude in
-    rw (c .before .before .if1 .taken) (checked-is (negℤ (pos m)) _ (toZ-ofZ w64 _ (sub-t7 c) ∙ less-one m (omega arith) (omega arith)) (negative-fits m (omega arith)))
+    let c3 = c .before .before .before in
+    let m = c3 .args .w .magnitude in
+    rw (c .before .before .if1 .taken) (checked-is (negℤ (pos m)) _ (toZ-ofZ w64 _ (sub-t7 c)
+    ∙ less-one m (omega arith) (omega arith)) (negative-fits m (omega arith)))
 
 returns-4 : tie.Need-returns-4
 returns-4 c = rw (c .before .if1 .left) (sym (checked-over (pos _) (omega arith)))

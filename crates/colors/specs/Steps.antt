@@ -1,0 +1,46 @@
+-- Steps of the program, which contracts of inner functions cite. They need not be believed: `proofs/Names.antt` and `proofs/Reading.antt`
+-- show that they make up what `Named` and `Colors` say.
+use Prim.Native.Nat.{ℕ, _+_, _*_, _≤_}
+use mathlib.Core.Bool.{cond}
+use mathlib.Core.List.{List}
+use lib.Dec.{eqb}
+use lib.ListN.{length, getD, take}
+use Rattle.scan.specs.Bytes.{other, runEnd}
+use Rattle.numerals.specs.declared.Numeral.{Numeral}
+use Rattle.colors.specs.declared.read.Rgba.{Rgba}
+use Rattle.colors.specs.declared.read.Color.{Color}
+use Rattle.colors.specs.declared.read.Channel.{Channel}
+use Rattle.colors.specs.Named.{rgba}
+use Rattle.colors.specs.Colors.{hexChannel, once, twice, colorOf}
+
+-- ---- names
+-- what stands before the first blank of a row
+abbrev pub front : List ℕ → List ℕ
+front row = take (runEnd (other 32) row 0) row
+
+-- the colour of a row of four values
+abbrev pub rowColor : List ℕ → Rgba
+rowColor v = rgba (getD v 0 0) (getD v 1 0) (getD v 2 0) (getD v 3 0)
+
+-- ---- channels
+-- a number that is a channel
+abbrev pub Small : Numeral → Type 0
+Small (Numeral.Is w) = w .magnitude ≤ 255
+Small Numeral.Nothing = Unit {0}
+
+-- the text has three channels of the width
+pub record Channels (s : List ℕ) (width : ℕ) : Type 0 where
+  pub some : 1 ≤ width
+  pub few : width ≤ 2
+  pub room : 3 * width ≤ length s
+
+-- one digit counts twice, two digits once
+abbrev pub copies : ℕ → List ℕ → List ℕ
+copies width w = cond (eqb width 1) (twice w) (once w)
+
+-- the channel of the width from a place on, and three of them from the first place on
+abbrev pub channelAt : List ℕ → ℕ → ℕ → Channel
+channelAt s at width = hexChannel s at (at + width) (copies width)
+
+abbrev pub hexChannels : List ℕ → ℕ → Channel → Color
+hexChannels s width alpha = colorOf (channelAt s 0 width) (channelAt s width width) (channelAt s (2 * width) width) alpha
