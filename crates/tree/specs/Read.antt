@@ -1,5 +1,6 @@
--- What a text means: the reader's executable definition. s is the whole text, p a place in it; k nodes and a attributes were read before. Definitions alone.
--- Quoted phrases are document 01's.
+-- The reader by places. It need not be believed: a step on the way from the program to the grammar, which `derivation` shows equal to what
+-- the grammar derives and to what is refused (`derivation/proofs/Theorem`).
+-- s is the whole text, p a place in it; k nodes and a attributes were read before. Quoted phrases are document 01's.
 use Prim.Native.Nat.{ℕ, zero, suc, _+_, _-_, _*_}
 use mathlib.Core.List.{List, [], _∷_, _++_}
 use mathlib.Core.Bool.{Bool, cond, _||_}

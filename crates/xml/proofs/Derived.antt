@@ -4,16 +4,16 @@
 --     node-read, nodes-read          a node, and the nodes of a document
 --     placed-as-derived              the whole text
 use Prim.Native.Nat.{ℕ, zero, suc, _+_, _-_, _≤_, _<_}
-use mathlib.Core.Path.{_≡_, refl, sym, ap, ap₂, _∙_, subst, subst⁻¹}
-use mathlib.Core.Logic.{_⊎_, inl, inr}
-use mathlib.Core.Bool.{Bool, true, false, cond, true≢false}
+use mathlib.Core.Path.{_≡_, refl, sym, ap, _∙_, subst, subst⁻¹}
+use mathlib.Core.Logic.{inl, inr}
+use mathlib.Core.Bool.{true, false}
 use mathlib.Core.List.{List, [], _∷_, _++_, append-assoc, append-nil}
 use native.Mathlib.Omega.{arith}
-use lib.ListN.{length, getD, drop, length-append, drop-of-length-le}
-use lib.Dec.{eqb, ltb}
+use lib.ListN.{length, drop, length-append}
+use lib.Dec.{ltb}
 use borrow.Author.Tests.{lt-ltb, le-ltb, ltb-true, ltb-false}
 use Rattle.scan.specs.Loop.{Next, halt, more}
-use Rattle.scan.specs.Bytes.{blank, textByte, nameByte, other, runEnd}
+use Rattle.scan.specs.Bytes.{blank, textByte, other, runEnd}
 use Rattle.scan.specs.Marks as marks
 use Rattle.scan.specs.Marks.{startsAt, seek}
 use Rattle.scan.specs.Posts.{Passed}
@@ -33,7 +33,7 @@ use Rattle.derivation.proofs.NodeKinds as kinds
 use Rattle.derivation.proofs.Prologs.{prolog-agrees}
 use Rattle.tree.specs.Trees as placed
 use Rattle.tree.specs.Trees.{join}
-use Rattle.tree.specs.Read.{Out, got, nothing, bad, TagOut, opened, shut, torn, TagState, gt, closeMark, commentMark, commentEnd, cdataEnd, skip, slash, tagTurn, tagFrom, startAt, Reader, textAt, sectionAt, nodeHere, nodeAt, State, nodeNext, closeAt, innerTurn, outerTurn, rowOf, fresh, enclose, tagged, elementBy, elementOf, contentOf, prologEnd, meaning}
+use Rattle.tree.specs.Read.{Out, got, nothing, bad, opened, shut, TagState, gt, closeMark, commentMark, commentEnd, cdataEnd, skip, slash, tagTurn, tagFrom, startAt, Reader, textAt, sectionAt, nodeHere, nodeAt, State, nodeNext, closeAt, innerTurn, outerTurn, rowOf, fresh, enclose, tagged, elementBy, elementOf, contentOf, prologEnd, meaning}
 use Rattle.tree.specs.Posts.{Fits}
 use Rattle.tree.proofs.NodeLaws.{comment-on, comment-here, comment-out}
 use Rattle.tree.proofs.Whole.{in-range}

@@ -5,15 +5,13 @@
 use Prim.Native.Nat.{ℕ, _+_, _-_, _≤_, _<_}
 use mathlib.Core.Path.{_≡_, refl, sym, ap, _∙_}
 use mathlib.Core.Logic.{_⊎_, inl, inr}
-use mathlib.Core.Bool.{Bool, true, false}
 use mathlib.Core.List.{List, [], _∷_, _++_}
 use native.Mathlib.Omega.{arith}
-use lib.ListN.{length, getD, take, drop}
+use lib.ListN.{length, getD, drop}
 use lib.Seq.{getD-take, getD-drop, ext-getD}
 use lib.Dec.{ltb}
 use borrow.Author.Tests.{ltb-true, ltb-false}
 use Rattle.scan.specs.Part.{stringAt}
-use Rattle.grammar.specs.Tree as tree
 use Rattle.grammar.specs.Tree.{Forest}
 use Rattle.grammar.specs.Demand.{Result}
 use Rattle.grammar.specs.Demand as demand
@@ -23,7 +21,7 @@ use Rattle.tree.specs.Trees.{Attr, nil, text, section, elem, Span, attrSpans, s
 use Rattle.tree.specs.declared.answers.Answer.{Answer}
 use Rattle.derivation.specs.Strings.{attrIn, attrsIn, treeIn}
 use Rattle.derivation.proofs.RunLaws.{string-is}
-use Rattle.xml.specs.Promise.{Says, Tables, tables, Takes, TurnsAway, Outside, HoldsTree, Parsed}
+use Rattle.xml.specs.Promise.{Tables, Takes, TurnsAway, Outside, HoldsTree, Parsed}
 use Rattle.xml.proofs.Promises.{readable-of, is-away, away-some, refused-as}
 use Rattle.xml.proofs.Theorem.{parsed, takes-exactly, taken-fits}
 

@@ -1,11 +1,11 @@
 -- The forest of a derivation with entities read: the same places, and each text and value as long as it is then. Assumes nothing.
 --     string-at           a string that stands at a place
 --     read-placed         the whole text
-use Prim.Native.Nat.{ℕ, suc, _+_, _≤_}
-use mathlib.Core.Path.{_≡_, refl, sym, ap, ap₂, _∙_}
+use Prim.Native.Nat.{ℕ, _+_}
+use mathlib.Core.Path.{_≡_, refl, ap, ap₂, _∙_}
 use mathlib.Core.List.{List, [], _∷_, _++_, append-assoc}
 use native.Mathlib.Omega.{arith}
-use lib.ListN.{length, drop, take, length-append}
+use lib.ListN.{length, take}
 use lib.Seq.{take-append-seam}
 use Rattle.scan.specs.Bytes.{textByte, other}
 use Rattle.scan.specs.Part.{stringAt}

@@ -4,7 +4,6 @@ pub mod Lays
 pub mod PassForests
 pub mod Parsing
 pub mod Shown
-pub mod Tables
 pub mod Theorem
 pub mod Promises
 pub mod FindLaws
@@ -14,4 +13,5 @@ pub mod Standing
 pub mod Derived
 pub mod Lengths
 pub mod Determined
+pub mod PlaceExamples
 pub mod FindExamples

@@ -4,40 +4,38 @@
 --     nodes-counted, attrs-counted   a placed forest has as many nodes and attributes as the tree that it shows
 --     laid-outside              a byte outside of all strings is as it was
 --     parsed-of                 the promise
-use Prim.Native.Nat.{ℕ, zero, suc, _+_, _-_, _*_, _≤_, _<_}
+use Prim.Native.Nat.{ℕ, zero, suc, _+_, _-_, _≤_, _<_}
 use mathlib.Core.Path.{_≡_, refl, sym, ap, ap₂, subst, _∙_}
 use mathlib.Core.Bool.{Bool, true, false}
 use mathlib.Core.Logic.{_⊎_, inl, inr}
 use mathlib.Core.List.{List, [], _∷_, _++_}
 use native.Mathlib.Omega.{arith}
-use lib.ListN.{length, getD, replicate, length-append, length-replicate, getD-replicate}
+use lib.ListN.{length, getD, replicate, length-append, length-replicate}
 use lib.Seq.{sets}
 use lib.Dec.{ltb}
 use borrow.Author.Tests.{ltb-true, ltb-false}
 use Rattle.scan.specs.Part.{stringAt}
 use Rattle.scan.proofs.Stores.{sets-other}
-use Rattle.unicode.specs.Utf8.{Utf8, utf8End}
+use Rattle.unicode.specs.Utf8.{utf8End}
 use Rattle.unicode.proofs.Utf8Laws.{end-within, end-valid, end-longest, utf8-end, end-utf8}
 use Rattle.entities.specs.Decode.{decoded}
-use Rattle.grammar.specs.Tree as tree
 use Rattle.grammar.specs.Tree.{Forest}
 use Rattle.grammar.specs.Limits as count
-use Rattle.grammar.specs.Demand.{Result, refused, Derives, decodeForest}
-use Rattle.grammar.specs.Refusals.{Meets, too-deep, too-many-nodes, no-tag-name, too-many-attributes, slash, no-value, end-in-tag, open-close-tag, FirstMet}
+use Rattle.grammar.specs.Demand.{Result, refused, decodeForest}
+use Rattle.grammar.specs.Refusals.{Meets, too-deep, too-many-nodes, no-tag-name, too-many-attributes, slash, no-value, end-in-tag, open-close-tag}
 use Rattle.tree.specs.Trees as placed
 use Rattle.tree.specs.Trees.{Attr, nil, text, section, elem, size, attrsOf, rows, attrRows, Span, attrSpans, spans, InOrder}
-use Rattle.tree.specs.Read.{Out, got, nothing, bad, meaning, answerOf, nodesOf, attrCells}
+use Rattle.tree.specs.Read.{Out, got, nothing, bad, answerOf, nodesOf, attrCells}
 use Rattle.tree.specs.Posts.{Fits}
 use Rattle.tree.specs.declared.answers.Answer.{Answer}
 use Rattle.tree.specs.declared.answers.Answer.the-variants.{Tree, Refused}
-use Rattle.tree.specs.declared.answers.Refusal.{Refusal}
 use Rattle.tree.proofs.Forests.{length-rows}
 use Rattle.tree.proofs.Tags.{length-attrRows}
 use Rattle.tree.proofs.Places.{meaning-placed}
-use Rattle.derivation.specs.Strings.{attrIn, attrsIn, treeIn}
+use Rattle.derivation.specs.Strings.{attrsIn, treeIn}
 use Rattle.derivation.proofs.Theorem.{Gives, gives-exactly}
 use Rattle.xml.specs.Reading.{Placed, attrStrings, strings, lay, readAttrs, readForest, raw, readOut, stringsOf}
-use Rattle.xml.specs.Promise.{numberOf, placeOf, Says, Tables, tables, LongEnough, AllZero, Readable, Takes, ValidUpTo, TurnsAway, short-table, long-text, not-utf8, first-met, placesOf, Outside, HoldsTree, Parsed}
+use Rattle.xml.specs.Promise.{numberOf, placeOf, Says, Tables, tables, LongEnough, AllZero, Readable, Takes, TurnsAway, short-table, long-text, not-utf8, first-met, placesOf, Outside, HoldsTree, Parsed}
 use Rattle.xml.proofs.PassLaws.{string-short}
 use Rattle.xml.proofs.Lays.{lay-length}
 use Rattle.xml.proofs.Parsing.{raw-enough, Left}

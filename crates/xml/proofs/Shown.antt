@@ -1,18 +1,17 @@
 -- The table of strings shows the text's tree with its entities read. Assumes nothing.
 --     order-read                    the strings stay in order: with entities read none is longer
---     AtPlaces, strings-stand, string-stands   every string stands at its place in the table
+--     AtPlaces, lay-stands, strings-stand   every string stands at its place in the table
 --     tree-shown                    the tree that the table shows is the text's tree with its entities read
-use Prim.Native.Nat.{ℕ, zero, suc, _+_, _-_, _≤_, _<_}
+use Prim.Native.Nat.{ℕ, suc, _+_, _-_, _≤_}
 use mathlib.Core.Path.{_≡_, refl, sym, ap, _∙_}
 use mathlib.Core.List.{List, [], _∷_, _++_}
 use native.Mathlib.Omega.{arith}
-use lib.ListN.{length, getD, set, take, drop, replicate, length-replicate}
+use lib.ListN.{length, set, take, drop, replicate, length-replicate}
 use lib.Seq.{sets, length-sets, take-set-le, take-add, drop-at, length-take-le}
 use Rattle.scan.proofs.Stores.{sets-part}
 use Rattle.entities.specs.Decode.{decoded}
 use Rattle.tree.specs.Trees.{Attr, Forest, nil, text, section, elem, attrSpans, spans, InOrder}
 use Rattle.tree.proofs.Places.{in-lower, in-append, in-whole, in-first, in-rest}
-use Rattle.grammar.specs.Tree as tree
 use Rattle.grammar.specs.Demand.{decodeAttrs, decodeTree, decodeForest}
 use Rattle.scan.specs.Part.{stringAt}
 use Rattle.derivation.specs.Strings.{attrIn, attrsIn, treeIn}
@@ -91,12 +90,6 @@ lay-stands (x ∷ l) z lo hi o h =
       lay-stands l y (x .place + length (x .bytes)) hi (o .1) (omega arith),
     )
 
-at-places-at : (none : Placed) (z : List ℕ) (l : List Placed) (i : ℕ) → AtPlaces z l → i < length l
-    → stringAt z (getD l i none .place) (length (getD l i none .bytes)) ≡ getD l i none .bytes
-at-places-at none z [] i a h = absurd (omega arith)
-at-places-at none z (x ∷ l) zero a h = a .0
-at-places-at none z (x ∷ l) (suc i) a h = at-places-at none z l i (a .1) (omega arith)
-
 pub at-places-split : (z : List ℕ) (a b : List Placed) → AtPlaces z (a ++ b) → AtPlaces z a × AtPlaces z b
 at-places-split z [] b h = (tt, h)
 at-places-split z (x ∷ a) b h = let r = at-places-split z a b (h .1) in ((h .0, r .0), r .1)
@@ -135,10 +128,6 @@ module _ (s : List ℕ) (f : Forest) (lo m : ℕ) (placed : InOrder lo (spans f)
   pub strings-stand : AtPlaces (lay (replicate m 0) (strings s f)) (strings s f)
   strings-stand =
       lay-stands (strings s f) (replicate m 0) lo (length s) (strings-ordered s f lo (length s) placed) (rw (length-replicate {A = ℕ} m 0) room)
-
-  pub string-stands : (none : Placed) (i : ℕ) → i < length (strings s f)
-      → stringAt (lay (replicate m 0) (strings s f)) (getD (strings s f) i none .place) (length (getD (strings s f) i none .bytes)) ≡ getD (strings s f) i none .bytes
-  string-stands none i h = at-places-at none (lay (replicate m 0) (strings s f)) (strings s f) i strings-stand h
 
   pub tree-shown : treeIn (lay (replicate m 0) (strings s f)) (readForest s f) ≡ decodeForest decoded (treeIn s f)
   tree-shown = shown s (lay (replicate m 0) (strings s f)) f lo placed strings-stand

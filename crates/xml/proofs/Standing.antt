@@ -3,16 +3,16 @@
 --     run-to, beyond-to              where a run and a piece that ends at its first mark end
 --     value-at, attr-at, attrs-at    the attributes of a derivation are read where they stand
 --     start-at                       a start tag
-use Prim.Native.Nat.{ℕ, zero, suc, _+_, _-_, _≤_, _<_}
+use Prim.Native.Nat.{ℕ, _+_, _-_, _≤_, _<_}
 use mathlib.Core.Path.{_≡_, refl, sym, ap, ap₂, _∙_, subst}
 use mathlib.Core.Logic.{_⊎_, inl, inr}
-use mathlib.Core.Bool.{Bool, true, false, cond, true≢false}
+use mathlib.Core.Bool.{Bool, true, false, true≢false}
 use mathlib.Core.List.{List, [], _∷_, _++_, append-assoc, append-nil}
 use native.Mathlib.Omega.{arith}
 use lib.ListN.{length, getD, drop, length-append, length-drop}
 use lib.Seq.{drop-drop, drop-at}
 use lib.Dec.{eqb, ltb}
-use borrow.Author.Tests.{lt-ltb, le-ltb, ltb-true, ltb-false, ne-eqb, eq-eqb}
+use borrow.Author.Tests.{lt-ltb, ne-eqb}
 use Rattle.scan.specs.Loop.{halt, more}
 use Rattle.scan.specs.Bytes.{blank, nameByte, attrNameByte, other, runEnd}
 use Rattle.scan.specs.Marks as marks
@@ -22,17 +22,17 @@ use Rattle.scan.proofs.Runs.{run-high}
 use Rattle.grammar.specs.Words.{Bytes, _then_, Only, Stops, Run, Begins, UpTo}
 use Rattle.grammar.specs.Tree.{Attr, quote}
 use Rattle.grammar.specs.Tree.{`>`, `/`, `=`}
-use Rattle.grammar.specs.Grammar.{Blanks, Name, Value, quoted, unquoted, Attribute, alone, named, nameless, Attributes, no-attribute, attribute, Opening, opening}
+use Rattle.grammar.specs.Grammar.{Blanks, Value, quoted, unquoted, Attribute, alone, named, nameless, Attributes, no-attribute, attribute, Opening, opening}
 use Rattle.grammar.specs.Scan.{past, run, prefix, beyond}
 use Rattle.grammar.specs.Reader.{tagEnd}
-use Rattle.grammar.proofs.Tests.{by-test, eqb-eq, or-true}
-use Rattle.grammar.proofs.Scans.{run-past, run-only, past-is, past-stops, prefix-begins, prefix-self, beyond-is}
-use Rattle.grammar.proofs.Complete.{stop-at, blank-equals, equals-no-name, value-stops, Front, attribute-front, front-stops, front-length, attributes-stops, AtTagEnd, tag-end-stops}
+use Rattle.grammar.proofs.Tests.{by-test}
+use Rattle.grammar.proofs.Scans.{run-past, run-only, past-is, prefix-begins, beyond-is}
+use Rattle.grammar.proofs.Complete.{stop-at, blank-equals, equals-no-name, value-stops, Front, attribute-front, front-length, attributes-stops}
 use Rattle.derivation.proofs.RunLaws.{past-drop, byte-at}
 use Rattle.derivation.proofs.SearchLaws.{prefix-at, beyond-at, passed}
 use Rattle.tree.specs.Trees as placed
 use Rattle.tree.specs.Read as places
-use Rattle.tree.specs.Read.{AttrOut, TagOut, torn, TagState, equals, skip, quoteByte, valueAt, attrAt, attrNext, tagTurn, tagFrom, startAt}
+use Rattle.tree.specs.Read.{AttrOut, torn, TagState, equals, skip, quoteByte, valueAt, attrAt, attrNext, tagTurn, tagFrom, startAt}
 use Rattle.xml.specs.Where.{valuePlace, attrPlaced, attrsPlaced, openingPlaced}
 
 -- ---- the rest of the text from a place on

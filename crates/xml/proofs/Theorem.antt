@@ -4,7 +4,6 @@
 --     takes-exactly, gives-that-tree, refuses-exactly   the demand; parsed-derived: of a text that derives a tree, it shows that tree
 --     small-strings, small-nodes, small-attrs, too-long, not-utf8   the numbers 1 to 3, in this order; taken-fits: a text that is taken meets none
 --     answers-tree, answers-refused  the program's answer tells which it is
---     left-shows                     the tree that the tables show is that of `parsed`
 use Prim.Native.Nat.{ℕ, _≤_, _<_}
 use mathlib.Core.Path.{_≡_, refl, sym, ap, ap₂, _∙_}
 use mathlib.Core.Bool.{Bool, true, false}
@@ -20,7 +19,6 @@ use Rattle.tree.specs.Trees.{spans, InOrder}
 use Rattle.tree.specs.Read.{Out, got, nothing, bad, meaning, answerOf}
 use Rattle.tree.specs.declared.answers.Answer.the-variants.{Tree, Refused}
 use Rattle.tree.specs.declared.answers.Refusal.{Refusal}
-use Rattle.tree.specs.Walks.{treeOf}
 use Rattle.unicode.specs.Utf8.{utf8End}
 use Rattle.tree.specs.Posts.{Fits}
 use Rattle.tree.proofs.Places.{meaning-placed}
@@ -30,7 +28,7 @@ use Rattle.grammar.specs.Demand.{Result, tree, refused, Derives, decodeForest}
 use Rattle.grammar.specs.Refusals.{FirstMet}
 use Rattle.grammar.specs.Counted.{decodeResult, treeReader}
 use Rattle.grammar.proofs.Theorem as grammar
-use Rattle.derivation.specs.Strings.{treeIn, resultIn}
+use Rattle.derivation.specs.Strings.{resultIn}
 use Rattle.derivation.proofs.Agree.{agree}
 use Rattle.xml.specs.Reading.{raw, readOut, stringsOf}
 use Rattle.xml.proofs.Parsing.{raw-small, raw-enough}
@@ -78,12 +76,6 @@ module _ (s : List ℕ) (z : ℕ) where
       let a : n ≡ i = cc in
       let b : r ≡ p = cc in
       rw (a, b)
-
-tree-of : (w : List ℕ) (o : Out) (g : Forest) → resultIn w o ≡ tree g → treeIn w (treeOf o) ≡ g
-unfolding resultIn treeOf treeIn
-tree-of w (got f q k a) g e = cc
-tree-of w (nothing q) g e = cc
-tree-of w (bad n p) g e = let d : _≡_ {A = ℕ} 0 1 = cc in absurd (omega arith)
 
 module _ (s : List ℕ) (n m z : ℕ) where
   -- ---- within the limits 1 to 3
@@ -164,6 +156,3 @@ module _ (s : List ℕ) (n m z : ℕ) where
 
   pub answers-refused : (i p : ℕ) → (answerOf (raw s n m z) ≡ Refused (record { number = i; place = p })) ↔ (parsed s n m z ≡ refused i p)
   answers-refused i p = (refused-there s z (raw s n m z) i p, refused-back s z (raw s n m z) i p)
-
-  pub left-shows : (w : List ℕ) (g : Forest) → w ≡ stringsOf z s (raw s n m z) → parsed s n m z ≡ tree g → treeIn w (treeOf (readOut s (raw s n m z))) ≡ g
-  left-shows w g e x = rw e (tree-of (stringsOf z s (raw s n m z)) (readOut s (raw s n m z)) g x)

@@ -1,6 +1,6 @@
 -- What the two passes over the rows do, row by row: what the program ensures, not what one must believe (`proofs` shows that it is
 -- `Reading`). s is the text, t the table of nodes, u that of attributes, z that of strings.
-use Prim.Native.Nat.{ℕ, zero, suc, _+_, _*_, _≤_, _<_}
+use Prim.Native.Nat.{ℕ, zero, suc, _+_, _*_, _≤_}
 use mathlib.Core.Bool.{cond}
 use mathlib.Core.List.{List, [], _∷_}
 use lib.ListN.{length, getD}
