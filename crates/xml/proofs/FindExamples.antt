@@ -73,6 +73,6 @@ pub an-element : isElement nodes strings (112 ∷ []) 1 ≡ true
 unfolding isElement named stringAt sameFolded lower hasColon afterLastColon
 an-element = refl
 
-pub value-7 : findValue strings (65 ∷ []) owned ≡ At (record { place = 7; len = 1 })
+pub value-7 : findValue strings (65 ∷ []) owned ≡ At (record { at = 4; place = 7; len = 1 })
 unfolding findValue stringAt sameFolded lower
 value-7 = refl

@@ -4,7 +4,7 @@
 --     is-element-text, is-element-section, is-element-elem   what `isElement` says of a row
 --     find-nothing, find-found                        what `findRow` says of the tree
 --     many-shown                                      as many attributes are shown as there are
---     value-shown, value-absent, absent-value, value-at      what `findValue` says of the attributes
+--     value-shown, value-at                           what `findValue` says of the attributes
 use Prim.Native.Nat.{ℕ, suc, _+_, _≤_, _<_}
 use mathlib.Core.Path.{_≡_, refl, sym, ap, _∙_}
 use mathlib.Core.Bool.{true, false}
@@ -21,11 +21,10 @@ use Rattle.tree.proofs.Walks.{on-text, on-section, on-elem, on-attrs, room, pla
 use Rattle.scan.specs.Part.{stringAt}
 use Rattle.derivation.specs.Strings.{attrIn, attrsIn, treeIn}
 use Rattle.xml.specs.declared.find.Found.the-variants.{Row, Nothing}
-use Rattle.xml.specs.declared.find.Place.{Place}
-use Rattle.xml.specs.declared.find.Value.{Value}
-use Rattle.xml.specs.declared.find.Value.the-variants.{At, Absent}
-use Rattle.xml.specs.Find.{named, findElement, absent, FoundValue, value, no-value, attrValue}
-use Rattle.xml.specs.Find.{Holds, Siblings, findRow, findValue, WithinAttrs, Owned, isElement, HasRow, elementRow, TextAt, ElementAt, FoundAt}
+use Rattle.xml.specs.declared.find.Attribute.{Attribute}
+use Rattle.xml.specs.declared.find.Value.the-variants.{At}
+use Rattle.xml.specs.Find.{named, findElement, absent, value, attrValue}
+use Rattle.xml.specs.Find.{Holds, Siblings, findRow, findValue, shown, WithinAttrs, Owned, isElement, HasRow, elementRow, TextAt, ElementAt, FoundAt}
 
 -- ---- the rows of what the tables hold
 within-attrs : (l : List Attr) (lo hi : ℕ) → InOrder lo (attrSpans l) hi → WithinAttrs hi l
@@ -206,11 +205,6 @@ many-shown z [] = refl
 many-shown z (x ∷ l) = ap suc (many-shown z l)
 
 -- ---- what `findValue` says of the attributes
--- a value as the strings have it
-unfoldable pub shown : List ℕ → Value → FoundValue
-shown z (At x) = value (stringAt z (x .place) (x .len))
-shown z Absent = no-value
-
 pub value-shown : (z name : List ℕ) (l : List Attr) → shown z (findValue z name l) ≡ attrValue name (attrsIn z l)
 unfolding shown findValue attrValue attrsIn attrIn
 value-shown z name [] = refl
@@ -218,19 +212,7 @@ value-shown z name (x ∷ l) =
     let r : shown z (findValue z name l) ≡ attrValue name (attrsIn z l) = value-shown z name l in
     by-test (sameFolded (stringAt z (x .name) (x .nameLen)) name) (λ w. rw w) (λ w. rw w r)
 
-pub value-absent : (z name : List ℕ) (l : List Attr) → findValue z name l ≡ Absent → attrValue name (attrsIn z l) ≡ no-value
-unfolding shown
-value-absent z name l e = sym (value-shown z name l) ∙ ap (shown z) e
-
-pub absent-value : (z name : List ℕ) (l : List Attr) → attrValue name (attrsIn z l) ≡ no-value → findValue z name l ≡ Absent
-unfolding shown
-absent-value z name l e = by (findValue z name l) (value-shown z name l ∙ e)
-  where
-    by : (v : Value) → shown z v ≡ no-value → v ≡ Absent
-    by (At x) w = absurd (let y : _≡_ {A = ℕ} 0 1 = cc in omega arith)
-    by Absent w = refl
-
-value-within : (z name : List ℕ) (l : List Attr) (x : Place) → WithinAttrs (length z) l → findValue z name l ≡ At x → x .place + x .len ≤ length z
+value-within : (z name : List ℕ) (l : List Attr) (x : Attribute) → WithinAttrs (length z) l → findValue z name l ≡ At x → x .place + x .len ≤ length z
 unfolding findValue
 value-within z name [] x w e = absurd (let y : _≡_ {A = ℕ} 0 1 = cc in omega arith)
 value-within z name (y ∷ l) x w e =
@@ -239,11 +221,11 @@ value-within z name (y ∷ l) x w e =
   where
     here : sameFolded (stringAt z (y .name) (y .nameLen)) name ≡ true → x .place + x .len ≤ length z
     here q =
-        let j : At (record { place = y .value; len = y .valueLen }) ≡ At x = rw q at e in
-        let v : record { place = y .value; len = y .valueLen } ≡ x = cc in
+        let j : At (record { at = y .name; place = y .value; len = y .valueLen }) ≡ At x = rw q at e in
+        let v : record { at = y .name; place = y .value; len = y .valueLen } ≡ x = cc in
         rw (← v) (w .1)
 
-pub value-at : (z name : List ℕ) (l : List Attr) (x : Place) → WithinAttrs (length z) l → findValue z name l ≡ At x
+pub value-at : (z name : List ℕ) (l : List Attr) (x : Attribute) → WithinAttrs (length z) l → findValue z name l ≡ At x
     → (attrValue name (attrsIn z l) ≡ value (stringAt z (x .place) (x .len))) × (x .place + x .len ≤ length z)
 unfolding shown
 value-at z name l x w e = (sym (value-shown z name l) ∙ ap (shown z) e, value-within z name l x w e)

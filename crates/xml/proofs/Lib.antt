@@ -8,6 +8,7 @@ pub mod Theorem
 pub mod Promises
 pub mod FindLaws
 pub mod FindSteps
+pub mod AttrRows
 pub mod Given
 pub mod Standing
 pub mod Derived
