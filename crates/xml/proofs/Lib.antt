@@ -15,4 +15,6 @@ pub mod Derived
 pub mod Lengths
 pub mod Determined
 pub mod PlaceExamples
+pub mod Spread
+pub mod Encoded
 pub mod FindExamples
