@@ -12,7 +12,7 @@ use Rattle.tree.specs.Read.{Out, got, nothing, bad, prologEnd, meaning}
 use Rattle.tree.specs.Posts.{Fits}
 use Rattle.tree.proofs.Whole.{in-range}
 use Rattle.grammar.specs.Tree.{Forest}
-use Rattle.grammar.specs.Counted.{LRes, finishL, readDocumentL, textAs, readText}
+use Rattle.grammar.proofs.Counted.{LRes, finishL, readDocumentL, textAs, readText}
 use Rattle.grammar.proofs.CountedRounds.{nodesC, readDocumentL-is}
 use Rattle.derivation.specs.Strings.{resultIn}
 use Rattle.derivation.proofs.Prologs.{prolog-agrees}

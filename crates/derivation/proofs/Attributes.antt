@@ -20,8 +20,8 @@ use Rattle.tree.specs.Read.{AttrOut, flaw, equals, skip, quoteByte, quoted, bar
 use Rattle.grammar.specs.Words.{Bytes, Stops}
 use Rattle.grammar.specs.Tree.{Attr, attr, quote}
 use Rattle.grammar.specs.Scan.{run, past}
-use Rattle.grammar.specs.Reader.{Res, ok, bad, mapRes, valueAs, readValue, afterNameAs, afterName, readAttribute, tagEnd}
-use Rattle.grammar.specs.Counted.{LRes, lok, lbad, lift, lmap, attributesStepL, attributesAsL}
+use Rattle.grammar.proofs.Reader.{Res, ok, bad, mapRes, valueAs, readValue, afterNameAs, afterName, readAttribute, tagEnd}
+use Rattle.grammar.proofs.Counted.{LRes, lok, lbad, lift, lmap, attributesStepL, attributesAsL}
 use Rattle.grammar.proofs.Tests.{by-test}
 use Rattle.grammar.proofs.Scans.{past-is, past-stops}
 use Rattle.grammar.proofs.Ends.{Ends, past-length, attribute-ends}

@@ -22,9 +22,9 @@ use Rattle.grammar.specs.Tree.{Forest, none}
 use Rattle.grammar.specs.Tree.{`-->`}
 use Rattle.grammar.specs.Grammar.{Before, a-comment, no-comment}
 use Rattle.grammar.specs.Scan.{past, beyond}
-use Rattle.grammar.specs.Reader as lists
-use Rattle.grammar.specs.Reader.{NodeKind, as-text, as-section, as-element, Kind, as-close, as-comment, as-node, kind, afterClose}
-use Rattle.grammar.specs.Counted.{lok, lmap, lift, Counted, nodeL, contentAsL, contentStepL, nodesAsL, nodesStepL}
+use Rattle.grammar.proofs.Reader as lists
+use Rattle.grammar.proofs.Reader.{NodeKind, as-text, as-section, as-element, Kind, as-close, as-comment, as-node, kind, afterClose}
+use Rattle.grammar.proofs.Counted.{lok, lmap, lift, Counted, nodeL, contentAsL, contentStepL, nodesAsL, nodesStepL}
 use Rattle.grammar.proofs.Tests.{by-test}
 use Rattle.grammar.proofs.CountedRounds.{contentC, contentC-is, nodesC, nodesC-is}
 use Rattle.derivation.specs.Strings.{treeIn}

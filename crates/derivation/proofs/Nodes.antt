@@ -22,8 +22,8 @@ use Rattle.tree.specs.Read.{Out, got, nothing, bad, cdataMark, cdataEnd, TagOut
 use Rattle.tree.proofs.NodeLaws.{text-beyond}
 use Rattle.grammar.specs.Tree.{Tree, text, section, element, Forest, none, more}
 use Rattle.grammar.specs.Grammar.{no-comment}
-use Rattle.grammar.specs.Reader.{as-text, as-section, as-element}
-use Rattle.grammar.specs.Counted.{LRes, lok, lbad, lmap, lnext, Counted, nodeL, elementL}
+use Rattle.grammar.proofs.Reader.{as-text, as-section, as-element}
+use Rattle.grammar.proofs.Counted.{LRes, lok, lbad, lmap, lnext, Counted, nodeL, elementL}
 use Rattle.grammar.proofs.Tests.{by-test}
 use Rattle.grammar.proofs.CountedRounds.{contentC}
 use Rattle.scan.specs.Part.{stringAt}

@@ -14,7 +14,7 @@ use Rattle.scan.specs.Loop as loops
 use Rattle.scan.proofs.Loop.{loop-out, loop-halt, loop-more}
 use Rattle.tree.specs.Read.{Out, got, nothing, bad, State, nodeNext, rowOf}
 use Rattle.grammar.specs.Tree.{Forest, none}
-use Rattle.grammar.specs.Counted.{LRes, lok, lbad, lmap, Counted}
+use Rattle.grammar.proofs.Counted.{LRes, lok, lbad, lmap, Counted}
 use Rattle.derivation.specs.Strings.{treeIn}
 use Rattle.derivation.proofs.SearchLaws.{from-end}
 use Rattle.derivation.proofs.Joining.{joined, joined-none, tree-join, map-joined}

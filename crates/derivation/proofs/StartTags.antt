@@ -21,8 +21,8 @@ use Rattle.tree.proofs.Tags.{starts-some, tag-out, tag-open, tag-full, tag-flaw
 use Rattle.grammar.specs.Words.{Bytes, Stops}
 use Rattle.grammar.specs.Tree.{Attr, Tree, element, Forest, none}
 use Rattle.grammar.specs.Scan.{run, past}
-use Rattle.grammar.specs.Reader.{ok, bad, readAttribute, tagEnd, afterSlash, slashAs}
-use Rattle.grammar.specs.Counted.{LRes, lok, lbad, lnext, lmap, lift, Counted, openedAsL, afterOpeningL, afterTagNameL, elementL}
+use Rattle.grammar.proofs.Reader.{ok, bad, readAttribute, tagEnd, afterSlash, slashAs}
+use Rattle.grammar.proofs.Counted.{LRes, lok, lbad, lnext, lmap, lift, Counted, openedAsL, afterOpeningL, afterTagNameL, elementL}
 use Rattle.grammar.proofs.Tests.{by-test}
 use Rattle.grammar.proofs.CountedRounds.{attributesC}
 use Rattle.scan.specs.Part.{stringAt}

@@ -16,7 +16,7 @@ use Rattle.grammar.specs.Tree.{`>`, `/`, `=`, `</`, `<?`, `<!`, `<!--`, 
 use Rattle.grammar.specs.Grammar.{Blanks, Piece, one-blank, instruction, declaration, Prolog, no-piece, piece, NoPiece, Name, Value, quoted, unquoted, Attribute, alone, named, nameless, Attributes, no-attribute, attribute, Opening, opening, Comment, Before, a-comment, no-comment, Node, a-text, a-section, last-section, an-element, Element, without-content, with-content, Content, Nodes, Document, document}
 use Rattle.grammar.specs.Demand.{tree}
 use Rattle.grammar.specs.Scan.{run, past, prefix, from, before, beyond}
-use Rattle.grammar.specs.Reader.{Res, next, mapRes, valueAs, readValue, afterNameAs, afterName, readAttribute, tagEnd, attributesAs, attributesStep, readAttributes, slashAs, afterSlash, openedAs, afterOpening, afterTagName, readElement, NodeKind, kind, nodeAs, afterClose, contentAs, contentStep, readContent, nodesAs, nodesStep, readNodes, pieceKind, prologAs, pastProlog, finish, readDocument, ok, as-text, as-section, as-element, as-close, as-comment, as-node, to-mark, no-more}
+use Rattle.grammar.proofs.Reader.{Res, next, mapRes, valueAs, readValue, afterNameAs, afterName, readAttribute, tagEnd, attributesAs, attributesStep, readAttributes, slashAs, afterSlash, openedAs, afterOpening, afterTagName, readElement, NodeKind, kind, nodeAs, afterClose, contentAs, contentStep, readContent, nodesAs, nodesStep, readNodes, pieceKind, prologAs, pastProlog, finish, readDocument, ok, as-text, as-section, as-element, as-close, as-comment, as-node, to-mark, no-more}
 use Rattle.grammar.proofs.Tests.{by-test, eqb-same, eqb-eq, test-sym, not-true, or-true, not-or3, not-or4}
 use Rattle.grammar.proofs.Scans.{run-past, run-only, past-stops, run-is, past-is, prefix-begins, not-prefix, prefix-not, from-first, before-first, from-lacks, before-lacks, beyond-is, up-to}
 

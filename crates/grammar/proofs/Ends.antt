@@ -15,7 +15,7 @@ use Rattle.grammar.specs.Tree.{`<`, `<!--`, `-->`, `]]>`}
 use Rattle.grammar.specs.Grammar.{Before, a-comment, no-comment}
 use Rattle.grammar.specs.Demand.{refused}
 use Rattle.grammar.specs.Scan.{run, past, from, before, beyond}
-use Rattle.grammar.specs.Reader.{Res, next, mapRes, valueAs, readValue, afterNameAs, afterName, readAttribute, tagEnd, attributesAs, attributesStep, readAttributes, slashAs, afterSlash, openedAs, afterOpening, afterTagName, readElement, NodeKind, Kind, kind, nodeAs, afterClose, contentAs, contentStep, readContent, nodesAs, nodesStep, readNodes, pastProlog, finish, readDocument, ok, bad, as-text, as-section, as-element, as-close, as-comment, as-node}
+use Rattle.grammar.proofs.Reader.{Res, next, mapRes, valueAs, readValue, afterNameAs, afterName, readAttribute, tagEnd, attributesAs, attributesStep, readAttributes, slashAs, afterSlash, openedAs, afterOpening, afterTagName, readElement, NodeKind, Kind, kind, nodeAs, afterClose, contentAs, contentStep, readContent, nodesAs, nodesStep, readNodes, pastProlog, finish, readDocument, ok, bad, as-text, as-section, as-element, as-close, as-comment, as-node}
 use Rattle.grammar.proofs.Tests.{by-test, eqb-eq, equals-byte}
 use Rattle.grammar.proofs.Scans.{run-past, past-stops, before-from}
 use Rattle.grammar.proofs.Complete.{comment-length}

@@ -20,8 +20,8 @@ use Rattle.grammar.specs.Grammar.{Blanks, Name, Attributes, no-attribute
 use Rattle.grammar.specs.Limits.{treeNodes, treeAttrs}
 use Rattle.grammar.specs.Demand.{Result, refused}
 use Rattle.grammar.specs.Scan.{run, past, prefix}
-use Rattle.grammar.specs.Reader.{Res, mapRes, readValue, afterNameAs, afterName, readAttribute, tagEnd, readAttributes, slashAs, afterSlash, NodeKind, kind, nodeAs, afterClose, pastProlog, ok, bad, as-text, as-section, as-element, as-node}
-use Rattle.grammar.specs.Counted.{LRes, lnext, lmap, lift, Counted, attributesAsL, attributesStepL, attributesL, openedAsL, afterOpeningL, afterTagNameL, elementL, nodeL, contentAsL, contentStepL, contentL, nodesAsL, nodesStepL, finishL, readDocumentL, lok, lbad}
+use Rattle.grammar.proofs.Reader.{Res, mapRes, readValue, afterNameAs, afterName, readAttribute, tagEnd, readAttributes, slashAs, afterSlash, NodeKind, kind, nodeAs, afterClose, pastProlog, ok, bad, as-text, as-section, as-element, as-node}
+use Rattle.grammar.proofs.Counted.{LRes, lnext, lmap, lift, Counted, attributesAsL, attributesStepL, attributesL, openedAsL, afterOpeningL, afterTagNameL, elementL, nodeL, contentAsL, contentStepL, contentL, nodesAsL, nodesStepL, finishL, readDocumentL, lok, lbad}
 use Rattle.grammar.specs.Refusals.{ElementBegins, NodeBegins, AttributeBegins, Viable, InStartTag, in-start-tag, Meets, too-deep, too-many-nodes, no-tag-name, too-many-attributes, slash, no-value, end-in-tag, open-close-tag, FirstMet}
 use Rattle.grammar.proofs.Tests.{by-test, eqb-eq, not-or3, or-true}
 use Rattle.grammar.proofs.Scans.{run-past, past-stops, run-is, past-is, begins-prefix, not-prefix, beyond-is}

@@ -19,8 +19,8 @@ use Rattle.grammar.specs.Grammar.{Blanks, Name, Attribute, Attributes, n
 use Rattle.grammar.specs.Limits.{treeNodes, treeAttrs}
 use Rattle.grammar.specs.Demand.{refused}
 use Rattle.grammar.specs.Scan.{run, past, beyond}
-use Rattle.grammar.specs.Reader.{Res, next, mapRes, valueAs, readValue, afterNameAs, afterName, readAttribute, tagEnd, attributesAs, attributesStep, readAttributes, slashAs, afterSlash, openedAs, afterOpening, afterTagName, readElement, NodeKind, Kind, kind, nodeAs, afterClose, readContent, pastProlog, ok, bad, as-text, as-section, as-element, as-close, as-comment, as-node}
-use Rattle.grammar.specs.Counted.{LRes, lnext, lmap, lift, Counted, attributesAsL, attributesStepL, attributesL, openedAsL, afterOpeningL, afterTagNameL, elementL, nodeL, contentAsL, contentStepL, contentL, nodesAsL, nodesStepL, nodesL, finishL, readDocumentL, lok, lbad}
+use Rattle.grammar.proofs.Reader.{Res, next, mapRes, valueAs, readValue, afterNameAs, afterName, readAttribute, tagEnd, attributesAs, attributesStep, readAttributes, slashAs, afterSlash, openedAs, afterOpening, afterTagName, readElement, NodeKind, Kind, kind, nodeAs, afterClose, readContent, pastProlog, ok, bad, as-text, as-section, as-element, as-close, as-comment, as-node}
+use Rattle.grammar.proofs.Counted.{LRes, lnext, lmap, lift, Counted, attributesAsL, attributesStepL, attributesL, openedAsL, afterOpeningL, afterTagNameL, elementL, nodeL, contentAsL, contentStepL, contentL, nodesAsL, nodesStepL, nodesL, finishL, readDocumentL, lok, lbad}
 use Rattle.grammar.specs.Refusals.{ElementBegins, NodeBegins, AttributeBegins, Viable, InStartTag, in-start-tag, Meets, too-deep, too-many-nodes, no-tag-name, too-many-attributes, slash, no-value, end-in-tag, open-close-tag}
 use Rattle.grammar.proofs.Tests.{by-test, both, eqb-eq, equals-byte, or-else}
 use Rattle.grammar.proofs.Scans.{run-past, run-only, past-stops, run-is, past-is}

@@ -15,7 +15,7 @@ use Rattle.grammar.specs.Tree.{Attr, Tree, element, Forest, more}
 use Rattle.grammar.specs.Tree.{`-->`}
 use Rattle.grammar.specs.Grammar.{Before, a-comment, no-comment}
 use Rattle.grammar.specs.Scan.{run, past, beyond}
-use Rattle.grammar.specs.Reader.{Res, next, mapRes, readAttributes, openedAs, afterOpening, afterTagName, readElement, NodeKind, Kind, kind, nodeAs, contentAs, contentStep, readContent, ok, bad, as-text, as-section, as-element, as-close, as-comment, as-node}
+use Rattle.grammar.proofs.Reader.{Res, next, mapRes, readAttributes, openedAs, afterOpening, afterTagName, readElement, NodeKind, Kind, kind, nodeAs, contentAs, contentStep, readContent, ok, bad, as-text, as-section, as-element, as-close, as-comment, as-node}
 use Rattle.grammar.proofs.Scans.{past-stops}
 use Rattle.grammar.proofs.Sound.{View, view, comments}
 use Rattle.grammar.proofs.Ends.{Ends, past-length, attributes-ends, comment-ends, content-ends, node-ends}

@@ -19,8 +19,8 @@ use Rattle.grammar.specs.Grammar.{Before, a-comment, no-comment, Documen
 use Rattle.grammar.specs.Limits.{treeNodes, nodes, treeAttrs, attrs, treeDepth, depth, Within}
 use Rattle.grammar.specs.Demand.{tree}
 use Rattle.grammar.specs.Scan.{run, past, before, beyond}
-use Rattle.grammar.specs.Reader.{Res, next, mapRes, readAttribute, tagEnd, attributesAs, attributesStep, readAttributes, slashAs, afterSlash, openedAs, afterOpening, afterTagName, readElement, NodeKind, Kind, kind, nodeAs, afterClose, contentAs, contentStep, readContent, nodesAs, nodesStep, readNodes, pastProlog, finish, readDocument, ok, bad, as-text, as-section, as-element, as-close, as-comment, as-node}
-use Rattle.grammar.specs.Counted.{LRes, lnext, lmap, lift, Counted, attributesAsL, attributesStepL, attributesL, openedAsL, afterOpeningL, afterTagNameL, elementL, nodeL, contentAsL, contentStepL, contentL, nodesAsL, nodesStepL, nodesL, finishL, readDocumentL, textAs, readText, lok, lbad}
+use Rattle.grammar.proofs.Reader.{Res, next, mapRes, readAttribute, tagEnd, attributesAs, attributesStep, readAttributes, slashAs, afterSlash, openedAs, afterOpening, afterTagName, readElement, NodeKind, Kind, kind, nodeAs, afterClose, contentAs, contentStep, readContent, nodesAs, nodesStep, readNodes, pastProlog, finish, readDocument, ok, bad, as-text, as-section, as-element, as-close, as-comment, as-node}
+use Rattle.grammar.proofs.Counted.{LRes, lnext, lmap, lift, Counted, attributesAsL, attributesStepL, attributesL, openedAsL, afterOpeningL, afterTagNameL, elementL, nodeL, contentAsL, contentStepL, contentL, nodesAsL, nodesStepL, nodesL, finishL, readDocumentL, textAs, readText, lok, lbad}
 use Rattle.grammar.proofs.Tests.{by-test, T→is, is→T, both}
 use Rattle.grammar.proofs.Complete.{complete}
 use Rattle.grammar.proofs.Sound.{sound}

@@ -17,7 +17,7 @@ use Rattle.grammar.specs.Tree.{`<`, `>`, `/`, `=`, `</`, `<?`, `<!`, `<!
 use Rattle.grammar.specs.Grammar.{Blanks, Piece, one-blank, instruction, declaration, Prolog, no-piece, piece, NoPiece, Name, Value, quoted, unquoted, Attribute, alone, named, nameless, Attributes, no-attribute, attribute, Opening, opening, Comment, Before, a-comment, no-comment, Node, a-text, a-section, last-section, an-element, Element, without-content, with-content, Content, Nodes, Document, document}
 use Rattle.grammar.specs.Demand.{tree}
 use Rattle.grammar.specs.Scan.{run, past, prefix, from, before, beyond}
-use Rattle.grammar.specs.Reader.{Res, next, mapRes, valueAs, readValue, afterNameAs, afterName, readAttribute, tagEnd, attributesAs, attributesStep, readAttributes, slashAs, afterSlash, openedAs, afterOpening, afterTagName, readElement, NodeKind, Kind, kind, nodeAs, afterClose, contentAs, contentStep, readContent, nodesAs, nodesStep, readNodes, PieceKind, pieceKind, prologAs, pastProlog, finish, readDocument, ok, bad, as-text, as-section, as-element, as-close, as-comment, as-node, blank-byte, to-mark, no-more}
+use Rattle.grammar.proofs.Reader.{Res, next, mapRes, valueAs, readValue, afterNameAs, afterName, readAttribute, tagEnd, attributesAs, attributesStep, readAttributes, slashAs, afterSlash, openedAs, afterOpening, afterTagName, readElement, NodeKind, Kind, kind, nodeAs, afterClose, contentAs, contentStep, readContent, nodesAs, nodesStep, readNodes, PieceKind, pieceKind, prologAs, pastProlog, finish, readDocument, ok, bad, as-text, as-section, as-element, as-close, as-comment, as-node, blank-byte, to-mark, no-more}
 use Rattle.grammar.proofs.Tests.{by-test, both, eqb-eq, not-false, or-true3, equals-byte}
 use Rattle.grammar.proofs.Scans.{run-past, run-only, past-stops, past-is, prefix-begins, prefix-not, before-from, Found, found, before-lacks, up-to, nowhere, at-first}
 use Rattle.grammar.proofs.Complete.{past-none, blank-equals, AtTagEnd, begins-more, begins-piece, open-comment, open-instruction, open-declaration, piece-length, kind-instruction, kind-comment-piece, kind-declaration, complete}

@@ -14,7 +14,7 @@ use Rattle.grammar.specs.Words.{Bytes}
 use Rattle.grammar.specs.Tree.{Forest}
 use Rattle.grammar.specs.Demand.{Result, tree, refused, Derives, TakesExactly, GivesThatTree, NoTwo, decodeForest}
 use Rattle.grammar.specs.Refusals.{RefusesTruly, RefusesExactly}
-use Rattle.grammar.specs.Counted.{readDocumentL, textAs, readText, decodeResult, treeReader}
+use Rattle.grammar.proofs.Counted.{readDocumentL, textAs, readText, decodeResult, treeReader}
 use Rattle.grammar.proofs.Tests.{by-test, T→is, is→T}
 use Rattle.grammar.proofs.Complete.{unique}
 use Rattle.grammar.proofs.Simulation.{text-exactly}

@@ -23,7 +23,7 @@ use Rattle.grammar.specs.Tree.{Tree, Forest, Attr}
 use Rattle.grammar.specs.Tree.{`>`, `/`, `</`, `<!--`, `<![CDATA[`, `]]>`}
 use Rattle.grammar.specs.Grammar.{Blanks, Name, Opening, Comment, Before, a-comment, no-comment, Node, a-text, a-section, last-section, an-element, Element, without-content, with-content, Content, Nodes, Document, document}
 use Rattle.grammar.specs.Scan.{prefix, from}
-use Rattle.grammar.specs.Reader.{NodeKind, as-text, as-section, as-element, Kind, as-close, as-comment, as-node, kind}
+use Rattle.grammar.proofs.Reader.{NodeKind, as-text, as-section, as-element, Kind, as-close, as-comment, as-node, kind}
 use Rattle.grammar.proofs.Tests.{by-test}
 use Rattle.grammar.proofs.Scans.{begins-prefix, from-first, from-lacks}
 use Rattle.grammar.proofs.Complete.{blank-gt, tag-end-stops, kind-text, kind-close, kind-element, Tagged, tagged-append, element-tagged, element-mark, not-begins, comment-length, begins-more, node-complete, prolog-complete}

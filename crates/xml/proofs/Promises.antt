@@ -23,6 +23,7 @@ use Rattle.grammar.specs.Tree.{Forest}
 use Rattle.grammar.specs.Limits as count
 use Rattle.grammar.specs.Demand.{Result, refused, decodeForest}
 use Rattle.grammar.specs.Refusals.{Meets, too-deep, too-many-nodes, no-tag-name, too-many-attributes, slash, no-value, end-in-tag, open-close-tag}
+use Rattle.tree.specs.Answers.{numberOf, placeOf, Says}
 use Rattle.tree.specs.Trees as placed
 use Rattle.tree.specs.Trees.{Attr, nil, text, section, elem, size, attrsOf, rows, attrRows, Span, attrSpans, spans, InOrder}
 use Rattle.tree.specs.Read.{Out, got, nothing, bad, answerOf, nodesOf, attrCells}
@@ -35,7 +36,7 @@ use Rattle.tree.proofs.Places.{meaning-placed}
 use Rattle.derivation.specs.Strings.{attrsIn, treeIn}
 use Rattle.derivation.proofs.Theorem.{Gives, gives-exactly}
 use Rattle.xml.specs.Reading.{Placed, attrStrings, strings, lay, readAttrs, readForest, raw, readOut, stringsOf}
-use Rattle.xml.specs.Promise.{numberOf, placeOf, Says, Tables, tables, LongEnough, AllZero, Readable, Takes, TurnsAway, short-table, long-text, not-utf8, first-met, placesOf, Outside, HoldsTree, Parsed}
+use Rattle.xml.specs.Promise.{Tables, tables, LongEnough, AllZero, Readable, Takes, TurnsAway, short-table, long-text, not-utf8, first-met, placesOf, Outside, HoldsTree, Parsed}
 use Rattle.xml.proofs.PassLaws.{string-short}
 use Rattle.xml.proofs.Lays.{lay-length}
 use Rattle.xml.proofs.Parsing.{raw-enough, Left}

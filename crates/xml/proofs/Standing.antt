@@ -24,7 +24,7 @@ use Rattle.grammar.specs.Tree.{Attr, quote}
 use Rattle.grammar.specs.Tree.{`>`, `/`, `=`}
 use Rattle.grammar.specs.Grammar.{Blanks, Value, quoted, unquoted, Attribute, alone, named, nameless, Attributes, no-attribute, attribute, Opening, opening}
 use Rattle.grammar.specs.Scan.{past, run, prefix, beyond}
-use Rattle.grammar.specs.Reader.{tagEnd}
+use Rattle.grammar.proofs.Reader.{tagEnd}
 use Rattle.grammar.proofs.Tests.{by-test}
 use Rattle.grammar.proofs.Scans.{run-past, run-only, past-is, prefix-begins, beyond-is}
 use Rattle.grammar.proofs.Complete.{stop-at, blank-equals, equals-no-name, value-stops, Front, attribute-front, front-length, attributes-stops}

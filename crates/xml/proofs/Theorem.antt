@@ -26,7 +26,7 @@ use Rattle.tree.proofs.Whole as whole
 use Rattle.grammar.specs.Tree.{Forest}
 use Rattle.grammar.specs.Demand.{Result, tree, refused, Derives, decodeForest}
 use Rattle.grammar.specs.Refusals.{FirstMet}
-use Rattle.grammar.specs.Counted.{decodeResult, treeReader}
+use Rattle.grammar.proofs.Counted.{decodeResult, treeReader}
 use Rattle.grammar.proofs.Theorem as grammar
 use Rattle.derivation.specs.Strings.{resultIn}
 use Rattle.derivation.proofs.Agree.{agree}

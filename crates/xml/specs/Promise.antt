@@ -12,25 +12,13 @@ use Rattle.grammar.specs.Limits as count
 use Rattle.grammar.specs.Grammar.{Document}
 use Rattle.grammar.specs.Demand.{Derives, decodeForest}
 use Rattle.grammar.specs.Refusals.{FirstMet}
+use Rattle.tree.specs.Answers.{numberOf, Says}
 use Rattle.tree.specs.Trees as placed
 use Rattle.tree.specs.Trees.{rows, attrsOf, attrRows, Span, spans, InOrder}
 use Rattle.tree.specs.declared.answers.Answer.{Answer}
-use Rattle.tree.specs.declared.answers.Answer.the-variants.{Tree, Refused}
+use Rattle.tree.specs.declared.answers.Answer.the-variants.{Tree}
 use Rattle.derivation.specs.Strings.{treeIn}
 use Rattle.xml.specs.Where.{documentPlaced}
-
--- ---- the answer
--- "An answer has number and byte place (0 if none is named […])": a tree has no number, here 0
-unfoldable pub numberOf : Answer → ℕ
-numberOf (Tree nodes attrs) = 0
-numberOf (Refused r) = r .number
-
-unfoldable pub placeOf : Answer → ℕ
-placeOf (Tree nodes attrs) = 0
-placeOf (Refused r) = r .place
-
-abbrev pub Says : Answer → (number place : ℕ) → Type 0
-Says answer n p = (numberOf answer ≡ n) × (placeOf answer ≡ p)
 
 -- ---- the tables
 pub record Tables : Type 0 where

@@ -1,5 +1,4 @@
--- A reader of trees on lists, after the Rust's `parse_xml`, without the limits (numbers 4, 5 and 7). A reader on lists, used in the proof;
--- not what one must believe.
+-- A reader of trees on lists, after the Rust's `parse_xml`, without the limits (numbers 4, 5 and 7): a means of proof.
 -- Each loop of the Rust is a step that takes the loop's next round as a function, and a count that bounds the rounds; the count never
 -- runs out (number 0 is never given). A test is handed to a function by clauses (`..As`), so that only the branch taken is computed.
 use Prim.Native.Nat.{ℕ, zero, suc, _-_}
