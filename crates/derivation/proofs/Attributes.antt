@@ -84,7 +84,8 @@ module _ (s : List ℕ) (p e : ℕ) where
       let k : length s ≤ skip s (z + 1) = omega (arith, run-low blank s (z + 1)) in
       rw (e, drop-of-length-le s g, drop-of-length-le s k) (refl, l)))
 
-  bare-agrees : (v : ℕ) → v < length s → AttrAgrees s (ok (attr (stringAt s p (e - p)) (run nameByte (drop v s))) (past nameByte (drop v s))) (bare s p e v)
+  bare-agrees : (v : ℕ) → v < length s → AttrAgrees s (ok (attr (stringAt s p (e - p)) (run nameByte (drop v s))) (past nameByte (drop v s)))
+      (bare s p e v)
   unfolding bare skipped attrIn
   bare-agrees v h =
       let z : ℕ = runEnd nameByte s v in

@@ -43,15 +43,18 @@ within (section p n f) lo hi i = within f (p + n) hi (i .1)
 within (elem p n l c f) lo hi i =
     let r : InOrder (p + 1 + n) (spans c ++ spans f) hi = in-rest (attrSpans l) (spans c ++ spans f) (p + 1 + n) hi (i .1) in
     within-append hi l (attrsOf c ++ attrsOf f) (within-tag l (p + 1 + n) hi (in-first (attrSpans l) (spans c ++ spans f) (p + 1 + n) hi (i .1)))
-    (within-append hi (attrsOf c) (attrsOf f) (within c (p + 1 + n) hi (in-first (spans c) (spans f) (p + 1 + n) hi r)) (within f (p + 1 + n) hi (in-rest (spans c) (spans f) (p + 1 + n) hi r)))
+    (within-append hi (attrsOf c) (attrsOf f) (within c (p + 1 + n) hi (in-first (spans c) (spans f) (p + 1 + n) hi r))
+        (within f (p + 1 + n) hi (in-rest (spans c) (spans f) (p + 1 + n) hi r)))
 
-within-at : (none : Attr) (hi : ℕ) (l : List Attr) (j : ℕ) → Within hi l → j < length l → (getD l j none .name + getD l j none .nameLen ≤ hi) × (getD l j none .value + getD l j none .valueLen ≤ hi)
+within-at : (none : Attr) (hi : ℕ) (l : List Attr) (j : ℕ) → Within hi l → j < length l → (getD l j none .name + getD l j none .nameLen ≤ hi)
+    × (getD l j none .value + getD l j none .valueLen ≤ hi)
 within-at none hi [] j h g = absurd (omega arith)
 within-at none hi (x ∷ l) zero h g = (h .0, h .1)
 within-at none hi (x ∷ l) (suc j) h g = within-at none hi l j (h .2) (omega arith)
 
 pub attr-fits : (none : Attr) (f : Forest) (lo hi j : ℕ) → InOrder lo (spans f) hi → j < length (attrsOf f)
-    → (getD (attrsOf f) j none .name + getD (attrsOf f) j none .nameLen ≤ hi) × (getD (attrsOf f) j none .value + getD (attrsOf f) j none .valueLen ≤ hi)
+    → (getD (attrsOf f) j none .name + getD (attrsOf f) j none .nameLen ≤ hi)
+        × (getD (attrsOf f) j none .value + getD (attrsOf f) j none .valueLen ≤ hi)
 attr-fits none f lo hi j i h = within-at none hi (attrsOf f) j (within f lo hi i) h
 
 -- ---- the table of nodes that the reader leaves
@@ -67,7 +70,8 @@ attrs-of n (got f q k a) = refl
 attrs-of n (nothing q) = rw (sub-zero n)
 attrs-of n (bad m q) = rw (sub-zero n)
 
-tree-placed : (s : List ℕ) (o : Out) → ((f : Forest) (q k a : ℕ) → o ≡ got f q k a → InOrder 0 (spans f) (length s)) → InOrder 0 (spans (treeOf o)) (length s)
+tree-placed : (s : List ℕ) (o : Out) → ((f : Forest) (q k a : ℕ) → o ≡ got f q k a → InOrder 0 (spans f) (length s))
+    → InOrder 0 (spans (treeOf o)) (length s)
 unfolding treeOf spans
 tree-placed s (got f q k a) h = h f q k a refl
 tree-placed s (nothing q) h = omega arith
@@ -105,7 +109,8 @@ attrs-room s u n m left =
 past-cells : (t l : List ℕ) (i e m : ℕ) → drop (i * 6) t ≡ l → e * 6 ≡ i * 6 + m → drop (e * 6) t ≡ drop m l
 past-cells t l i e m w z = rw (z, ← (drop-drop m (i * 6) t), w)
 
-row-is : (t : List ℕ) (i kind end place len first many : ℕ) (l : List ℕ) → drop (i * 6) t ≡ row kind end place len first many ++ l → RowIs t i kind end place len first many
+row-is : (t : List ℕ) (i kind end place len first many : ℕ) (l : List ℕ) → drop (i * 6) t ≡ row kind end place len first many ++ l
+    → RowIs t i kind end place len first many
 unfolding row
 row-is t i kind end place len first many l e = record {
   kind-is = cell-0;
@@ -128,14 +133,19 @@ row-is t i kind end place len first many l e = record {
 module _ (t : List ℕ) (i a p n : ℕ) where
   pub on-text : (f : Forest) → Stands t i a (text p n f) → RowIs t i 1 (i + 1) p n 0 0 × Stands t (i + 1) a f
   unfolding rows row
-  on-text f x = (row-is t i 1 (i + 1) p n 0 0 (rows (i + 1) a f ++ x .tail) (x .is), record { tail = x .tail; is = past-cells t _ i (i + 1) 6 (x .is) (omega arith) })
+  on-text f x =
+      (row-is t i 1 (i + 1) p n 0 0 (rows (i + 1) a f ++ x .tail) (x .is),
+      record { tail = x .tail; is = past-cells t _ i (i + 1) 6 (x .is) (omega arith) })
 
   pub on-section : (f : Forest) → Stands t i a (section p n f) → RowIs t i 3 (i + 1) p n 0 0 × Stands t (i + 1) a f
   unfolding rows row
-  on-section f x = (row-is t i 3 (i + 1) p n 0 0 (rows (i + 1) a f ++ x .tail) (x .is), record { tail = x .tail; is = past-cells t _ i (i + 1) 6 (x .is) (omega arith) })
+  on-section f x =
+      (row-is t i 3 (i + 1) p n 0 0 (rows (i + 1) a f ++ x .tail) (x .is),
+      record { tail = x .tail; is = past-cells t _ i (i + 1) 6 (x .is) (omega arith) })
 
   pub on-elem : (l : List Attr) (c f : Forest) → Stands t i a (elem p n l c f)
-      → RowIs t i 2 (i + 1 + size c) p n a (length l) × Stands t (i + 1) (a + length l) c × Stands t (i + 1 + size c) (a + length l + length (attrsOf c)) f
+      → RowIs t i 2 (i + 1 + size c) p n a (length l) × Stands t (i + 1) (a + length l) c
+          × Stands t (i + 1 + size c) (a + length l + length (attrsOf c)) f
   unfolding rows row
   on-elem l c f x =
       let b : ℕ = a + length l in
@@ -145,7 +155,8 @@ module _ (t : List ℕ) (i a p n : ℕ) where
       let j : length q ≡ size c * 6 = length-rows c (i + 1) b in (
         row-is t i 2 (i + 1 + size c) p n a (length l) ((q ++ r) ++ x .tail) (x .is),
         record { tail = r ++ x .tail; is = past-cells t _ i (i + 1) 6 (x .is) (omega arith) ∙ append-assoc q r (x .tail) },
-        record { tail = x .tail; is = past-cells t _ i (i + 1 + size c) (6 + size c * 6) (x .is) (omega arith) ∙ (sym (drop-drop (size c * 6) 6 _) ∙ rw (append-assoc q r (x .tail)) (drop-at q (r ++ x .tail) (size c * 6) j)) },
+        record { tail = x .tail; is = past-cells t _ i (i + 1 + size c) (6 + size c * 6) (x .is) (omega arith)
+            ∙ (sym (drop-drop (size c * 6) 6 _) ∙ rw (append-assoc q r (x .tail)) (drop-at q (r ++ x .tail) (size c * 6) j)) },
       )
 
 -- the rows of a forest that has some are within the table
@@ -182,10 +193,12 @@ attr-at none u j (suc i) (x ∷ l) y h =
 -- two lists of attributes, one after the other
 pub on-attrs : (u : List ℕ) (j : ℕ) (a b : List Attr) → Listed u j (a ++ b) → Listed u j a × Listed u (j + length a) b
 on-attrs u j a b y =
-    let e : drop (j * 4) u ≡ attrRows a ++ (attrRows b ++ y .tail) = y .is ∙ rw (attrRows-append a b) (append-assoc (attrRows a) (attrRows b) (y .tail)) in
+    let e : drop (j * 4) u ≡ attrRows a ++ (attrRows b ++ y .tail) = y .is
+        ∙ rw (attrRows-append a b) (append-assoc (attrRows a) (attrRows b) (y .tail)) in
     let z : (j + length a) * 4 ≡ j * 4 + length a * 4 = omega arith in (
       record { tail = attrRows b ++ y .tail; is = e },
-      record { tail = y .tail; is = rw (z, ← (drop-drop (length a * 4) (j * 4) u), e) (drop-at (attrRows a) (attrRows b ++ y .tail) (length a * 4) (length-attrRows a)) },
+      record { tail = y .tail; is = rw (z, ← (drop-drop (length a * 4) (j * 4) u),
+          e) (drop-at (attrRows a) (attrRows b ++ y .tail) (length a * 4) (length-attrRows a)) },
     )
 
 -- ---- the order of strings, node by node
@@ -198,6 +211,7 @@ module _ (lo hi p n : ℕ) where
   unfolding spans
   placed-section f i = i
 
-  pub placed-elem : (l : List Attr) (c f : Forest) → InOrder lo (spans (elem p n l c f)) hi → (lo ≤ p + 1) × InOrder (p + 1 + n) (attrSpans l ++ (spans c ++ spans f)) hi
+  pub placed-elem : (l : List Attr) (c f : Forest) → InOrder lo (spans (elem p n l c f)) hi → (lo ≤ p + 1)
+      × InOrder (p + 1 + n) (attrSpans l ++ (spans c ++ spans f)) hi
   unfolding spans
   placed-elem l c f i = i

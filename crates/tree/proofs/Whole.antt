@@ -37,7 +37,8 @@ module _ (s : List ℕ) (n m : ℕ) where
 
   pub in-range : (p : ℕ) → Fits s n m → p ≡ prologEnd s → meaning s n m ≡ topOf s p
   unfolding meaning
-  in-range p f e = rw (le-ltb n 49152 (f .long), le-ltb m 32768 (f .wide), le-ltb 65536 (length s) (f .short), le-ltb (utf8End s) (length s) (f .valid), e)
+  in-range p f e =
+      rw (le-ltb n 49152 (f .long), le-ltb m 32768 (f .wide), le-ltb 65536 (length s) (f .short), le-ltb (utf8End s) (length s) (f .valid), e)
 
 drop-replicate : (m n a : ℕ) → drop m (replicate n a) ≡ replicate (n - m) a
 drop-replicate zero n a = rw (sub-zero n)
@@ -57,7 +58,8 @@ pub refused : (o : Out) (x q n m : ℕ) (t u : List ℕ) → o ≡ bad x q → t
 unfolding answerOf nodesOf attrCells
 refused o x q n m t u e y z = rw e (refl, (y, z))
 
-pub tree : (o : Out) (s t t′ u u′ : List ℕ) (low n m : ℕ) (c : Cursor) → Laid o s t t′ u u′ low 0 0 c → t ≡ replicate n 0 → u ≡ replicate m 0 → 49152 ≤ n → 32768 ≤ m
+pub tree : (o : Out) (s t t′ u u′ : List ℕ) (low n m : ℕ) (c : Cursor) → Laid o s t t′ u u′ low 0 0 c → t ≡ replicate n 0 → u ≡ replicate m 0
+    → 49152 ≤ n → 32768 ≤ m
     → (Tree (c .nodes) (c .attrs) ≡ answerOf o) × ((t′ ≡ nodesOf n o) × (u′ ≡ attrCells m o))
 unfolding answerOf nodesOf attrCells
 tree o s t t′ u u′ low n m c l y z h g =

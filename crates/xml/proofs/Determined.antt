@@ -86,8 +86,11 @@ module _ (z y : List ℕ) where
       later o (inl r) = inl (o, r)
       later o (inr e) = inr e
 
-strings-same : {s : List ℕ} {lent a b : Tables} {f : Forest} {g : placed.Forest} → HoldsTree s lent a f g → HoldsTree s lent b f g → a .strings ≡ b .strings
-strings-same {a = a} {b = b} {g = g} h k = ext-getD 0 (a .strings) (b .strings) (h .as-long ∙ sym (k .as-long)) (λ i l. go i (byte-same _ _ (spans g) (tree-same _ _ g (h .shown ∙ sym (k .shown))) i))
+strings-same : {s : List ℕ} {lent a b : Tables} {f : Forest} {g : placed.Forest} → HoldsTree s lent a f g → HoldsTree s lent b f g → a .strings
+    ≡ b .strings
+strings-same {a = a} {b = b} {g = g} h k =
+    ext-getD 0 (a .strings) (b .strings) (h .as-long ∙ sym (k .as-long))
+    (λ i l. go i (byte-same _ _ (spans g) (tree-same _ _ g (h .shown ∙ sym (k .shown))) i))
   where
     go : (i : ℕ) → Outside i (spans g) ⊎ (getD (a .strings) i 0 ≡ getD (b .strings) i 0) → getD (a .strings) i 0 ≡ getD (b .strings) i 0
     go i (inl o) = h .elsewhere i o ∙ sym (k .elsewhere i o)
@@ -104,11 +107,13 @@ determined {s} {lent} {x} {y} {a} {b} p q = by (decided s lent)
     by (inl t) =
         let h = p .tree (t .0) (t .1) in
         let k = q .tree (t .0) (t .1) in
-        (p .counts (t .0) (t .1) ∙ sym (q .counts (t .0) (t .1)), tables-same (h .node-rows ∙ sym (k .node-rows)) (h .attr-rows ∙ sym (k .attr-rows)) (strings-same h k))
+        (p .counts (t .0) (t .1) ∙ sym (q .counts (t .0) (t .1)),
+            tables-same (h .node-rows ∙ sym (k .node-rows)) (h .attr-rows ∙ sym (k .attr-rows)) (strings-same h k))
     by (inr t) =
         let l : 0 < t .0 = away-some (t .2) in
         let u = p .refused (t .0) (t .1) l .1 (t .2) in
         let v = q .refused (t .0) (t .1) l .1 (t .2) in
         let h = p .cleared (omega (arith, u .0, l)) in
         let k = q .cleared (omega (arith, v .0, l)) in
-        (refused-as x (t .0) (t .1) l u ∙ sym (refused-as y (t .0) (t .1) l v), tables-same (h .of-nodes ∙ sym (k .of-nodes)) (h .of-attrs ∙ sym (k .of-attrs)) (h .of-strings ∙ sym (k .of-strings)))
+        (refused-as x (t .0) (t .1) l u ∙ sym (refused-as y (t .0) (t .1) l v),
+            tables-same (h .of-nodes ∙ sym (k .of-nodes)) (h .of-attrs ∙ sym (k .of-attrs)) (h .of-strings ∙ sym (k .of-strings)))

@@ -24,7 +24,8 @@ use Rattle.xml.specs.declared.find.Found.the-variants.{Row, Nothing}
 use Rattle.xml.specs.declared.find.Attribute.{Attribute}
 use Rattle.xml.specs.declared.find.Value.the-variants.{At}
 use Rattle.xml.specs.Find.{named, findElement, absent, value, attrValue}
-use Rattle.xml.specs.Find.{Holds, Siblings, findRow, findValue, shown, WithinAttrs, Owned, isElement, HasRow, elementRow, TextAt, ElementAt, FoundAt}
+use Rattle.xml.specs.Find.{Holds, Siblings, findRow, findValue, shown, WithinAttrs, Owned, isElement, HasRow, elementRow, TextAt, ElementAt}
+use Rattle.xml.specs.Find.{FoundAt}
 
 -- ---- the rows of what the tables hold
 within-attrs : (l : List Attr) (lo hi : ℕ) → InOrder lo (attrSpans l) hi → WithinAttrs hi l
@@ -40,12 +41,14 @@ regroup a b c = simp append-assoc
 pub siblings-of : {t u z : List ℕ} {i a : ℕ} {f : Forest} → Holds t u z i a f → Siblings t z i (i + size f)
 siblings-of h = record { first = _; forest = _; stands = h .stands; lo = h .lo; placed = h .placed; end = refl }
 
-element-cells : {t : List ℕ} {i e p n b m : ℕ} → RowIs t i 2 e p n b m → elementRow t i ≡ record { place = p; «name_len» = n; end = e; first = b; many = m }
+element-cells : {t : List ℕ} {i e p n b m : ℕ} → RowIs t i 2 e p n b m → elementRow t i
+    ≡ record { place = p; «name_len» = n; end = e; first = b; many = m }
 unfolding elementRow
 element-cells r = rw (r .place-is, r .len-is, r .end-is, r .first-is, r .many-is)
 
 module _ {t u z : List ℕ} {i a p n : ℕ} where
-  text-row : (kind : ℕ) (f g : Forest) → Holds t u z i a f → RowIs t i kind (i + 1) p n 0 0 × Stands t (i + 1) a g → InOrder (p + n) (spans g) (length z)
+  text-row : (kind : ℕ) (f g : Forest) → Holds t u z i a f → RowIs t i kind (i + 1) p n 0 0 × Stands t (i + 1) a g
+      → InOrder (p + n) (spans g) (length z)
       → 0 < size f → attrsOf f ≡ attrsOf g → TextAt t u z kind i a p n g
   text-row kind f g h s o w e = record {
     row = s .0;
@@ -56,11 +59,13 @@ module _ {t u z : List ℕ} {i a p n : ℕ} where
 
   pub holds-text : {f : Forest} → Holds t u z i a (text p n f) → TextAt t u z 1 i a p n f
   unfolding attrsOf size
-  holds-text {f} h = text-row 1 (text p n f) f h (on-text t i a p n f (h .stands)) (placed-text (h .lo) (length z) p n f (h .placed) .1) (omega arith) refl
+  holds-text {f} h =
+      text-row 1 (text p n f) f h (on-text t i a p n f (h .stands)) (placed-text (h .lo) (length z) p n f (h .placed) .1) (omega arith) refl
 
   pub holds-section : {f : Forest} → Holds t u z i a (section p n f) → TextAt t u z 3 i a p n f
   unfolding attrsOf size
-  holds-section {f} h = text-row 3 (section p n f) f h (on-section t i a p n f (h .stands)) (placed-section (h .lo) (length z) p n f (h .placed) .1) (omega arith) refl
+  holds-section {f} h =
+      text-row 3 (section p n f) f h (on-section t i a p n f (h .stands)) (placed-section (h .lo) (length z) p n f (h .placed) .1) (omega arith) refl
 
   module _ {l : List Attr} {c f : Forest} where
     pub owned-of : Holds t u z i a (elem p n l c f) → Owned u z a (length l) l
@@ -76,14 +81,17 @@ module _ {t u z : List ℕ} {i a p n : ℕ} where
     pub holds-elem : Holds t u z i a (elem p n l c f) → ElementAt t u z i a p n l c f
     unfolding attrsOf size
     holds-elem h =
-        let s : RowIs t i 2 (i + 1 + size c) p n a (length l) × Stands t (i + 1) (a + length l) c × Stands t (i + 1 + size c) (a + length l + length (attrsOf c)) f
+        let s : RowIs t i 2 (i + 1 + size c) p n a (length l) × Stands t (i + 1) (a + length l) c
+            × Stands t (i + 1 + size c) (a + length l + length (attrsOf c)) f
         = on-elem t i a p n l c f (h .stands) in
         let g : Listed u (a + length l) (attrsOf c ++ attrsOf f) = on-attrs u a l (attrsOf c ++ attrsOf f) (h .listed) .1 in
-        let d : Listed u (a + length l) (attrsOf c) × Listed u (a + length l + length (attrsOf c)) (attrsOf f) = on-attrs u (a + length l) (attrsOf c) (attrsOf f) g in
+        let d : Listed u (a + length l) (attrsOf c) × Listed u (a + length l + length (attrsOf c)) (attrsOf f) =
+            on-attrs u (a + length l) (attrsOf c) (attrsOf f) g in
         let lo : ℕ = p + 1 + n in
         let o : InOrder lo (attrSpans l ++ (spans c ++ spans f)) (length z) = placed-elem (h .lo) (length z) p n l c f (h .placed) .1 in
         let r : InOrder lo (spans c ++ spans f) (length z) = in-rest (attrSpans l) (spans c ++ spans f) lo (length z) o in
-        let x : Holds t u z (i + 1) (a + length l) c = record { stands = s .1; listed = d .0; lo = lo; placed = in-first (spans c) (spans f) lo (length z) r } in
+        let x : Holds t u z (i + 1) (a + length l) c = record { stands = s .1; listed = d .0; lo = lo; placed =
+            in-first (spans c) (spans f) lo (length z) r } in
         record {
           row = s .0;
           cells = element-cells (s .0);
@@ -106,7 +114,9 @@ module _ {t u z : List ℕ} {i a p n : ℕ} where
           stands = record { tail = r ++ h .stands .tail; is = h .stands .is ∙ simp append-assoc };
           listed = record { tail = attrRows (attrsOf f) ++ h .listed .tail; is = h .listed .is ∙ simp (attrRows-append, append-assoc) };
           lo = h .lo;
-          placed = (h .placed .0, in-first (attrSpans l ++ (spans c ++ [])) (spans f) lo (length z) (rw (← (regroup (attrSpans l) (spans c) (spans f))) (h .placed .1)));
+          placed =
+              (h .placed .0, in-first (attrSpans l ++ (spans c ++ [])) (spans f) lo (length z)
+              (rw (← (regroup (attrSpans l) (spans c) (spans f))) (h .placed .1)));
         }
 
 -- ---- what the searches require
@@ -156,7 +166,8 @@ find-nothing z name i (elem p n l c f) e =
 
 -- what is found among the later siblings
 found-later : {t u z name : List ℕ} {i j : ℕ} {f g : Forest} {k : ℕ}
-    → i ≤ j → j + size g ≤ i + size f → findElement name (treeIn z f) ≡ findElement name (treeIn z g) → FoundAt t u z name j g k → FoundAt t u z name i f k
+    → i ≤ j → j + size g ≤ i + size f → findElement name (treeIn z f) ≡ findElement name (treeIn z g) → FoundAt t u z name j g k
+        → FoundAt t u z name i f k
 found-later h w e x = record {
   place = x .place;
   len = x .len;

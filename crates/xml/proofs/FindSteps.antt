@@ -60,7 +60,8 @@ module _ (t z name : List ℕ) (k b : ℕ) where
   later (elem p n l c g) s h =
       let d : ℕ = b + length l + length (attrsOf c) in
       let lo : ℕ = p + 1 + n in
-      let r : RowIs t k 2 (k + 1 + size c) p n b (length l) × Stands t (k + 1) (b + length l) c × Stands t (k + 1 + size c) d g = on-elem t k b p n l c g s in
+      let r : RowIs t k 2 (k + 1 + size c) p n b (length l) × Stands t (k + 1) (b + length l) c × Stands t (k + 1 + size c) d g =
+          on-elem t k b p n l c g s in
       let e : getD t (k * 6 + 1) 0 ≡ k + 1 + size c = r .0 .end-is in
       let j : isElement t z name k ≡ named name (stringAt z (p + 1) n) = is-element-elem z name s in
       record {
@@ -69,7 +70,8 @@ module _ (t z name : List ℕ) (k b : ℕ) where
         stands = rw e (r .2);
         after = omega arith;
         end = omega arith;
-        placed = λ at hi o. (lo, in-rest (spans c) (spans g) lo hi (in-rest (attrSpans l) (spans c ++ spans g) lo hi (placed-elem at hi p n l c g o .1)));
+        placed =
+            λ at hi o. (lo, in-rest (spans c) (spans g) lo hi (in-rest (attrSpans l) (spans c ++ spans g) lo hi (placed-elem at hi p n l c g o .1)));
         here = λ w. rw (sym j ∙ w);
         passed = λ w. rw (sym j ∙ w, e);
       }

@@ -20,8 +20,10 @@ use Rattle.grammar.specs.Demand.{tree}
 use Rattle.grammar.specs.Grammar.{Document}
 use Rattle.tree.specs.Trees as placed
 use Rattle.tree.specs.Trees.{nil, text, section, elem, join}
-use Rattle.tree.specs.Read.{Out, got, nothing, bad, quoteByte, quoted, bare, valueAt, attrAt, slash, attrNext, tagTurn, tagFrom, startAt, pastComments}
-use Rattle.tree.specs.Read.{textAt, sectionAt, nodeHere, nodeAt, nodeNext, closeAt, innerTurn, outerTurn, rowOf, enclose, tagged, elementBy, elementOf}
+use Rattle.tree.specs.Read.{Out, got, nothing, bad, quoteByte, quoted, bare, valueAt, attrAt, slash, attrNext, tagTurn, tagFrom, startAt}
+use Rattle.tree.specs.Read.{pastComments}
+use Rattle.tree.specs.Read.{textAt, sectionAt, nodeHere, nodeAt, nodeNext, closeAt, innerTurn, outerTurn, rowOf, enclose, tagged, elementBy}
+use Rattle.tree.specs.Read.{elementOf}
 use Rattle.tree.specs.Read.{prologTurn, prologEnd, meaning}
 use Rattle.derivation.specs.Strings.{treeIn, resultIn}
 use Rattle.xml.specs.Reading.{readAttrs, readForest, raw, readOut, stringsOf}

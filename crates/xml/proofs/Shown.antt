@@ -38,14 +38,17 @@ module _ (s : List ℕ) where
   unfolding spans readForest
   order-read nil lo hi i = i
   order-read (text p n f) lo hi i =
-      (i .0, in-lower (spans (readForest s f)) (p + length (decoded (stringAt s p n))) (p + n) hi (omega (arith, read-short s p n)) (order-read f (p + n) hi (i .1)))
+      (i .0, in-lower (spans (readForest s f)) (p + length (decoded (stringAt s p n))) (p + n) hi (omega (arith, read-short s p n))
+          (order-read f (p + n) hi (i .1)))
   order-read (section p n f) lo hi i = (i .0, order-read f (p + n) hi (i .1))
   order-read (elem p n l c f) lo hi i =
       let a : Split (p + 1 + n) (attrSpans l) (spans c ++ spans f) hi = in-split (attrSpans l) (spans c ++ spans f) (p + 1 + n) hi (i .1) in
       let b : Split (a .mid) (spans c) (spans f) hi = in-split (spans c) (spans f) (a .mid) hi (a .rest) in (
         i .0,
-        in-append (attrSpans (readAttrs s l)) (spans (readForest s c) ++ spans (readForest s f)) (p + 1 + n) (a .mid) hi (order-attrs l (p + 1 + n) (a .mid) (a .first))
-            (in-append (spans (readForest s c)) (spans (readForest s f)) (a .mid) (b .mid) hi (order-read c (a .mid) (b .mid) (b .first)) (order-read f (b .mid) hi (b .rest))),
+        in-append (attrSpans (readAttrs s l)) (spans (readForest s c) ++ spans (readForest s f)) (p + 1 + n) (a .mid) hi
+            (order-attrs l (p + 1 + n) (a .mid) (a .first))
+            (in-append (spans (readForest s c)) (spans (readForest s f)) (a .mid) (b .mid) hi (order-read c (a .mid) (b .mid) (b .first))
+                (order-read f (b .mid) hi (b .rest))),
       )
 
 -- ---- every string stands at its place
@@ -69,7 +72,8 @@ unfolding lay
 lay-below [] z p n lo hi o h g = refl
 lay-below (x ∷ l) z p n lo hi o h g =
     let k : p ≤ length (sets z (x .place) (x .bytes)) = rw (length-sets z (x .place) (x .bytes)) g in
-    lay-below l (sets z (x .place) (x .bytes)) p n (x .place + length (x .bytes)) hi (o .1) (omega (arith, o .0)) k ∙ string-below z (x .bytes) p n (x .place) (omega (arith, o .0)) g
+    lay-below l (sets z (x .place) (x .bytes)) p n (x .place + length (x .bytes)) hi (o .1) (omega (arith, o .0)) k
+        ∙ string-below z (x .bytes) p n (x .place) (omega (arith, o .0)) g
 
 string-laid : (z w : List ℕ) (p : ℕ) → p + length w ≤ length z → stringAt (sets z p w) p (length w) ≡ w
 unfolding stringAt
@@ -86,7 +90,8 @@ lay-stands (x ∷ l) z lo hi o h =
     let y : List ℕ = sets z (x .place) (x .bytes) in
     let k : length y ≡ length z = length-sets z (x .place) (x .bytes) in
     let r : x .place + length (x .bytes) ≤ hi = ordered-whole l (x .place + length (x .bytes)) hi (o .1) in (
-      lay-below l y (x .place) (length (x .bytes)) (x .place + length (x .bytes)) hi (o .1) (omega arith) (omega arith) ∙ string-laid z (x .bytes) (x .place) (omega arith),
+      lay-below l y (x .place) (length (x .bytes)) (x .place + length (x .bytes)) hi (o .1) (omega arith) (omega arith)
+          ∙ string-laid z (x .bytes) (x .place) (omega arith),
       lay-stands l y (x .place + length (x .bytes)) hi (o .1) (omega arith),
     )
 
@@ -100,14 +105,16 @@ module _ (s y : List ℕ) where
   same-string : (p n : ℕ) → p + n ≤ length s → stringAt y p (length (stringAt s p n)) ≡ stringAt s p n → stringAt y p n ≡ stringAt s p n
   same-string p n h e = rw (string-long s p n h) at e
 
-  attrs-shown : (l : List Attr) (lo : ℕ) → InOrder lo (attrSpans l) (length s) → AtPlaces y (attrStrings s l) → attrsIn y (readAttrs s l) ≡ decodeAttrs decoded (attrsIn s l)
+  attrs-shown : (l : List Attr) (lo : ℕ) → InOrder lo (attrSpans l) (length s) → AtPlaces y (attrStrings s l) → attrsIn y (readAttrs s l)
+      ≡ decodeAttrs decoded (attrsIn s l)
   unfolding attrSpans attrStrings attrsIn attrIn readAttrs decodeAttrs
   attrs-shown [] lo i a = refl
   attrs-shown (x ∷ l) lo i a =
       let v : x .value + x .valueLen ≤ length s = in-whole (attrSpans l) (x .value + x .valueLen) (length s) (i .1 .1) in
       rw (same-string (x .name) (x .nameLen) (omega (arith, i .1 .0)) (a .0), a .1 .0, attrs-shown l (x .value + x .valueLen) (i .1 .1) (a .1 .1))
 
-  shown : (f : Forest) (lo : ℕ) → InOrder lo (spans f) (length s) → AtPlaces y (strings s f) → treeIn y (readForest s f) ≡ decodeForest decoded (treeIn s f)
+  shown : (f : Forest) (lo : ℕ) → InOrder lo (spans f) (length s) → AtPlaces y (strings s f) → treeIn y (readForest s f)
+      ≡ decodeForest decoded (treeIn s f)
   unfolding spans strings treeIn readForest decodeTree decodeForest
   shown nil lo i a = refl
   shown (text p n f) lo i a = rw (a .0, shown f (p + n) (i .1) (a .1))

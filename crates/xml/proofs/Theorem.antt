@@ -60,7 +60,8 @@ module _ (s : List ℕ) (z : ℕ) where
   back (nothing q) g e = (_, _, refl)
   back (bad n p) g e = let d : _≡_ {A = ℕ} 0 1 = cc in absurd (omega arith)
 
-  refused-there : (o : Out) (i p : ℕ) → answerOf o ≡ Refused (record { number = i; place = p }) → resultIn (stringsOf z s o) (readOut s o) ≡ refused i p
+  refused-there : (o : Out) (i p : ℕ) → answerOf o ≡ Refused (record { number = i; place = p }) → resultIn (stringsOf z s o) (readOut s o)
+      ≡ refused i p
   unfolding answerOf resultIn readOut
   refused-there (got f q k a) i p e = let d : _≡_ {A = ℕ} 0 1 = cc in absurd (omega arith)
   refused-there (nothing q) i p e = let d : _≡_ {A = ℕ} 0 1 = cc in absurd (omega arith)
@@ -68,7 +69,8 @@ module _ (s : List ℕ) (z : ℕ) where
       let w : _≡_ {A = Refusal} (record { number = n; place = r }) (record { number = i; place = p }) = cc in
       ap₂ refused (ap (λ (x : Refusal). x .number) w) (ap (λ (x : Refusal). x .place) w)
 
-  refused-back : (o : Out) (i p : ℕ) → resultIn (stringsOf z s o) (readOut s o) ≡ refused i p → answerOf o ≡ Refused (record { number = i; place = p })
+  refused-back : (o : Out) (i p : ℕ) → resultIn (stringsOf z s o) (readOut s o) ≡ refused i p → answerOf o
+      ≡ Refused (record { number = i; place = p })
   unfolding answerOf resultIn readOut
   refused-back (got f q k a) i p e = let d : _≡_ {A = ℕ} 0 1 = cc in absurd (omega arith)
   refused-back (nothing q) i p e = let d : _≡_ {A = ℕ} 0 1 = cc in absurd (omega arith)
@@ -84,7 +86,8 @@ module _ (s : List ℕ) (n m z : ℕ) where
     unfolding treeReader
     parsed-is =
         rw (raw-enough s n m z enough)
-        (shows s z (omega (arith, fits .short)) (meaning s n m) (λ f q k a. meaning-placed s n m f q k a) ∙ ap (decodeResult decoded) (agree s n m fits))
+        (shows s z (omega (arith, fits .short)) (meaning s n m) (λ f q k a. meaning-placed s n m f q k a)
+            ∙ ap (decodeResult decoded) (agree s n m fits))
 
     -- it is taken exactly when the grammar derives a tree for it within the limits
     pub takes-exactly : ((g : Forest) × (parsed s n m z ≡ tree g)) ↔ ((f : Forest) × Derives s f)
@@ -133,13 +136,16 @@ module _ (s : List ℕ) (n m z : ℕ) where
       no : {A : Type 0} (i p : ℕ) → parsed s n m z ≡ refused i p → A
       no i p x = let d : _≡_ {A = ℕ} 0 1 = cc in absurd (omega arith)
 
-      by : (a b c d k : Bool) → ltb z 65536 ≡ a → ltb n 49152 ≡ b → ltb m 32768 ≡ c → ltb 65536 (length s) ≡ d → ltb (utf8End s) (length s) ≡ k → Fits s n m × (65536 ≤ z)
+      by : (a b c d k : Bool) → ltb z 65536 ≡ a → ltb n 49152 ≡ b → ltb m 32768 ≡ c → ltb 65536 (length s) ≡ d → ltb (utf8End s) (length s) ≡ k
+          → Fits s n m × (65536 ≤ z)
       by true b c d k v w x y u = no 1 0 (small-strings (ltb-true z 65536 v))
       by false true c d k v w x y u = no 1 0 (small-nodes (ltb-false z 65536 v) (ltb-true n 49152 w))
       by false false true d k v w x y u = no 1 0 (small-attrs (ltb-false z 65536 v) (ltb-false n 49152 w) (ltb-true m 32768 x))
-      by false false false true k v w x y u = no 2 0 (too-long (ltb-false z 65536 v) (ltb-false n 49152 w) (ltb-false m 32768 x) (ltb-true 65536 (length s) y))
+      by false false false true k v w x y u =
+          no 2 0 (too-long (ltb-false z 65536 v) (ltb-false n 49152 w) (ltb-false m 32768 x) (ltb-true 65536 (length s) y))
       by false false false false true v w x y u =
-          no 3 (utf8End s) (not-utf8 (ltb-false z 65536 v) (ltb-false n 49152 w) (ltb-false m 32768 x) (ltb-false 65536 (length s) y) (ltb-true (utf8End s) (length s) u))
+          no 3 (utf8End s) (not-utf8 (ltb-false z 65536 v) (ltb-false n 49152 w) (ltb-false m 32768 x) (ltb-false 65536 (length s) y)
+              (ltb-true (utf8End s) (length s) u))
       by false false false false false v w x y u = (
         record {
           long = ltb-false n 49152 w;

@@ -45,7 +45,8 @@ attrsRead s u zero = u
 attrsRead s u (suc k) = sets (attrsRead s u k) (k * 4 + 3) (length (valueBytes s u k) ∷ [])
 
 unfoldable pub attrWritten : List ℕ → List ℕ → List ℕ → ℕ → List ℕ
-attrWritten s u z k = sets (sets z (getD u (k * 4) 0) (stringAt s (getD u (k * 4) 0) (getD u (k * 4 + 1) 0))) (getD u (k * 4 + 2) 0) (valueBytes s u k)
+attrWritten s u z k =
+    sets (sets z (getD u (k * 4) 0) (stringAt s (getD u (k * 4) 0) (getD u (k * 4 + 1) 0))) (getD u (k * 4 + 2) 0) (valueBytes s u k)
 
 unfoldable pub attrStringsRead : List ℕ → List ℕ → List ℕ → ℕ → List ℕ
 attrStringsRead s u z zero = z
