@@ -20,8 +20,8 @@ use Rattle.tree.specs.Read.{AttrOut, flaw, equals, skip, quoteByte, quoted, bar
 use Rattle.grammar.specs.Words.{Bytes, Stops}
 use Rattle.grammar.specs.Tree.{Attr, attr, quote}
 use Rattle.grammar.specs.Scan.{run, past}
-use Rattle.grammar.specs.Reader.{Res, ok, bad, mapRes, valueAs, readValue, afterNameAs, afterName, readAttribute, tagEnd}
-use Rattle.grammar.specs.Counted.{LRes, lok, lbad, lift, lmap, attributesStepL, attributesAsL}
+use Rattle.grammar.proofs.Reader.{Res, ok, bad, mapRes, valueAs, readValue, afterNameAs, afterName, readAttribute, tagEnd}
+use Rattle.grammar.proofs.Counted.{LRes, lok, lbad, lift, lmap, attributesStepL, attributesAsL}
 use Rattle.grammar.proofs.Tests.{by-test}
 use Rattle.grammar.proofs.Scans.{past-is, past-stops}
 use Rattle.grammar.proofs.Ends.{Ends, past-length, attribute-ends}
@@ -84,7 +84,8 @@ module _ (s : List ℕ) (p e : ℕ) where
       let k : length s ≤ skip s (z + 1) = omega (arith, run-low blank s (z + 1)) in
       rw (e, drop-of-length-le s g, drop-of-length-le s k) (refl, l)))
 
-  bare-agrees : (v : ℕ) → v < length s → AttrAgrees s (ok (attr (stringAt s p (e - p)) (run nameByte (drop v s))) (past nameByte (drop v s))) (bare s p e v)
+  bare-agrees : (v : ℕ) → v < length s → AttrAgrees s (ok (attr (stringAt s p (e - p)) (run nameByte (drop v s))) (past nameByte (drop v s)))
+      (bare s p e v)
   unfolding bare skipped attrIn
   bare-agrees v h =
       let z : ℕ = runEnd nameByte s v in

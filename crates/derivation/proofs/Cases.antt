@@ -7,7 +7,7 @@ use Rattle.scan.specs.Bytes.{nameByte, runEnd}
 use Rattle.tree.specs.Read.{TagOut, opened, shut, torn, startAt}
 use Rattle.grammar.specs.Words.{Bytes}
 use Rattle.grammar.specs.Tree.{Tree, element, Forest, none}
-use Rattle.grammar.specs.Counted.{LRes, lok, lbad, lmap, Counted, elementL}
+use Rattle.grammar.proofs.Counted.{LRes, lok, lbad, lmap, Counted, elementL}
 use Rattle.scan.specs.Part.{stringAt}
 use Rattle.derivation.specs.Strings.{attrsIn}
 

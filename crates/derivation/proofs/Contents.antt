@@ -15,16 +15,17 @@ use Rattle.scan.specs.Marks as marks
 use Rattle.scan.specs.Marks.{startsAt}
 use Rattle.scan.specs.Posts.{Passed}
 use Rattle.scan.proofs.Runs.{run-low}
-use Rattle.tree.specs.Read.{Out, bad, closeMark, commentMark, commentEnd, cdataMark, State, nodeHere, nodeAt, closeAt, innerTurn, outerTurn, rowOf, fresh, elementOf}
+use Rattle.tree.specs.Read.{Out, bad, closeMark, commentMark, commentEnd, cdataMark, State, nodeHere, nodeAt, closeAt, innerTurn, outerTurn}
+use Rattle.tree.specs.Read.{rowOf, fresh, elementOf}
 use Rattle.tree.proofs.NodeLaws.{comment-on, comment-here, comment-out}
 use Rattle.grammar.specs.Words.{Bytes}
 use Rattle.grammar.specs.Tree.{Forest, none}
 use Rattle.grammar.specs.Tree.{`-->`}
 use Rattle.grammar.specs.Grammar.{Before, a-comment, no-comment}
 use Rattle.grammar.specs.Scan.{past, beyond}
-use Rattle.grammar.specs.Reader as lists
-use Rattle.grammar.specs.Reader.{NodeKind, as-text, as-section, as-element, Kind, as-close, as-comment, as-node, kind, afterClose}
-use Rattle.grammar.specs.Counted.{lok, lmap, lift, Counted, nodeL, contentAsL, contentStepL, nodesAsL, nodesStepL}
+use Rattle.grammar.proofs.Reader as lists
+use Rattle.grammar.proofs.Reader.{NodeKind, as-text, as-section, as-element, Kind, as-close, as-comment, as-node, kind, afterClose}
+use Rattle.grammar.proofs.Counted.{lok, lmap, lift, Counted, nodeL, contentAsL, contentStepL, nodesAsL, nodesStepL}
 use Rattle.grammar.proofs.Tests.{by-test}
 use Rattle.grammar.proofs.CountedRounds.{contentC, contentC-is, nodesC, nodesC-is}
 use Rattle.derivation.specs.Strings.{treeIn}
@@ -100,7 +101,8 @@ module _ (s : List ℕ) (d : ℕ) (at rec : Counted Forest) (row : Lists d at re
 
   at-end : (p : ℕ) → length s ≤ p → AfterComments p
   unfolding nodeAt nodeHere
-  at-end p h k a b = rw (comment-out s p h, le-ltb p (length s) h) (rw (drop-of-length-le s h) (row .ends (8192 - k) (8192 - a)), omega arith, b .within)
+  at-end p h k a b =
+      rw (comment-out s p h, le-ltb p (length s) h) (rw (drop-of-length-le s h) (row .ends (8192 - k) (8192 - a)), omega arith, b .within)
 
   at-place : (p : ℕ) → p < length s → ((q : ℕ) → p < q → AfterComments q) → AfterComments p
   unfolding nodeAt
@@ -122,7 +124,8 @@ module _ (s : List ℕ) (d : ℕ) (at rec : Counted Forest) (row : Lists d at re
 abbrev open-kind : Bool → Bool → Bool → Kind
 open-kind a b c = cond a as-comment (cond b (as-node as-section) (cond c (as-node as-element) (as-node as-text)))
 
-unflagged : (d k j : ℕ) (z : Bytes) (a b c : Bool) → contentAsL contentC d no-comment (open-kind a b c) k j z ≡ contentAsL contentC d a-comment (open-kind a b c) k j z
+unflagged : (d k j : ℕ) (z : Bytes) (a b c : Bool) → contentAsL contentC d no-comment (open-kind a b c) k j z
+    ≡ contentAsL contentC d a-comment (open-kind a b c) k j z
 unfolding contentAsL
 unflagged d k j z true b c = refl
 unflagged d k j z false true c = refl
@@ -152,7 +155,8 @@ unfolding closeAt
 close-same s d p x b h e =
     let g : ℕ = runEnd (other 62) s p in
     let i : ℕ = length s - p in
-    rw (close-law d (8192 - x .nodes) (8192 - x .attrs) (drop p s) (rw (length-drop p s) (omega arith)) (kind-at s p ∙ rw e), length-drop p s, past-drop (other 62) s p)
+    rw (close-law d (8192 - x .nodes) (8192 - x .attrs) (drop p s) (rw (length-drop p s) (omega arith)) (kind-at s p ∙ rw e), length-drop p s,
+        past-drop (other 62) s p)
     (by-test (ltb g (length s))
     (λ w. let l : g < length s = ltb-true g (length s) w in
     rw (w, byte-at s g l, after-close i (getD s g 0) (drop (g + 1) s) .1, joined-none (treeIn s (x .forest)))
@@ -181,7 +185,8 @@ module _ (s : List ℕ) (d : ℕ) (elements : ElementSame s d) where
   unfolding outerTurn
   outer-same p x h b = node-turn s (nodesC d) p x _ _ b (node-same s d (nodesC d) (nodesC d) (nodes-lists d) elements p (x .nodes) (x .attrs) b)
 
-  nodes-from : (p k a : ℕ) → Stands s p k a → Same s p (rowOf s (outerTurn s (elementOf d s)) p (fresh k a)) (nodesC d (8192 - k) (8192 - a) (drop p s))
+  nodes-from : (p k a : ℕ) → Stands s p k a → Same s p (rowOf s (outerTurn s (elementOf d s)) p (fresh k a))
+      (nodesC d (8192 - k) (8192 - a) (drop p s))
   unfolding treeIn
   nodes-from p k a b =
       rw (← (map-none (nodesC d (8192 - k) (8192 - a) (drop p s))))

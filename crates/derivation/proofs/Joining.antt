@@ -9,7 +9,7 @@ use Prim.Native.Nat.{ℕ}
 use mathlib.Core.List.{List}
 use Rattle.tree.specs.Trees as placed
 use Rattle.grammar.specs.Tree.{Tree, Forest, none, more}
-use Rattle.grammar.specs.Counted.{LRes, lok, lbad, lmap}
+use Rattle.grammar.proofs.Counted.{LRes, lok, lbad, lmap}
 use Rattle.derivation.specs.Strings.{treeIn}
 
 unfoldable pub joined : Forest → Forest → Forest

@@ -18,12 +18,13 @@ use Rattle.scan.specs.Marks.{startsAt, seek}
 use Rattle.scan.specs.Posts.{Passed}
 use Rattle.scan.proofs.Runs.{run-low, run-high, run-stops}
 use Rattle.tree.specs.Trees as placed
-use Rattle.tree.specs.Read.{Out, got, nothing, bad, cdataMark, cdataEnd, TagOut, opened, shut, torn, startAt, textAt, sectionAt, enclose, tagged, elementBy, elementOf, contentOf}
+use Rattle.tree.specs.Read.{Out, got, nothing, bad, cdataMark, cdataEnd, TagOut, opened, shut, torn, startAt, textAt, sectionAt, enclose, tagged}
+use Rattle.tree.specs.Read.{elementBy, elementOf, contentOf}
 use Rattle.tree.proofs.NodeLaws.{text-beyond}
 use Rattle.grammar.specs.Tree.{Tree, text, section, element, Forest, none, more}
 use Rattle.grammar.specs.Grammar.{no-comment}
-use Rattle.grammar.specs.Reader.{as-text, as-section, as-element}
-use Rattle.grammar.specs.Counted.{LRes, lok, lbad, lmap, lnext, Counted, nodeL, elementL}
+use Rattle.grammar.proofs.Reader.{as-text, as-section, as-element}
+use Rattle.grammar.proofs.Counted.{LRes, lok, lbad, lmap, lnext, Counted, nodeL, elementL}
 use Rattle.grammar.proofs.Tests.{by-test}
 use Rattle.grammar.proofs.CountedRounds.{contentC}
 use Rattle.scan.specs.Part.{stringAt}
@@ -66,7 +67,8 @@ module _ (s : List ℕ) (rec : Counted Forest) (q k a : ℕ) (b : Stands s q k a
   bad-same n = (rw (length-drop q s), b .within)
 
   -- ---- texts
-  text-law : (d i j : ℕ) → nodeL content as-text d (suc i) j (drop q s) ≡ lok (text (stringAt s q (runEnd textByte s q - q))) i j (drop (runEnd textByte s q) s)
+  text-law : (d i j : ℕ) → nodeL content as-text d (suc i) j (drop q s)
+      ≡ lok (text (stringAt s q (runEnd textByte s q - q))) i j (drop (runEnd textByte s q) s)
   unfolding nodeL
   text-law d i j = rw (run-string textByte s q, past-drop textByte s q)
 
@@ -74,7 +76,8 @@ module _ (s : List ℕ) (rec : Counted Forest) (q k a : ℕ) (b : Stands s q k a
   unfolding nodeL
   full-text d j = refl
 
-  pub text-same : (d : ℕ) → q < length s → (getD s q 0 ≡ 60 → ⊥) → NodeSame s rec q k a (textAt s q k a) (nodeL content as-text d (8192 - k) (8192 - a) (drop q s) and rec)
+  pub text-same : (d : ℕ) → q < length s → (getD s q 0 ≡ 60 → ⊥)
+      → NodeSame s rec q k a (textAt s q k a) (nodeL content as-text d (8192 - k) (8192 - a) (drop q s) and rec)
   unfolding textAt treeIn
   text-same d h n =
       let e : ℕ = runEnd textByte s q in
@@ -88,7 +91,8 @@ module _ (s : List ℕ) (rec : Counted Forest) (q k a : ℕ) (b : Stands s q k a
 
   -- ---- sections
   section-law : (d i j : ℕ) → q + 9 ≤ length s
-      → nodeL content as-section d (suc i) j (drop q s) ≡ lok (section (stringAt s (q + 9) (seek cdataEnd s (q + 9) - (q + 9)))) i j (drop (marks.past cdataEnd s (q + 9)) s)
+      → nodeL content as-section d (suc i) j (drop q s) ≡ lok (section (stringAt s (q + 9) (seek cdataEnd s (q + 9) - (q + 9)))) i j
+          (drop (marks.past cdataEnd s (q + 9)) s)
   unfolding nodeL
   section-law d i j h = rw (drop-drop 9 q s, before-at cdataEnd s (q + 9) h, beyond-at cdataEnd s (q + 9))
 
@@ -120,14 +124,16 @@ module _ (s : List ℕ) (rec : Counted Forest) (q k a : ℕ) (b : Stands s q k a
         → NodeSame s rec q k a (enclose q n l o) (lmap (element (stringAt s (q + 1) n) (attrsIn s l)) x and rec)
     unfolding enclose treeIn
     enclose-same l r (got f z j c) x h t =
-        rw (t .0) (read-same (element (stringAt s (q + 1) n) (attrsIn s l) (treeIn s f)) (placed.elem q n l f placed.nil) z j c refl (omega (arith, t .1)) (t .2))
+        rw (t .0) (read-same (element (stringAt s (q + 1) n) (attrsIn s l) (treeIn s f)) (placed.elem q n l f placed.nil) z j c refl
+            (omega (arith, t .1)) (t .2))
     enclose-same l r (nothing z) x h t = absurd t
     enclose-same l r (bad m z) x h t = (rw (t .0), t .1)
 
     tagged-same : (d : ℕ) → ContentSame s d → (o : TagOut) → TagEnds s q a o → k < 8192
         → NodeSame s rec q k a (tagged (contentOf d s) q n k o) (tagCase (content d) s (stringAt s (q + 1) n) (8192 - (k + 1)) o and rec)
     unfolding tagged tagCase treeIn
-    tagged-same d ih (opened l r c) t h = enclose-same l r _ _ (omega (arith, t .0)) (ih r (k + 1) c (record { within = t .1; most = omega arith; least = t .2 }))
+    tagged-same d ih (opened l r c) t h =
+        enclose-same l r _ _ (omega (arith, t .0)) (ih r (k + 1) c (record { within = t .1; most = omega arith; least = t .2 }))
     tagged-same d ih (shut l r c) t h =
         read-same (element (stringAt s (q + 1) n) (attrsIn s l) none) (placed.elem q n l placed.nil placed.nil) r (k + 1) c refl (omega (arith, t .0))
         (record { within = t .1; most = omega arith; least = t .2 })
@@ -147,6 +153,7 @@ module _ (s : List ℕ) (rec : Counted Forest) (q k a : ℕ) (b : Stands s q k a
   element-more d ih h =
       let e : ℕ = runEnd nameByte s (q + 1) in
       by-test (ltb k 8192)
-      (λ x. rw (x, one-more k (ltb-true k 8192 x), element-law d (8192 - (k + 1)) (8192 - a), tag-agrees s (content d) q (8192 - (k + 1)) a h (b .least))
+      (λ x. rw (x, one-more k (ltb-true k 8192 x), element-law d (8192 - (k + 1)) (8192 - a),
+          tag-agrees s (content d) q (8192 - (k + 1)) a h (b .least))
       (tagged-same (e - (q + 1)) d ih (startAt s q e a) (tag-ends s q a h (b .least) (startAt s q e a) refl) (ltb-true k 8192 x)))
       (λ x. rw (x, no-more k (ltb-false k 8192 x), full-element d (8192 - a)) (bad-same 5))

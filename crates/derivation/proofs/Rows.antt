@@ -14,7 +14,7 @@ use Rattle.scan.specs.Loop as loops
 use Rattle.scan.proofs.Loop.{loop-out, loop-halt, loop-more}
 use Rattle.tree.specs.Read.{Out, got, nothing, bad, State, nodeNext, rowOf}
 use Rattle.grammar.specs.Tree.{Forest, none}
-use Rattle.grammar.specs.Counted.{LRes, lok, lbad, lmap, Counted}
+use Rattle.grammar.proofs.Counted.{LRes, lok, lbad, lmap, Counted}
 use Rattle.derivation.specs.Strings.{treeIn}
 use Rattle.derivation.proofs.SearchLaws.{from-end}
 use Rattle.derivation.proofs.Joining.{joined, joined-none, tree-join, map-joined}
@@ -51,7 +51,8 @@ same-lower s lo m (got f q k a) l l₂ h e t = (e ∙ t .0, omega (arith, t .1),
 same-lower s lo m (nothing q) l l₂ h e t = t
 same-lower s lo m (bad n q) l l₂ h e t = (e ∙ t .0, t .1)
 
-pub node-lower : (s : List ℕ) (rec : Counted Forest) (lo m k a : ℕ) (o : Out) (l l₂ : LRes Forest) → lo ≤ m → l ≡ l₂ → NodeSame s rec m k a o l₂ → NodeSame s rec lo k a o l
+pub node-lower : (s : List ℕ) (rec : Counted Forest) (lo m k a : ℕ) (o : Out) (l l₂ : LRes Forest) → lo ≤ m → l ≡ l₂ → NodeSame s rec m k a o l₂
+    → NodeSame s rec lo k a o l
 node-lower s rec lo m k a (got f q k₂ a₂) l l₂ h e t = (e ∙ t .0, omega (arith, t .1), t .2)
 node-lower s rec lo m k a (nothing q) l l₂ h e t = (e ∙ t .0, omega (arith, t .1), t .2)
 node-lower s rec lo m k a (bad n q) l l₂ h e t = (e ∙ t .0, t .1)
@@ -89,7 +90,8 @@ module _ (s : List ℕ) (rec : Counted Forest) (turn : ℕ → State → loops.N
     unfolding rowOf
     row-on p h later x b = by (turn p x) refl (turns p x h b)
       where
-        by : (t : loops.Next State Out) → turn p x ≡ t → TurnSame s rec p x t (rec (8192 - x .nodes) (8192 - x .attrs) (drop p s)) → Same s p (rowOf s turn p x) (rest p x)
+        by : (t : loops.Next State Out) → turn p x ≡ t → TurnSame s rec p x t (rec (8192 - x .nodes) (8192 - x .attrs) (drop p s))
+            → Same s p (rowOf s turn p x) (rest p x)
         by (loops.halt o) w t = subst⁻¹ (λ o. Same s p o (rest p x)) (loop-halt (length s) turn _ p x o h w) t
         by (loops.more q y) w t = subst⁻¹ (λ o. Same s p o (rest p x)) (loop-more (length s) turn _ p x q y h w (t .1))
             (same-lower s p q (rowOf s turn q y) (rest p x) (rest q y) (omega (arith, t .1)) (t .0) (later q (t .1) y (t .2)))

@@ -21,15 +21,16 @@ use Rattle.tree.proofs.Tags.{starts-some, tag-out, tag-open, tag-full, tag-flaw
 use Rattle.grammar.specs.Words.{Bytes, Stops}
 use Rattle.grammar.specs.Tree.{Attr, Tree, element, Forest, none}
 use Rattle.grammar.specs.Scan.{run, past}
-use Rattle.grammar.specs.Reader.{ok, bad, readAttribute, tagEnd, afterSlash, slashAs}
-use Rattle.grammar.specs.Counted.{LRes, lok, lbad, lnext, lmap, lift, Counted, openedAsL, afterOpeningL, afterTagNameL, elementL}
+use Rattle.grammar.proofs.Reader.{ok, bad, readAttribute, tagEnd, afterSlash, slashAs}
+use Rattle.grammar.proofs.Counted.{LRes, lok, lbad, lnext, lmap, lift, Counted, openedAsL, afterOpeningL, afterTagNameL, elementL}
 use Rattle.grammar.proofs.Tests.{by-test}
 use Rattle.grammar.proofs.CountedRounds.{attributesC}
 use Rattle.scan.specs.Part.{stringAt}
 use Rattle.derivation.specs.Strings.{attrIn, attrsIn}
 use Rattle.derivation.proofs.Cases.{tagCase, TagAgrees}
 use Rattle.derivation.proofs.RunLaws.{string-is, byte-at, left-at, past-drop, run-string, run-stops-at}
-use Rattle.derivation.proofs.Attributes.{skipped, AttrAgrees, attribute-agrees, attribute-on, attributes-none, attributes-end, attributes-full, attributes-more}
+use Rattle.derivation.proofs.Attributes.{skipped, AttrAgrees, attribute-agrees, attribute-on, attributes-none, attributes-end}
+use Rattle.derivation.proofs.Attributes.{attributes-full, attributes-more}
 
 -- the tag whose `<` stands at p ends at a later place q of the text, b attributes being read by then; a refusal's place lies in the text
 abbrev pub TagEnds : List ℕ → ℕ → ℕ → TagOut → Type 0
@@ -77,7 +78,8 @@ record Rest (s : List ℕ) (p : ℕ) (x : TagState) (o : TagOut) : Type 0 where
   pub ends : RestEnds s p x o
 
 slash-agrees : (s : List ℕ) (p : ℕ) (x : TagState) → p < length s → (rec : Counted Forest) (n : Bytes) (k : ℕ)
-    → lift (afterSlash (suc (length (drop (p + 1) s))) (element n (attrsIn s (x .list)) none) (past blank (drop (p + 1) s))) (λ t r. lok t k (8192 - x .count) r)
+    → lift (afterSlash (suc (length (drop (p + 1) s))) (element n (attrsIn s (x .list)) none) (past blank (drop (p + 1) s)))
+        (λ t r. lok t k (8192 - x .count) r)
     ≡ tagCase rec s n k (slash s p x)
 unfolding slash startsAt tagCase
 slash-agrees s p x h rec n k =
@@ -174,7 +176,9 @@ module _ (s : List ℕ) (p : ℕ) (x : TagState) where
           → Rest s q (record { list = x .list ++ (y ∷ []); count = x .count + 1 }) o → Rest s p x o
       unfolding listed
       rest-attr y q o w l r = record {
-        agrees = λ rec n k. listed-attr rec n k ∙ (rw w (gathered s (x .list) y rec n (attributesC k (8192 - (x .count + 1)) (drop q s))) ∙ r .agrees rec n k);
+        agrees =
+            λ rec n k. listed-attr rec n k ∙ (rw w (gathered s (x .list) y rec n (attributesC k (8192 - (x .count + 1)) (drop q s)))
+            ∙ r .agrees rec n k);
         ends = ends-on s p q x y o l (r .ends);
       }
 
@@ -200,7 +204,8 @@ module _ (s : List ℕ) (p : ℕ) (x : TagState) (i : Head s p x) (later : (q : 
           rw (tag-attr s p x h (eqb-false (getD s p 0) 62 v) (eqb-false (getD s p 0) 47 w) y q g e (k .1))
           (rest-attr s p x h u (rw (v, w)) g y q _ (a .0) (k .1) (later q _ (k .1) (record { within = a .1; solid = k .0; most = omega arith })))
       at-attribute g (flaw n q) e a =
-          rw (tag-flaw s p x h (eqb-false (getD s p 0) 62 v) (eqb-false (getD s p 0) 47 w) n q g e) (rest-flaw s p x h u (rw (v, w)) g n q (a .0) (a .1))
+          rw (tag-flaw s p x h (eqb-false (getD s p 0) 62 v) (eqb-false (getD s p 0) 47 w) n q g e)
+              (rest-flaw s p x h u (rw (v, w)) g n q (a .0) (a .1))
 
       at-other : Rest s p x (tagFrom s p x)
       at-other = by-test (ltb (x .count) 8192)
@@ -211,7 +216,8 @@ module _ (s : List ℕ) (p : ℕ) (x : TagState) (i : Head s p x) (later : (q : 
     at-byte : Rest s p x (tagFrom s p x)
     at-byte = by-test (eqb (getD s p 0) 62)
         (λ v. rw (tag-open s p x h (eqb-true (getD s p 0) 62 v)) (rest-open s p x h u v (i .most)))
-        (λ v. by-test (eqb (getD s p 0) 47) (λ w. rw (tag-slash s p x h (eqb-true (getD s p 0) 47 w)) (rest-slash s p x h u v w (i .most))) (λ w. at-other v w))
+        (λ v. by-test (eqb (getD s p 0) 47) (λ w. rw (tag-slash s p x h (eqb-true (getD s p 0) 47 w)) (rest-slash s p x h u v w (i .most)))
+            (λ w. at-other v w))
 
   turn : Rest s p x (tagFrom s p x)
   turn = by-test (ltb p (length s)) (λ b. at-byte (ltb-true p (length s) b))
@@ -226,12 +232,14 @@ nameless : (rec : Counted Forest) (i k j : ℕ) (n r : Bytes) → n ≡ [] → a
 unfolding afterTagNameL
 nameless rec i k j n r e = rw e
 
-named : (rec : Counted Forest) (i k j : ℕ) (n r : Bytes) → 0 < length n → afterTagNameL rec i n k j r ≡ lnext (attributesC k j r) (λ l k j r. afterOpeningL rec n l k j r)
+named : (rec : Counted Forest) (i k j : ℕ) (n r : Bytes) → 0 < length n → afterTagNameL rec i n k j r
+    ≡ lnext (attributesC k j r) (λ l k j r. afterOpeningL rec n l k j r)
 unfolding afterTagNameL attributesC
 named rec i k j [] r h = absurd (omega (arith, h))
 named rec i k j (a ∷ n) r h = refl
 
-element-is : (rec : Counted Forest) (k j : ℕ) (z : Bytes) → elementL rec k j z ≡ afterTagNameL rec (suc (length z)) (run nameByte z) k j (past blank (past nameByte z))
+element-is : (rec : Counted Forest) (k j : ℕ) (z : Bytes) → elementL rec k j z
+    ≡ afterTagNameL rec (suc (length z)) (run nameByte z) k j (past blank (past nameByte z))
 unfolding elementL
 element-is rec k j z = refl
 
@@ -268,5 +276,6 @@ tag-agrees s rec p k a h g =
     (λ b. let z : e - (p + 1) ≡ 0 = omega (arith, eqb-true e (p + 1) b) in
     rw b (nameless rec (length s - p) k (8192 - a) n (drop (skip s e) s) (rw z (string-is s (p + 1) 0))))
     (λ b. let z : e ≡ p + 1 → ⊥ = eqb-false e (p + 1) b in
-    let c : length n ≡ e - (p + 1) = ap length (string-is s (p + 1) (e - (p + 1))) ∙ length-take-le (e - (p + 1)) (drop (p + 1) s) (simp length-drop (omega arith)) in
+    let c : length n ≡ e - (p + 1) = ap length (string-is s (p + 1) (e - (p + 1)))
+        ∙ length-take-le (e - (p + 1)) (drop (p + 1) s) (simp length-drop (omega arith)) in
     rw b (named rec (length s - p) k (8192 - a) n (drop (skip s e) s) (omega arith) ∙ rest-start s p e a (omega arith) high g .agrees rec n k)))

@@ -11,7 +11,8 @@ pub fn root_attributes(
     attrs: &mut [u32],
     strings: &mut [u8],
 ) -> usize
-    ensures { λ r. ⌜ Counts (now (text .entry)) (tables (now (nodes .entry)) (now (attrs .entry)) (now (strings .entry))) r ⌝ }
+    ensures { λ r. ⌜ Counts (now (text .entry)) (tables (now (nodes .entry)) (now (attrs .entry)) (now (strings .entry))) r
+        (tables (now (nodes .exit)) (now (attrs .exit)) (now (strings .exit))) ⌝ }
 {
     let Answer::Tree { nodes: n, attrs: m } = xml::parse_xml(text, nodes, attrs, strings) else {
         return 0; // document 01's number and place are in the answer, and every table is zero

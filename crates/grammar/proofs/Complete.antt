@@ -13,12 +13,20 @@ use Rattle.scan.specs.Bytes.{blank, textByte, nameByte, attrNameByte, other}
 use Rattle.grammar.specs.Words.{Bytes, _then_, Only, Stops, Run, Begins, Lacks, EndsAtFirst, UpTo, closed, unclosed}
 use Rattle.grammar.specs.Tree.{Attr, attr, Tree, text, section, element, Forest, none, more, quote}
 use Rattle.grammar.specs.Tree.{`>`, `/`, `=`, `</`, `<?`, `<!`, `<!--`, `<![CDATA[`, `]]>`}
-use Rattle.grammar.specs.Grammar.{Blanks, Piece, one-blank, instruction, declaration, Prolog, no-piece, piece, NoPiece, Name, Value, quoted, unquoted, Attribute, alone, named, nameless, Attributes, no-attribute, attribute, Opening, opening, Comment, Before, a-comment, no-comment, Node, a-text, a-section, last-section, an-element, Element, without-content, with-content, Content, Nodes, Document, document}
+use Rattle.grammar.specs.Grammar.{Blanks, Piece, one-blank, instruction, declaration, Prolog, no-piece, piece, NoPiece, Name, Value, quoted}
+use Rattle.grammar.specs.Grammar.{unquoted, Attribute, alone, named, nameless, Attributes, no-attribute, attribute, Opening, opening}
+use Rattle.grammar.specs.Grammar.{Comment, Before, a-comment, no-comment, Node, a-text, a-section, last-section, an-element, Element}
+use Rattle.grammar.specs.Grammar.{without-content, with-content, Content, Nodes, Document, document}
 use Rattle.grammar.specs.Demand.{tree}
 use Rattle.grammar.specs.Scan.{run, past, prefix, from, before, beyond}
-use Rattle.grammar.specs.Reader.{Res, next, mapRes, valueAs, readValue, afterNameAs, afterName, readAttribute, tagEnd, attributesAs, attributesStep, readAttributes, slashAs, afterSlash, openedAs, afterOpening, afterTagName, readElement, NodeKind, kind, nodeAs, afterClose, contentAs, contentStep, readContent, nodesAs, nodesStep, readNodes, pieceKind, prologAs, pastProlog, finish, readDocument, ok, as-text, as-section, as-element, as-close, as-comment, as-node, to-mark, no-more}
+use Rattle.grammar.proofs.Reader.{Res, next, mapRes, valueAs, readValue, afterNameAs, afterName, readAttribute, tagEnd, attributesAs}
+use Rattle.grammar.proofs.Reader.{attributesStep, readAttributes, slashAs, afterSlash, openedAs, afterOpening, afterTagName, readElement}
+use Rattle.grammar.proofs.Reader.{NodeKind, kind, nodeAs, afterClose, contentAs, contentStep, readContent, nodesAs, nodesStep, readNodes}
+use Rattle.grammar.proofs.Reader.{pieceKind, prologAs, pastProlog, finish, readDocument, ok, as-text, as-section, as-element, as-close}
+use Rattle.grammar.proofs.Reader.{as-comment, as-node, to-mark, no-more}
 use Rattle.grammar.proofs.Tests.{by-test, eqb-same, eqb-eq, test-sym, not-true, or-true, not-or3, not-or4}
-use Rattle.grammar.proofs.Scans.{run-past, run-only, past-stops, run-is, past-is, prefix-begins, not-prefix, prefix-not, from-first, before-first, from-lacks, before-lacks, beyond-is, up-to}
+use Rattle.grammar.proofs.Scans.{run-past, run-only, past-stops, run-is, past-is, prefix-begins, not-prefix, prefix-not, from-first}
+use Rattle.grammar.proofs.Scans.{before-first, from-lacks, before-lacks, beyond-is, up-to}
 
 -- ---- values
 
@@ -112,7 +120,8 @@ unfolding attrNameByte
 equals-no-name = refl
 
 -- a name that no `=` follows
-pub alone-rest : (n after : Bytes) → ((b r : Bytes) → Blanks b → ¬ (after ≡ b then `=` then r)) → afterName n (past blank after) ≡ ok (attr n []) (past blank after)
+pub alone-rest : (n after : Bytes) → ((b r : Bytes) → Blanks b → ¬ (after ≡ b then `=` then r)) → afterName n (past blank after)
+    ≡ ok (attr n []) (past blank after)
 unfolding afterName afterNameAs
 alone-rest n after h = go (past blank after) refl
   where
@@ -120,7 +129,8 @@ alone-rest n after h = go (past blank after) refl
     go [] e = refl
     go (a ∷ s) e =
         by-test (eqb a 61)
-        (λ t. absurd (h (run blank after) s (record { all = run-only blank after }) (run-past blank after ∙ ap (run blank after ++_) (e ∙ ap (_∷ s) (eqb-eq a 61 t)))))
+        (λ t. absurd (h (run blank after) s (record { all = run-only blank after }) (run-past blank after
+            ∙ ap (run blank after ++_) (e ∙ ap (_∷ s) (eqb-eq a 61 t)))))
         (λ t. rw t)
 
 pub with-value : (n c w after v : Bytes) → Blanks c → Value after w v → afterName n (`=` then c then w then after) ≡ ok (attr n v) after
@@ -136,7 +146,8 @@ pub attribute-complete : {after u : Bytes} {a : Attr} → Attribute after u a �
 unfolding readAttribute
 attribute-complete {after} (alone {n} h e) = (
   past blank after,
-  ap₂ (λ x y. afterName x (past blank y)) (run-is attrNameByte n after (h .run .only) (h .run .longest)) (past-is attrNameByte n after (h .run .only) (h .run .longest))
+  ap₂ (λ x y. afterName x (past blank y)) (run-is attrNameByte n after (h .run .only) (h .run .longest))
+      (past-is attrNameByte n after (h .run .only) (h .run .longest))
       ∙ alone-rest n after e,
   past-none blank (past blank after) (past-stops blank after),
 )
@@ -145,7 +156,8 @@ attribute-complete {after} (named {n} {b} {c} {w} {v} h bb cc val) =
     let assoc : (n then b then `=` then c then w) ++ after ≡ n ++ s = simp append-assoc in (
       after,
       ap readAttribute assoc
-          ∙ ap₂ (λ x y. afterName x (past blank y)) (run-is attrNameByte n s (h .run .only) (h .run .longest)) (past-is attrNameByte n s (h .run .only) (h .run .longest))
+          ∙ ap₂ (λ x y. afterName x (past blank y)) (run-is attrNameByte n s (h .run .only) (h .run .longest))
+              (past-is attrNameByte n s (h .run .only) (h .run .longest))
           ∙ ap (afterName n) (past-is blank b (`=` then c then w then after) (bb .all) blank-equals)
           ∙ with-value n c w after v cc val,
       refl,
@@ -222,7 +234,8 @@ opening-complete {after} rec h (opening {n} {b} {w} {l = l} nm bb at) =
     let assoc : (n ++ (b ++ w)) ++ after ≡ n ++ s = simp append-assoc in
     let k : ℕ = suc (length (n ++ s)) in
     ap (readElement rec) assoc
-    ∙ ap₂ (λ x y. afterTagName rec k x (past blank y)) (run-is nameByte n s (nm .run .only) (nm .run .longest)) (past-is nameByte n s (nm .run .only) (nm .run .longest))
+    ∙ ap₂ (λ x y. afterTagName rec k x (past blank y)) (run-is nameByte n s (nm .run .only) (nm .run .longest))
+        (past-is nameByte n s (nm .run .only) (nm .run .longest))
     ∙ ap (afterTagName rec k n) (past-is blank b (w ++ after) (bb .all) (attributes-stops (tag-end-stops h) at))
     ∙ go n (nm .some-byte) k
   where
@@ -242,7 +255,8 @@ kind-close s h = rw (h .1)
 pub kind-comment : (s : Bytes) → Begins `<!--` s → kind s ≡ as-comment
 kind-comment s h = rw (h .1)
 
-pub kind-element : (c : ℕ) (s : Bytes) → eqb c 47 ≡ false → ¬ Begins `<!--` (60 ∷ c ∷ s) → ¬ Begins `<![CDATA[` (60 ∷ c ∷ s) → kind (60 ∷ c ∷ s) ≡ as-node as-element
+pub kind-element : (c : ℕ) (s : Bytes) → eqb c 47 ≡ false → ¬ Begins `<!--` (60 ∷ c ∷ s) → ¬ Begins `<![CDATA[` (60 ∷ c ∷ s) → kind (60 ∷ c ∷ s)
+    ≡ as-node as-element
 kind-element c s h k l = rw (test-sym c 47 h, not-prefix `<!--` (60 ∷ c ∷ s) k, not-prefix `<![CDATA[` (60 ∷ c ∷ s) l)
 
 -- what begins x ++ y begins x, or goes past it
@@ -268,7 +282,8 @@ not-begins m w after x y o e h g = go (begins-left m w after g)
   where
     go : Begins m w ⊎ ((k : Bytes) × (m ≡ w ++ k)) → ⊥
     go (inl b) = h b
-    go (inr k) = true≢false (sym (only-mid (other 62) x (y ++ k .0) 62 (subst (Only (other 62)) (k .1 ∙ ap (_++ k .0) e ∙ append-assoc x (62 ∷ y) (k .0)) o)))
+    go (inr k) =
+        true≢false (sym (only-mid (other 62) x (y ++ k .0) 62 (subst (Only (other 62)) (k .1 ∙ ap (_++ k .0) e ∙ append-assoc x (62 ∷ y) (k .0)) o)))
 
 pub element-mark : {after w : Bytes} {t : Tree} → Element after w t → (x : Bytes) × (y : Bytes) × (w ≡ x ++ (62 ∷ y))
 element-mark (without-content {o} {b} x y) = (o ++ (47 ∷ b), [], sym (append-assoc o (47 ∷ b) (62 ∷ [])))
@@ -322,7 +337,9 @@ text-c after [] h n = absurd (h .some-byte refl)
 text-c after (a ∷ w) h n = record {
   sort = as-text;
   sorted = kind-text a (w ++ after) (h .run .only .0);
-  gives = ap₂ (λ x y. ok (text x) y) (run-is textByte (a ∷ w) after (h .run .only) (h .run .longest)) (past-is textByte (a ∷ w) after (h .run .only) (h .run .longest));
+  gives =
+      ap₂ (λ x y. ok (text x) y) (run-is textByte (a ∷ w) after (h .run .only) (h .run .longest))
+      (past-is textByte (a ∷ w) after (h .run .only) (h .run .longest));
   some-byte = omega arith;
 }
 
@@ -361,7 +378,8 @@ element-c {after} {w} h k d ih n g =
       sort = as-element;
       sorted =
           ap kind (tg .is)
-          ∙ kind-element (tg .byte) (tg .rest) (tg .no-slash) (subst (λ s. ¬ Begins `<!--` s) (tg .is) h′) (subst (λ s. ¬ Begins `<![CDATA[` s) (tg .is) k′);
+          ∙ kind-element (tg .byte) (tg .rest) (tg .no-slash) (subst (λ s. ¬ Begins `<!--` s) (tg .is) h′)
+              (subst (λ s. ¬ Begins `<![CDATA[` s) (tg .is) k′);
       gives = ih n g;
       some-byte = rw ((element-tagged d) .is) (omega arith);
     }
@@ -394,7 +412,8 @@ unfolding contentStep
 content-some rec p [] h = absurd (omega (arith, h))
 content-some rec p (a ∷ s) h = refl
 
-pub close-c : (after d : Bytes) → Only (other 62) d → (n : ℕ) → length ((`</` then d then `>`) ++ after) < n → readContent n no-comment ((`</` then d then `>`) ++ after) ≡ ok none after
+pub close-c : (after d : Bytes) → Only (other 62) d → (n : ℕ) → length ((`</` then d then `>`) ++ after) < n
+    → readContent n no-comment ((`</` then d then `>`) ++ after) ≡ ok none after
 unfolding readContent contentStep contentAs afterClose
 close-c after d o zero g = absurd (omega (arith, g))
 close-c after d o (suc n) g = ap (afterClose _) (ap (past (other 62)) (append-assoc d (62 ∷ []) after) ∙ past-is (other 62) d (62 ∷ after) o refl)
@@ -415,7 +434,8 @@ comment-length c = rw (c .opens .1) (omega arith)
 pub begins-more : (m s t : Bytes) → Begins m s → Begins m (s ++ t)
 begins-more m s t h = (h .0 ++ t, ap (_++ t) (h .1) ∙ append-assoc m (h .0) t)
 
-pub comment-c : (p : Before) {after u w : Bytes} {f : Forest} → Comment (w then after) u → (d : Content a-comment after w f) → ContentC a-comment after w f d
+pub comment-c : (p : Before) {after u w : Bytes} {f : Forest} → Comment (w then after) u → (d : Content a-comment after w f)
+    → ContentC a-comment after w f d
     → (n : ℕ) → length ((u then w) ++ after) < n → readContent n p ((u then w) ++ after) ≡ ok f after
 unfolding readContent contentAs
 comment-c p c d ih zero g = absurd (omega (arith, g))
@@ -524,10 +544,12 @@ no-more-here (a ∷ s) h =
     by-test (blank a) (λ e. absurd (h (a ∷ []) s refl (one-blank e))) (λ e.
     by-test (prefix `<?` t)
     (λ q. let b = prefix-begins `<?` t q in let w = up-to 63 (62 ∷ []) t in
-    absurd (h (w .0) _ (w .1) (instruction (begins-piece `<?` (63 ∷ []) _ (w .0) open-instruction (w .2) (subst (Begins `<?`) (w .1) b)) (w .2)))) (λ q₁.
+    absurd (h (w .0) _ (w .1) (instruction (begins-piece `<?` (63 ∷ []) _ (w .0) open-instruction (w .2) (subst (Begins `<?`) (w .1) b)) (w .2))))
+        (λ q₁.
     by-test (prefix `<!--` t)
     (λ q. let b = prefix-begins `<!--` t q in let w = up-to 45 (45 ∷ 62 ∷ []) t in
-    absurd (h (w .0) _ (w .1) (Piece.comment (begins-piece `<!--` (45 ∷ 45 ∷ []) _ (w .0) open-comment (w .2) (subst (Begins `<!--`) (w .1) b)) (w .2)))) (λ q₂.
+    absurd (h (w .0) _ (w .1) (Piece.comment (begins-piece `<!--` (45 ∷ 45 ∷ []) _ (w .0) open-comment (w .2) (subst (Begins `<!--`) (w .1) b))
+        (w .2)))) (λ q₂.
     by-test (prefix `<!` t)
     (λ q. let b = prefix-begins `<!` t q in let w = up-to 62 [] t in
     absurd (h (w .0) _ (w .1) (declaration (begins-piece `<!` [] _ (w .0) open-declaration (w .2) (subst (Begins `<!`) (w .1) b))

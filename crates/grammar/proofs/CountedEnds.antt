@@ -15,12 +15,16 @@ use Rattle.grammar.specs.Tree.{`-->`, `]]>`}
 use Rattle.grammar.specs.Grammar.{Before, a-comment, no-comment}
 use Rattle.grammar.specs.Demand.{refused}
 use Rattle.grammar.specs.Scan.{run, past, beyond}
-use Rattle.grammar.specs.Reader.{Res, readAttribute, tagEnd, afterSlash, NodeKind, Kind, kind, afterClose, pastProlog, ok, bad, as-text, as-section, as-element, as-close, as-comment, as-node}
-use Rattle.grammar.specs.Counted.{LRes, lnext, lmap, lift, Counted, attributesAsL, attributesStepL, attributesL, openedAsL, afterOpeningL, afterTagNameL, elementL, nodeL, contentAsL, contentStepL, contentL, nodesAsL, nodesStepL, nodesL, finishL, readDocumentL, lok, lbad}
+use Rattle.grammar.proofs.Reader.{Res, readAttribute, tagEnd, afterSlash, NodeKind, Kind, kind, afterClose, pastProlog, ok, bad, as-text}
+use Rattle.grammar.proofs.Reader.{as-section, as-element, as-close, as-comment, as-node}
+use Rattle.grammar.proofs.Counted.{LRes, lnext, lmap, lift, Counted, attributesAsL, attributesStepL, attributesL, openedAsL, afterOpeningL}
+use Rattle.grammar.proofs.Counted.{afterTagNameL, elementL, nodeL, contentAsL, contentStepL, contentL, nodesAsL, nodesStepL, nodesL}
+use Rattle.grammar.proofs.Counted.{finishL, readDocumentL, lok, lbad}
 use Rattle.grammar.proofs.Tests.{by-test}
 use Rattle.grammar.proofs.Scans.{past-stops}
 use Rattle.grammar.proofs.Sound.{View, view, comments, texts}
-use Rattle.grammar.proofs.Ends.{Ends, weaken, past-length, past-head, drop-length, beyond-length, text-first, attribute-ends, comment-ends, close-ends, slash-ends}
+use Rattle.grammar.proofs.Ends.{Ends, weaken, past-length, past-head, drop-length, beyond-length, text-first, attribute-ends, comment-ends}
+use Rattle.grammar.proofs.Ends.{close-ends, slash-ends}
 
 -- what is left is no longer than N, and a number is not 0
 abbrev pub EndsL : {A : Type 0} → ℕ → LRes A → Type 0
@@ -53,7 +57,8 @@ attribute-then-ends rec n N k j ih (ok a r) h g =
     ends-lmap (a ∷_) (suc N) (rec k j (past blank r))
     (weaken-l (length (past blank r)) (suc N) (rec k j (past blank r)) (omega arith) (ih k j (past blank r) (past-stops blank r) (omega arith)))
 
-pub attributes-as-ends : (rec : Counted (List Attr)) (n k j a : ℕ) (s : Bytes) → AttributesEnd n rec → blank a ≡ false → tagEnd a ≡ false → length s < n
+pub attributes-as-ends : (rec : Counted (List Attr)) (n k j a : ℕ) (s : Bytes) → AttributesEnd n rec → blank a ≡ false → tagEnd a ≡ false
+    → length s < n
     → EndsL (suc (length s)) (attributesAsL rec false k j (a ∷ s))
 unfolding attributesAsL
 attributes-as-ends rec n k zero a s ih u i g = omega arith
@@ -76,12 +81,15 @@ module _ (rec : Counted Forest) (N : ℕ) (ih : ContentEnds N rec) where
   unfolding afterOpeningL openedAsL
   opened-end n l k j [] g = omega arith
   opened-end n l k j (a ∷ s) g = by-test (eqb a 62)
-      (λ e. rw e (ends-lmap (element n l) (suc (length s)) (rec k j s) (weaken-l (length s) (suc (length s)) (rec k j s) (omega arith) (ih k j s (omega arith)))))
+      (λ e. rw e (ends-lmap (element n l) (suc (length s)) (rec k j s)
+          (weaken-l (length s) (suc (length s)) (rec k j s) (omega arith) (ih k j s (omega arith)))))
       (λ e. rw e (ends-lift (suc (length s)) k j (afterSlash (suc (length s)) (element n l none) (past blank s))
-      (weaken (length (past blank s)) (suc (length s)) (afterSlash (suc (length s)) (element n l none) (past blank s)) (omega (arith, past-length blank s))
+      (weaken (length (past blank s)) (suc (length s)) (afterSlash (suc (length s)) (element n l none) (past blank s))
+          (omega (arith, past-length blank s))
       (slash-ends (λ r. ok none r) 0 (λ r h. omega arith) (suc (length s)) (element n l none) (past blank s) (omega arith)))))
 
-  pub tag-then-end : (n r : Bytes) (x : LRes (List Attr)) → length r ≤ N → EndsL (length r) x → EndsL (length r) (lnext x (λ l k j r. afterOpeningL rec n l k j r))
+  pub tag-then-end : (n r : Bytes) (x : LRes (List Attr)) → length r ≤ N → EndsL (length r) x
+      → EndsL (length r) (lnext x (λ l k j r. afterOpeningL rec n l k j r))
   tag-then-end n r (lbad m l) g e = e
   tag-then-end n r (lok l k j t) g e = weaken-l (length t) (length r) (afterOpeningL rec n l k j t) e (opened-end n l k j t (omega arith))
 
@@ -114,19 +122,23 @@ node-end rec N ih a s as-element v (suc d) (suc k) j g = element-end (rec d) N (
 pub node-then-ends : (rec : Counted Forest) (N : ℕ) → ContentEnds N rec → (M : ℕ) (x : LRes Tree) → EndsL M x → M < N
     → EndsL (suc M) (lnext x (λ t k j r. lmap (more t) (rec k j r)))
 node-then-ends rec N ih M (lbad m l) h g = h
-node-then-ends rec N ih M (lok t k j r) h g = ends-lmap (more t) (suc M) (rec k j r) (weaken-l (length r) (suc M) (rec k j r) (omega arith) (ih k j r (omega arith)))
+node-then-ends rec N ih M (lok t k j r) h g =
+    ends-lmap (more t) (suc M) (rec k j r) (weaken-l (length r) (suc M) (rec k j r) (omega arith) (ih k j r (omega arith)))
 
 pub content-as-end : (rec : ℕ → Before → Counted Forest) (N : ℕ) → ((d : ℕ) (p : Before) → ContentEnds N (rec d p))
-    → (d : ℕ) (p : Before) (k j a : ℕ) (s : Bytes) (i : Kind) → View (a ∷ s) i → length s < N → EndsL (suc (length s)) (contentAsL rec d p i k j (a ∷ s))
+    → (d : ℕ) (p : Before) (k j a : ℕ) (s : Bytes) (i : Kind) → View (a ∷ s) i → length s < N
+        → EndsL (suc (length s)) (contentAsL rec d p i k j (a ∷ s))
 unfolding contentAsL
 content-as-end rec N ih d no-comment k j a s as-close v g =
     ends-lift (suc (length s)) k j (afterClose (suc (length s)) (past (other 62) (a ∷ s)))
-    (weaken (length (past (other 62) (a ∷ s))) (suc (length s)) (afterClose (suc (length s)) (past (other 62) (a ∷ s))) (past-length (other 62) (a ∷ s))
+    (weaken (length (past (other 62) (a ∷ s))) (suc (length s)) (afterClose (suc (length s)) (past (other 62) (a ∷ s)))
+        (past-length (other 62) (a ∷ s))
     (close-ends (suc (length s)) (past (other 62) (a ∷ s))))
 content-as-end rec N ih d a-comment k j a s as-close v g = omega arith
 content-as-end rec N ih d p k j a s as-comment (comments h) g =
     let short : length (beyond `-->` (a ∷ s)) ≤ length s = comment-ends a s h in
-    weaken-l (length (beyond `-->` (a ∷ s))) (suc (length s)) (rec d a-comment k j (beyond `-->` (a ∷ s))) (omega arith) (ih d a-comment k j (beyond `-->` (a ∷ s)) (omega arith))
+    weaken-l (length (beyond `-->` (a ∷ s))) (suc (length s)) (rec d a-comment k j (beyond `-->` (a ∷ s))) (omega arith)
+        (ih d a-comment k j (beyond `-->` (a ∷ s)) (omega arith))
 content-as-end rec N ih d p k j a s (as-node i) v g =
     node-then-ends (rec d no-comment) N (ih d no-comment) (length s) (nodeL (λ d. rec d no-comment) i d k j (a ∷ s))
     (node-end (λ d. rec d no-comment) N (λ d. ih d no-comment) a s i v d k j (omega arith)) g
@@ -136,7 +148,8 @@ unfolding contentL contentStepL
 content-end zero d p k j s g = absurd (omega (arith, g))
 content-end (suc n) d p k j [] g = omega arith
 content-end (suc n) d p k j (a ∷ s) g =
-    content-as-end (λ d p k j r. contentL n d p k j r) n (λ d p k j r h. content-end n d p k j r h) d p k j a s (kind (a ∷ s)) (view (a ∷ s)) (omega arith)
+    content-as-end (λ d p k j r. contentL n d p k j r) n (λ d p k j r h. content-end n d p k j r h) d p k j a s (kind (a ∷ s)) (view (a ∷ s))
+        (omega arith)
 
 pub nodes-as-end : (content rec : ℕ → Counted Forest) (N : ℕ) → ((d : ℕ) → ContentEnds N (content d)) → ((d : ℕ) → ContentEnds N (rec d))
     → (d k j a : ℕ) (s : Bytes) (i : Kind) → View (a ∷ s) i → length s < N → EndsL (suc (length s)) (nodesAsL content rec d i k j (a ∷ s))
@@ -144,7 +157,8 @@ unfolding nodesAsL
 nodes-as-end content rec N hc ih d k j a s as-close v g = omega arith
 nodes-as-end content rec N hc ih d k j a s as-comment (comments h) g =
     let short : length (beyond `-->` (a ∷ s)) ≤ length s = comment-ends a s h in
-    weaken-l (length (beyond `-->` (a ∷ s))) (suc (length s)) (rec d k j (beyond `-->` (a ∷ s))) (omega arith) (ih d k j (beyond `-->` (a ∷ s)) (omega arith))
+    weaken-l (length (beyond `-->` (a ∷ s))) (suc (length s)) (rec d k j (beyond `-->` (a ∷ s))) (omega arith)
+        (ih d k j (beyond `-->` (a ∷ s)) (omega arith))
 nodes-as-end content rec N hc ih d k j a s (as-node i) v g =
     node-then-ends (rec d) N (ih d) (length s) (nodeL content i d k j (a ∷ s)) (node-end content N hc a s i v d k j (omega arith)) g
 

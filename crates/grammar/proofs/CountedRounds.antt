@@ -15,8 +15,11 @@ use Rattle.grammar.specs.Tree.{Attr, Tree, element, Forest, more}
 use Rattle.grammar.specs.Tree.{`-->`}
 use Rattle.grammar.specs.Grammar.{Before, a-comment, no-comment}
 use Rattle.grammar.specs.Scan.{run, past, beyond}
-use Rattle.grammar.specs.Reader.{Res, readAttribute, tagEnd, NodeKind, Kind, kind, pastProlog, ok, bad, as-text, as-section, as-element, as-close, as-comment, as-node}
-use Rattle.grammar.specs.Counted.{LRes, lnext, lmap, lift, Counted, attributesAsL, attributesStepL, attributesL, openedAsL, afterOpeningL, afterTagNameL, elementL, nodeL, contentAsL, contentStepL, contentL, nodesAsL, nodesStepL, nodesL, finishL, readDocumentL, lok, lbad}
+use Rattle.grammar.proofs.Reader.{Res, readAttribute, tagEnd, NodeKind, Kind, kind, pastProlog, ok, bad, as-text, as-section, as-element}
+use Rattle.grammar.proofs.Reader.{as-close, as-comment, as-node}
+use Rattle.grammar.proofs.Counted.{LRes, lnext, lmap, lift, Counted, attributesAsL, attributesStepL, attributesL, openedAsL, afterOpeningL}
+use Rattle.grammar.proofs.Counted.{afterTagNameL, elementL, nodeL, contentAsL, contentStepL, contentL, nodesAsL, nodesStepL, nodesL}
+use Rattle.grammar.proofs.Counted.{finishL, readDocumentL, lok, lbad}
 use Rattle.grammar.proofs.Scans.{past-stops}
 use Rattle.grammar.proofs.Sound.{View, view, comments}
 use Rattle.grammar.proofs.Ends.{Ends, past-length, attribute-ends, comment-ends}
@@ -29,7 +32,8 @@ attribute-then-same : (N : ℕ) (f g : Counted (List Attr)) → ((k j : ℕ) (r 
 attribute-then-same N f g q k j (ok a r) e = ap (lmap (a ∷_)) (q k j (past blank r) (past-stops blank r) (omega (arith, past-length blank r)))
 attribute-then-same N f g q k j (bad m l) e = refl
 
-attributes-as-same : (f g : Counted (List Attr)) (a : ℕ) (s : Bytes) → ((k j : ℕ) (r : Bytes) → Stops blank r → length r ≤ length s → f k j r ≡ g k j r)
+attributes-as-same : (f g : Counted (List Attr)) (a : ℕ) (s : Bytes)
+    → ((k j : ℕ) (r : Bytes) → Stops blank r → length r ≤ length s → f k j r ≡ g k j r)
     → blank a ≡ false → (b : Bool) → tagEnd a ≡ b → (k j : ℕ) → attributesAsL f b k j (a ∷ s) ≡ attributesAsL g b k j (a ∷ s)
 unfolding attributesAsL
 attributes-as-same f g a s q u true i k j = refl
@@ -77,19 +81,22 @@ module _ (N : ℕ) (f g : Counted Forest) (same : (k j : ℕ) (r : Bytes) → le
   opening-then-same n M (lok l k j r) e h = opening-same n l k j r (omega arith)
   opening-then-same n M (lbad x y) e h = refl
 
-  tag-same : (i : ℕ) (n : Bytes) (k j : ℕ) (m : Bytes) → length m ≤ N → afterTagNameL f i n k j (past blank m) ≡ afterTagNameL g i n k j (past blank m)
+  tag-same : (i : ℕ) (n : Bytes) (k j : ℕ) (m : Bytes) → length m ≤ N → afterTagNameL f i n k j (past blank m)
+      ≡ afterTagNameL g i n k j (past blank m)
   unfolding afterTagNameL
   tag-same i [] k j m h = refl
   tag-same i (a ∷ n) k j m h =
       let r : Bytes = past blank m in
-      opening-then-same (a ∷ n) (length r) (attributesL (suc (length r)) k j r) (attributes-end (suc (length r)) k j r (past-stops blank m) (omega arith))
+      opening-then-same (a ∷ n) (length r) (attributesL (suc (length r)) k j r)
+          (attributes-end (suc (length r)) k j r (past-stops blank m) (omega arith))
       (omega (arith, past-length blank m))
 
   element-same : (k j : ℕ) (s : Bytes) → length s ≤ N → elementL f k j s ≡ elementL g k j s
   unfolding elementL
   element-same k j s h = tag-same (suc (length s)) (run nameByte s) k j (past nameByte s) (omega (arith, past-length nameByte s))
 
-  more-same : (M : ℕ) (x : LRes Tree) → EndsL M x → M < N → lnext x (λ t k j r. lmap (more t) (f k j r)) ≡ lnext x (λ t k j r. lmap (more t) (g k j r))
+  more-same : (M : ℕ) (x : LRes Tree) → EndsL M x → M < N → lnext x (λ t k j r. lmap (more t) (f k j r))
+      ≡ lnext x (λ t k j r. lmap (more t) (g k j r))
   more-same M (lok t k j r) e h = ap (lmap (more t)) (same k j r (omega arith))
   more-same M (lbad x y) e h = refl
 
@@ -121,7 +128,8 @@ content-as-same N f g q e d p k j a s as-comment (comments b) h = q d a-comment 
 content-as-same N f g q e d p k j a s (as-node i) v h =
     more-same N (f d no-comment) (g d no-comment) (q d no-comment) (length s) (nodeL (λ d. f d no-comment) i d k j (a ∷ s))
     (node-end (λ d. f d no-comment) N (λ d. e d no-comment) a s i v d k j (omega arith)) h
-    ∙ ap (λ x. lnext x (λ t k j r. lmap (more t) (g d no-comment k j r))) (node-same N (λ d. f d no-comment) (λ d. g d no-comment) (λ d. q d no-comment) i d k j a s (omega arith))
+    ∙ ap (λ x. lnext x (λ t k j r. lmap (more t) (g d no-comment k j r)))
+        (node-same N (λ d. f d no-comment) (λ d. g d no-comment) (λ d. q d no-comment) i d k j a s (omega arith))
 
 content-step-same : (N : ℕ) (f g : ℕ → Before → Counted Forest) → Agree N f g → AllEnd N f → (d : ℕ) (p : Before) (k j : ℕ) (s : Bytes) → length s ≤ N
     → contentStepL f d p k j s ≡ contentStepL g d p k j s
@@ -136,7 +144,8 @@ content-rounds zero m d p k j s h g = absurd (omega (arith, h))
 content-rounds (suc n) zero d p k j s h g = absurd (omega (arith, g))
 content-rounds (suc n) (suc m) d p k j s h g =
     content-step-same (length s) (λ d p k j r. contentL n d p k j r) (λ d p k j r. contentL m d p k j r)
-    (λ d q k j r l. content-rounds n m d q k j r (omega arith) (omega arith)) (λ d q k j r l. content-end n d q k j r (omega arith)) d p k j s (omega arith)
+    (λ d q k j r l. content-rounds n m d q k j r (omega arith) (omega arith)) (λ d q k j r l. content-end n d q k j r (omega arith)) d p k j s
+        (omega arith)
 
 unfoldable pub contentC : ℕ → Before → Counted Forest
 contentC d p k j s = contentL (suc (length s)) d p k j s
@@ -145,14 +154,16 @@ pub contentC-is : (d : ℕ) (p : Before) (k j : ℕ) (s : Bytes) → contentC d 
 unfolding contentC contentL
 contentC-is d p k j s =
     content-step-same (length s) (λ d p k j r. contentL (length s) d p k j r) contentC
-    (λ d q k j r l. content-rounds (length s) (suc (length r)) d q k j r l (omega arith)) (λ d q k j r l. content-end (length s) d q k j r l) d p k j s (omega arith)
+    (λ d q k j r l. content-rounds (length s) (suc (length r)) d q k j r l (omega arith)) (λ d q k j r l. content-end (length s) d q k j r l) d p k
+        j s (omega arith)
 
 -- ---- documents
 
 module _ (N : ℕ) (c c₂ f g : ℕ → Counted Forest) (qc : (d k j : ℕ) (r : Bytes) → length r < N → c d k j r ≡ c₂ d k j r)
     (q : (d k j : ℕ) (r : Bytes) → length r < N → f d k j r ≡ g d k j r) (ec : (d : ℕ) → ContentEnds N (c d))
   where
-    nodes-as-same : (d k j a : ℕ) (s : Bytes) (i : Kind) → View (a ∷ s) i → length s < N → nodesAsL c f d i k j (a ∷ s) ≡ nodesAsL c₂ g d i k j (a ∷ s)
+    nodes-as-same : (d k j a : ℕ) (s : Bytes) (i : Kind) → View (a ∷ s) i → length s < N → nodesAsL c f d i k j (a ∷ s)
+        ≡ nodesAsL c₂ g d i k j (a ∷ s)
     unfolding nodesAsL
     nodes-as-same d k j a s as-close v h = refl
     nodes-as-same d k j a s as-comment (comments b) h = q d k j (beyond `-->` (a ∷ s)) (omega (arith, comment-ends a s b))
@@ -170,8 +181,10 @@ unfolding nodesL
 nodes-rounds zero m d k j s h g = absurd (omega (arith, h))
 nodes-rounds (suc n) zero d k j s h g = absurd (omega (arith, g))
 nodes-rounds (suc n) (suc m) d k j s h g =
-    nodes-step-same (length s) (λ d k j r. contentL n d no-comment k j r) (λ d k j r. contentL m d no-comment k j r) (λ d k j r. nodesL n d k j r) (λ d k j r. nodesL m d k j r)
-    (λ d k j r l. content-rounds n m d no-comment k j r (omega arith) (omega arith)) (λ d k j r l. nodes-rounds n m d k j r (omega arith) (omega arith))
+    nodes-step-same (length s) (λ d k j r. contentL n d no-comment k j r) (λ d k j r. contentL m d no-comment k j r) (λ d k j r. nodesL n d k j r)
+        (λ d k j r. nodesL m d k j r)
+    (λ d k j r l. content-rounds n m d no-comment k j r (omega arith) (omega arith))
+        (λ d k j r l. nodes-rounds n m d k j r (omega arith) (omega arith))
     (λ d k j r l. content-end n d no-comment k j r (omega arith)) d k j s (omega arith)
 
 unfoldable pub nodesC : ℕ → Counted Forest
@@ -180,8 +193,10 @@ nodesC d k j s = nodesL (suc (length s)) d k j s
 pub nodesC-is : (d k j : ℕ) (s : Bytes) → nodesC d k j s ≡ nodesStepL (λ d. contentC d no-comment) nodesC d k j s
 unfolding nodesC contentC nodesL
 nodesC-is d k j s =
-    nodes-step-same (length s) (λ d k j r. contentL (length s) d no-comment k j r) (λ d. contentC d no-comment) (λ d k j r. nodesL (length s) d k j r) nodesC
-    (λ d k j r l. content-rounds (length s) (suc (length r)) d no-comment k j r l (omega arith)) (λ d k j r l. nodes-rounds (length s) (suc (length r)) d k j r l (omega arith))
+    nodes-step-same (length s) (λ d k j r. contentL (length s) d no-comment k j r) (λ d. contentC d no-comment)
+        (λ d k j r. nodesL (length s) d k j r) nodesC
+    (λ d k j r l. content-rounds (length s) (suc (length r)) d no-comment k j r l (omega arith))
+        (λ d k j r l. nodes-rounds (length s) (suc (length r)) d k j r l (omega arith))
     (λ d k j r l. content-end (length s) d no-comment k j r l) d k j s (omega arith)
 
 pub readDocumentL-is : (d k j : ℕ) (s : Bytes) → readDocumentL d k j s ≡ finishL (length s) (nodesC d k j (pastProlog (suc (length s)) s))

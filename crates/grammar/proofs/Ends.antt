@@ -15,7 +15,11 @@ use Rattle.grammar.specs.Tree.{`<`, `<!--`, `-->`, `]]>`}
 use Rattle.grammar.specs.Grammar.{Before, a-comment, no-comment}
 use Rattle.grammar.specs.Demand.{refused}
 use Rattle.grammar.specs.Scan.{run, past, from, before, beyond}
-use Rattle.grammar.specs.Reader.{Res, next, mapRes, valueAs, readValue, afterNameAs, afterName, readAttribute, tagEnd, attributesAs, attributesStep, readAttributes, slashAs, afterSlash, openedAs, afterOpening, afterTagName, readElement, NodeKind, Kind, kind, nodeAs, afterClose, contentAs, contentStep, readContent, nodesAs, nodesStep, readNodes, pastProlog, finish, readDocument, ok, bad, as-text, as-section, as-element, as-close, as-comment, as-node}
+use Rattle.grammar.proofs.Reader.{Res, next, mapRes, valueAs, readValue, afterNameAs, afterName, readAttribute, tagEnd, attributesAs}
+use Rattle.grammar.proofs.Reader.{attributesStep, readAttributes, slashAs, afterSlash, openedAs, afterOpening, afterTagName, readElement}
+use Rattle.grammar.proofs.Reader.{NodeKind, Kind, kind, nodeAs, afterClose, contentAs, contentStep, readContent, nodesAs, nodesStep}
+use Rattle.grammar.proofs.Reader.{readNodes, pastProlog, finish, readDocument, ok, bad, as-text, as-section, as-element, as-close}
+use Rattle.grammar.proofs.Reader.{as-comment, as-node}
 use Rattle.grammar.proofs.Tests.{by-test, eqb-eq, equals-byte}
 use Rattle.grammar.proofs.Scans.{run-past, past-stops, before-from}
 use Rattle.grammar.proofs.Complete.{comment-length}
@@ -69,13 +73,15 @@ unfolding afterName afterNameAs
 name-ends n [] = omega arith
 name-ends n (a ∷ s) = by-test (eqb a 61)
     (λ e. rw e (ends-map (attr n) (suc (length s)) (readValue (suc (length s)) (past blank s))
-    (weaken (length (past blank s)) (suc (length s)) (readValue (suc (length s)) (past blank s)) (omega (arith, past-length blank s)) (value-ends (suc (length s)) (past blank s)))))
+    (weaken (length (past blank s)) (suc (length s)) (readValue (suc (length s)) (past blank s)) (omega (arith, past-length blank s))
+        (value-ends (suc (length s)) (past blank s)))))
     (λ e. rw e (omega arith))
 
 pub equals-ends : (s : Bytes) → Ends (length s) (readAttribute (61 ∷ s))
 unfolding readAttribute afterName afterNameAs run past attrNameByte blank
 equals-ends s = ends-map (attr []) (length s) (readValue (suc (length s)) (past blank s))
-    (weaken (length (past blank s)) (length s) (readValue (suc (length s)) (past blank s)) (past-length blank s) (value-ends (suc (length s)) (past blank s)))
+    (weaken (length (past blank s)) (length s) (readValue (suc (length s)) (past blank s)) (past-length blank s)
+        (value-ends (suc (length s)) (past blank s)))
 
 pub attribute-ends : (a : ℕ) (s : Bytes) → blank a ≡ false → tagEnd a ≡ false → Ends (length s) (readAttribute (a ∷ s))
 unfolding readAttribute attrNameByte
@@ -83,9 +89,11 @@ attribute-ends a s u i = by-test (attrNameByte a)
     (λ e. let t : Bytes = past blank (past attrNameByte (a ∷ s)) in
     weaken (length t) (length s) (afterName (run attrNameByte (a ∷ s)) t)
     (omega (arith, past-length blank (past attrNameByte (a ∷ s)), past-head attrNameByte a s e)) (name-ends (run attrNameByte (a ∷ s)) t))
-    (λ e. subst (λ z. Ends (length s) (readAttribute (z ∷ s))) (sym (eqb-eq a 61 (equals-byte (blank a) (eqb a 62) (eqb a 47) (eqb a 61) e u i))) (equals-ends s))
+    (λ e. subst (λ z. Ends (length s) (readAttribute (z ∷ s))) (sym (eqb-eq a 61 (equals-byte (blank a) (eqb a 62) (eqb a 47) (eqb a 61) e u i)))
+        (equals-ends s))
 
-pub attributes-next : (n N : ℕ) (x : Res Attr) → Ends N x → N < n → ((r : Bytes) → Stops blank r → length r < n → Ends (length r) (readAttributes n r))
+pub attributes-next : (n N : ℕ) (x : Res Attr) → Ends N x → N < n
+    → ((r : Bytes) → Stops blank r → length r < n → Ends (length r) (readAttributes n r))
     → Ends (suc N) (next x (λ a r. mapRes (a ∷_) (readAttributes n (past blank r))))
 attributes-next n N (bad m l) h g ih = h
 attributes-next n N (ok a r) h g ih =
@@ -99,7 +107,8 @@ attributes-ends zero s h g = absurd (omega (arith, g))
 attributes-ends (suc n) [] h g = omega arith
 attributes-ends (suc n) (a ∷ s) h g =
     let ih : (r : Bytes) → Stops blank r → length r < n → Ends (length r) (readAttributes n r) = attributes-ends n in
-    by-test (tagEnd a) (λ e. rw e (omega arith)) (λ e. rw e (attributes-next n (length s) (readAttribute (a ∷ s)) (attribute-ends a s h e) (omega arith) ih))
+    by-test (tagEnd a) (λ e. rw e (omega arith)) (λ e. rw e (attributes-next n (length s) (readAttribute (a ∷ s)) (attribute-ends a s h e)
+        (omega arith) ih))
 
 module _ (rec : Bytes → Res Forest) (N : ℕ) (ih : (s : Bytes) → length s < N → Ends (length s) (rec s)) where
   pub slash-ends : (k : ℕ) (t : Tree) (s : Bytes) → 0 < k → Ends (length s) (afterSlash k t s)
@@ -129,7 +138,8 @@ module _ (rec : Bytes → Res Forest) (N : ℕ) (ih : (s : Bytes) → length s <
   element-ends s g =
       let r : Bytes = past blank (past nameByte s) in
       let short : length r ≤ length s = omega (arith, past-length blank (past nameByte s), past-length nameByte s) in
-      weaken (length r) (length s) (afterTagName rec (suc (length s)) (run nameByte s) r) short (tag-ends (suc (length s)) (run nameByte s) r (past-stops blank (past nameByte s)) (omega arith))
+      weaken (length r) (length s) (afterTagName rec (suc (length s)) (run nameByte s) r) short
+          (tag-ends (suc (length s)) (run nameByte s) r (past-stops blank (past nameByte s)) (omega arith))
 
   pub node-ends : (a : ℕ) (s : Bytes) (i : NodeKind) → View (a ∷ s) (as-node i) → length s ≤ N → Ends (length s) (nodeAs rec i (a ∷ s))
   unfolding nodeAs
@@ -144,7 +154,8 @@ comment-ends a s h =
     let c = comment-sound (a ∷ s) h in
     omega (arith, ap length (c .1), length-append (c .0) (beyond `-->` (a ∷ s)), comment-length (c .2))
 
-pub node-next : (rec : Bytes → Res Forest) (N : ℕ) → ((s : Bytes) → length s < N → Ends (length s) (rec s)) → (M : ℕ) (x : Res Tree) → Ends M x → M < N
+pub node-next : (rec : Bytes → Res Forest) (N : ℕ) → ((s : Bytes) → length s < N → Ends (length s) (rec s)) → (M : ℕ) (x : Res Tree) → Ends M x
+    → M < N
     → Ends (suc M) (next x (λ t r. mapRes (more t) (rec r)))
 node-next rec N ih M (bad m l) h g = h
 node-next rec N ih M (ok t r) h g = ends-map (more t) (suc M) (rec r) (weaken (length r) (suc M) (rec r) (omega arith) (ih r (omega arith)))
@@ -158,35 +169,42 @@ pub content-as-ends : (rec : Before → Bytes → Res Forest) (N : ℕ) → ((p 
     → (p : Before) (a : ℕ) (s : Bytes) (k : Kind) → View (a ∷ s) k → length s < N → Ends (suc (length s)) (contentAs rec p k (a ∷ s))
 unfolding contentAs
 content-as-ends rec N ih no-comment a s as-close v g =
-    weaken (length (past (other 62) (a ∷ s))) (suc (length s)) (afterClose (suc (length s)) (past (other 62) (a ∷ s))) (past-length (other 62) (a ∷ s)) (close-ends (suc (length s)) (past (other 62) (a ∷ s)))
+    weaken (length (past (other 62) (a ∷ s))) (suc (length s)) (afterClose (suc (length s)) (past (other 62) (a ∷ s)))
+        (past-length (other 62) (a ∷ s)) (close-ends (suc (length s)) (past (other 62) (a ∷ s)))
 content-as-ends rec N ih a-comment a s as-close v g = omega arith
 content-as-ends rec N ih p a s as-comment (comments h) g =
     let short : length (beyond `-->` (a ∷ s)) ≤ length s = comment-ends a s h in
-    weaken (length (beyond `-->` (a ∷ s))) (suc (length s)) (rec a-comment (beyond `-->` (a ∷ s))) (omega arith) (ih a-comment (beyond `-->` (a ∷ s)) (omega arith))
+    weaken (length (beyond `-->` (a ∷ s))) (suc (length s)) (rec a-comment (beyond `-->` (a ∷ s))) (omega arith)
+        (ih a-comment (beyond `-->` (a ∷ s)) (omega arith))
 content-as-ends rec N ih p a s (as-node i) v g =
-    node-next (rec no-comment) N (ih no-comment) (length s) (nodeAs (rec no-comment) i (a ∷ s)) (node-ends (rec no-comment) N (ih no-comment) a s i v (omega arith)) g
+    node-next (rec no-comment) N (ih no-comment) (length s) (nodeAs (rec no-comment) i (a ∷ s))
+        (node-ends (rec no-comment) N (ih no-comment) a s i v (omega arith)) g
 
 pub content-ends : (n : ℕ) (p : Before) (s : Bytes) → length s < n → Ends (length s) (readContent n p s)
 unfolding readContent contentStep
 content-ends zero p s g = absurd (omega (arith, g))
 content-ends (suc n) p [] g = omega arith
-content-ends (suc n) p (a ∷ s) g = content-as-ends (λ q r. readContent n q r) n (λ q r h. content-ends n q r h) p a s (kind (a ∷ s)) (view (a ∷ s)) (omega arith)
+content-ends (suc n) p (a ∷ s) g =
+    content-as-ends (λ q r. readContent n q r) n (λ q r h. content-ends n q r h) p a s (kind (a ∷ s)) (view (a ∷ s)) (omega arith)
 
-pub nodes-as-ends : (content rec : Bytes → Res Forest) (N : ℕ) → ((s : Bytes) → length s < N → Ends (length s) (content s)) → ((s : Bytes) → length s < N → Ends (length s) (rec s))
+pub nodes-as-ends : (content rec : Bytes → Res Forest) (N : ℕ) → ((s : Bytes) → length s < N → Ends (length s) (content s))
+    → ((s : Bytes) → length s < N → Ends (length s) (rec s))
     → (a : ℕ) (s : Bytes) (k : Kind) → View (a ∷ s) k → length s < N → Ends (suc (length s)) (nodesAs content rec k (a ∷ s))
 unfolding nodesAs
 nodes-as-ends content rec N hc ih a s as-close v g = omega arith
 nodes-as-ends content rec N hc ih a s as-comment (comments h) g =
     let short : length (beyond `-->` (a ∷ s)) ≤ length s = comment-ends a s h in
     weaken (length (beyond `-->` (a ∷ s))) (suc (length s)) (rec (beyond `-->` (a ∷ s))) (omega arith) (ih (beyond `-->` (a ∷ s)) (omega arith))
-nodes-as-ends content rec N hc ih a s (as-node i) v g = node-next rec N ih (length s) (nodeAs content i (a ∷ s)) (node-ends content N hc a s i v (omega arith)) g
+nodes-as-ends content rec N hc ih a s (as-node i) v g =
+    node-next rec N ih (length s) (nodeAs content i (a ∷ s)) (node-ends content N hc a s i v (omega arith)) g
 
 pub nodes-ends : (n : ℕ) (s : Bytes) → length s < n → Ends (length s) (readNodes n s)
 unfolding readNodes nodesStep
 nodes-ends zero s g = absurd (omega (arith, g))
 nodes-ends (suc n) [] g = omega arith
 nodes-ends (suc n) (a ∷ s) g =
-    nodes-as-ends (λ r. readContent n no-comment r) (λ r. readNodes n r) n (λ r h. content-ends n no-comment r h) (λ r h. nodes-ends n r h) a s (kind (a ∷ s)) (view (a ∷ s)) (omega arith)
+    nodes-as-ends (λ r. readContent n no-comment r) (λ r. readNodes n r) n (λ r h. content-ends n no-comment r h) (λ r h. nodes-ends n r h) a s
+        (kind (a ∷ s)) (view (a ∷ s)) (omega arith)
 
 pub finish-ends : (size N m p : ℕ) (x : Res Forest) → Ends N x → finish size x ≡ refused m p → 0 < m
 finish-ends size N m p (ok f r) h e = let z : _≡_ {A = ℕ} 0 1 = cc in omega arith

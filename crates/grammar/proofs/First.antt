@@ -16,20 +16,29 @@ use Rattle.scan.specs.Bytes.{blank, nameByte, attrNameByte, other}
 use Rattle.grammar.specs.Words.{Bytes, _then_, Only, Stops, Run, Begins}
 use Rattle.grammar.specs.Tree.{Attr, attr, Tree, element, Forest, none, more}
 use Rattle.grammar.specs.Tree.{`<`, `>`, `/`, `=`, `</`, `<!--`, `<![CDATA[`}
-use Rattle.grammar.specs.Grammar.{Blanks, Name, Attributes, no-attribute, attribute, Opening, opening, Comment, Before, a-comment, no-comment, Node}
+use Rattle.grammar.specs.Grammar.{Blanks, Name, Attributes, no-attribute, attribute, Opening, opening, Comment, Before, a-comment}
+use Rattle.grammar.specs.Grammar.{no-comment, Node}
 use Rattle.grammar.specs.Limits.{treeNodes, treeAttrs}
 use Rattle.grammar.specs.Demand.{Result, refused}
 use Rattle.grammar.specs.Scan.{run, past, prefix}
-use Rattle.grammar.specs.Reader.{Res, mapRes, readValue, afterNameAs, afterName, readAttribute, tagEnd, readAttributes, slashAs, afterSlash, NodeKind, kind, nodeAs, afterClose, pastProlog, ok, bad, as-text, as-section, as-element, as-node}
-use Rattle.grammar.specs.Counted.{LRes, lnext, lmap, lift, Counted, attributesAsL, attributesStepL, attributesL, openedAsL, afterOpeningL, afterTagNameL, elementL, nodeL, contentAsL, contentStepL, contentL, nodesAsL, nodesStepL, finishL, readDocumentL, lok, lbad}
-use Rattle.grammar.specs.Refusals.{ElementBegins, NodeBegins, AttributeBegins, Viable, InStartTag, in-start-tag, Meets, too-deep, too-many-nodes, no-tag-name, too-many-attributes, slash, no-value, end-in-tag, open-close-tag, FirstMet}
+use Rattle.grammar.proofs.Reader.{Res, mapRes, readValue, afterNameAs, afterName, readAttribute, tagEnd, readAttributes, slashAs}
+use Rattle.grammar.proofs.Reader.{afterSlash, NodeKind, kind, nodeAs, afterClose, pastProlog, ok, bad, as-text, as-section, as-element}
+use Rattle.grammar.proofs.Reader.{as-node}
+use Rattle.grammar.proofs.Counted.{LRes, lnext, lmap, lift, Counted, attributesAsL, attributesStepL, attributesL, openedAsL, afterOpeningL}
+use Rattle.grammar.proofs.Counted.{afterTagNameL, elementL, nodeL, contentAsL, contentStepL, contentL, nodesAsL, nodesStepL, finishL}
+use Rattle.grammar.proofs.Counted.{readDocumentL, lok, lbad}
+use Rattle.grammar.specs.Refusals.{ElementBegins, NodeBegins, AttributeBegins, Viable, InStartTag, in-start-tag, Meets, too-deep}
+use Rattle.grammar.specs.Refusals.{too-many-nodes, no-tag-name, too-many-attributes, slash, no-value, end-in-tag, open-close-tag, FirstMet}
 use Rattle.grammar.proofs.Tests.{by-test, eqb-eq, not-or3, or-true}
 use Rattle.grammar.proofs.Scans.{run-past, past-stops, run-is, past-is, begins-prefix, not-prefix, beyond-is}
-use Rattle.grammar.proofs.Complete.{Front, attribute-front, front-stops, front-length, front-append, Gives, attribute-complete, attributes-stops, name-front, blank-equals, blank-gt, equals-no-name, opening-tagged, kind-close, kind-comment, begins-more, comment-length, NodeOk, node-complete, prolog-complete, Reads}
+use Rattle.grammar.proofs.Complete.{Front, attribute-front, front-stops, front-length, front-append, Gives, attribute-complete}
+use Rattle.grammar.proofs.Complete.{attributes-stops, name-front, blank-equals, blank-gt, equals-no-name, opening-tagged, kind-close}
+use Rattle.grammar.proofs.Complete.{kind-comment, begins-more, comment-length, NodeOk, node-complete, prolog-complete, Reads}
 use Rattle.grammar.proofs.Sound.{View, view, AttributesS, attributes-sound, all-blanks}
 use Rattle.grammar.proofs.Simulation.{SimA, SimT, attributes-sim, node-sim, content-sim, same, over, fails}
 use Rattle.grammar.proofs.Ends.{content-ends}
-use Rattle.grammar.proofs.CountedRounds.{attributesC, attributesC-is, node-same, content-rounds, contentC, contentC-is, nodesC, nodesC-is, readDocumentL-is}
+use Rattle.grammar.proofs.CountedRounds.{attributesC, attributesC-is, node-same, content-rounds, contentC, contentC-is, nodesC, nodesC-is}
+use Rattle.grammar.proofs.CountedRounds.{readDocumentL-is}
 use Rattle.grammar.proofs.Refusing.{AttributeF, attribute-fails, refused-meets}
 use Rattle.grammar.proofs.Inside.{Inside, node-inside, content-inside}
 
@@ -50,7 +59,8 @@ unfolding contentStepL
 content-some rec d p k j [] h = absurd (omega (arith, h))
 content-some rec d p k j (a ∷ s) h = refl
 
-pub nodes-some : (content rec : ℕ → Counted Forest) (d k j : ℕ) (s : Bytes) → 0 < length s → nodesStepL content rec d k j s ≡ nodesAsL content rec d (kind s) k j s
+pub nodes-some : (content rec : ℕ → Counted Forest) (d k j : ℕ) (s : Bytes) → 0 < length s → nodesStepL content rec d k j s
+    ≡ nodesAsL content rec d (kind s) k j s
 unfolding nodesStepL
 nodes-some content rec d k j [] h = absurd (omega (arith, h))
 nodes-some content rec d k j (a ∷ s) h = refl
@@ -58,7 +68,8 @@ nodes-some content rec d k j (a ∷ s) h = refl
 pub comment-some : {after u : Bytes} → Comment after u → 0 < length (u ++ after)
 comment-some {after} {u} c = simp length-append (omega (arith, comment-length c))
 
-pub cont-comment : (d₀ d : ℕ) (p : Before) (k j : ℕ) {after u : Bytes} → Comment after u → cont d₀ d p k j (u ++ after) ≡ cont d₀ d a-comment k j after
+pub cont-comment : (d₀ d : ℕ) (p : Before) (k j : ℕ) {after u : Bytes} → Comment after u → cont d₀ d p k j (u ++ after)
+    ≡ cont d₀ d a-comment k j after
 unfolding contentAsL nodesAsL
 cont-comment zero d p k j {after} {u} c =
     let s : Bytes = u ++ after in
@@ -78,7 +89,8 @@ cont-node zero d p k j s i g e = nodesC-is d k j s ∙ nodes-some inElement node
 cont-node (suc d₀) d p k j s i g e = contentC-is d p k j s ∙ content-some contentC d p k j s g ∙ ap (λ i. contentAsL contentC d p i k j s) e
 
 -- a refusal of the node is one of what goes on
-pub cont-bad : (d₀ d : ℕ) (p : Before) (k j : ℕ) (s : Bytes) (i : NodeKind) (n l : ℕ) → 0 < length s → kind s ≡ as-node i → nodeL inElement i d k j s ≡ lbad n l
+pub cont-bad : (d₀ d : ℕ) (p : Before) (k j : ℕ) (s : Bytes) (i : NodeKind) (n l : ℕ) → 0 < length s → kind s ≡ as-node i
+    → nodeL inElement i d k j s ≡ lbad n l
     → cont d₀ d p k j s ≡ lbad n l
 cont-bad d₀ d p k j s i n l g e q = cont-node d₀ d p k j s i g e ∙ ap (λ v. lnext v (λ t k j r. lmap (more t) (cont d₀ d no-comment k j r))) q
 
@@ -89,7 +101,8 @@ pub data NodeStep (t : Tree) (after : Bytes) (k j : ℕ) (v : LRes Tree) : Type 
   stopped : (n l : ℕ) → v ≡ lbad n l → length after < l → NodeStep t after k j v
   goes : (k₂ j₂ : ℕ) → v ≡ lok t k₂ j₂ after → k ≡ treeNodes t + k₂ → j ≡ treeAttrs t + j₂ → NodeStep t after k j v
 
-pub node-split : (t : Tree) (after : Bytes) (d k j : ℕ) (u : Res Tree) (v : LRes Tree) → u ≡ ok t after → SimT d k j u v → Inside u v → NodeStep t after k j v
+pub node-split : (t : Tree) (after : Bytes) (d k j : ℕ) (u : Res Tree) (v : LRes Tree) → u ≡ ok t after → SimT d k j u v → Inside u v
+    → NodeStep t after k j v
 node-split t after d k j u v e (same a k₂ j₂ {r} x y z) h =
     let a-is : a ≡ t = cc in
     let r-is : r ≡ after = cc in
@@ -99,7 +112,8 @@ node-split t after d k j u v e (over a {r} {n} {l} q) h =
     stopped n l refl (omega (arith, ap length r-is))
 node-split t after d k j u v e fails h = let z : _≡_ {A = ℕ} 0 1 = cc in absurd (omega arith)
 
-pub node-at : (s after : Bytes) (t : Tree) (i : NodeKind) → kind s ≡ as-node i → 0 < length s → nodeAs (Reads (length s)) i s ≡ ok t after → (d k j : ℕ)
+pub node-at : (s after : Bytes) (t : Tree) (i : NodeKind) → kind s ≡ as-node i → 0 < length s → nodeAs (Reads (length s)) i s ≡ ok t after
+    → (d k j : ℕ)
     → NodeStep t after k j (nodeL inElement i d k j s)
 unfolding contentC
 node-at [] after t i e g q d k j = absurd (omega (arith, g))
@@ -108,10 +122,12 @@ node-at (a ∷ s) after t i e g q d k j =
     let L : ℕ → Counted Forest = λ d k j r. contentL n d no-comment k j r in
     let v : View (a ∷ s) (as-node i) = subst (View (a ∷ s)) e (view (a ∷ s)) in
     subst (NodeStep t after k j)
-    (node-same (length s) L inElement (λ d k j r h. content-rounds n (suc (length r)) d no-comment k j r (omega arith) (omega arith)) i d k j a s (omega arith))
+    (node-same (length s) L inElement (λ d k j r h. content-rounds n (suc (length r)) d no-comment k j r (omega arith) (omega arith)) i d k j a s
+        (omega arith))
     (node-split t after d k j (nodeAs (Reads n) i (a ∷ s)) (nodeL L i d k j (a ∷ s)) q
     (node-sim (Reads n) L (λ d k j r. content-sim n no-comment d k j r) i d k j (a ∷ s))
-    (node-inside (length s) (Reads n) L (λ r h. content-ends n no-comment r (omega arith)) (λ d k j r h. content-inside n no-comment d k j r (omega arith)) a s i v (omega arith) d k j))
+    (node-inside (length s) (Reads n) L (λ r h. content-ends n no-comment r (omega arith))
+        (λ d k j r h. content-inside n no-comment d k j r (omega arith)) a s i v (omega arith) d k j))
 
 -- ---- an opening that the grammar has
 
@@ -128,7 +144,8 @@ map-more a l (lok x k j r) = refl
 map-more a l (lbad n i) = refl
 
 -- one attribute that is read, or may not begin
-pub attribute-round : (k j : ℕ) (u s r : Bytes) (a : Attr) → Front u → readAttribute (u ++ s) ≡ ok a r → attributesC k (suc j) (u ++ s) ≡ lmap (a ∷_) (attributesC k j (past blank r))
+pub attribute-round : (k j : ℕ) (u s r : Bytes) (a : Attr) → Front u → readAttribute (u ++ s) ≡ ok a r → attributesC k (suc j) (u ++ s)
+    ≡ lmap (a ∷_) (attributesC k j (past blank r))
 unfolding attributesStepL attributesAsL
 attribute-round k j u s r a f e = attributesC-is k (suc j) (u ++ s) (front-stops u s f) ∙ go u (f .byte) (f .rest) (f .is) (f .inside) e
   where
@@ -149,11 +166,13 @@ attribute-none k u s f = attributesC-is k 0 (u ++ s) (front-stops u s f) ∙ go 
         let t : tagEnd c ≡ false = ap tagEnd (head-eq-of-cons-eq q) ∙ i in
         rw t
 
-pub step-more : (after : Bytes) (a : Attr) (l : List Attr) (k j : ℕ) (v x : LRes (List Attr)) → x ≡ lmap (a ∷_) v → AttributesStep after l k j v → AttributesStep after (a ∷ l) k (suc j) x
+pub step-more : (after : Bytes) (a : Attr) (l : List Attr) (k j : ℕ) (v x : LRes (List Attr)) → x ≡ lmap (a ∷_) v → AttributesStep after l k j v
+    → AttributesStep after (a ∷ l) k (suc j) x
 step-more after a l k j v x e (stopped n i q g) = stopped n i (e ∙ ap (lmap (a ∷_)) q) g
 step-more after a l k j v x e (goes j₂ c q) = goes j₂ (omega arith) (e ∙ ap (lmap (a ∷_)) q ∙ map-more a l (attributesC k j₂ after))
 
-pub attributes-step : {after w : Bytes} {l : List Attr} → Stops blank after → Attributes after w l → (k j : ℕ) → AttributesStep after l k j (attributesC k j (w ++ after))
+pub attributes-step : {after w : Bytes} {l : List Attr} → Stops blank after → Attributes after w l → (k j : ℕ)
+    → AttributesStep after l k j (attributesC k j (w ++ after))
 attributes-step {after} h no-attribute k j = goes j (omega arith) (map-nil (attributesC k j after))
 attributes-step {after} h (attribute {u} {b} {w} {a} {l} x y z) k zero =
     let s : Bytes = b ++ (w ++ after) in
@@ -167,7 +186,8 @@ attributes-step {after} h (attribute {u} {b} {w} {a} {l} x y z) k (suc j) =
     let gv : Gives s u a = attribute-complete x in
     let r-is : past blank (gv .0) ≡ w ++ after = gv .2 ∙ past-is blank b (w ++ after) (y .all) (attributes-stops h z) in
     step-more after a l k j (attributesC k j (w ++ after)) (attributesC k (suc j) ((u then b then w) ++ after))
-    (ap (attributesC k (suc j)) assoc ∙ attribute-round k j u s (gv .0) a (attribute-front x) (gv .1) ∙ ap (λ q. lmap (a ∷_) (attributesC k j q)) r-is)
+    (ap (attributesC k (suc j)) assoc ∙ attribute-round k j u s (gv .0) a (attribute-front x) (gv .1)
+        ∙ ap (λ q. lmap (a ∷_) (attributesC k j q)) r-is)
     (attributes-step h z k j)
 
 -- the start tag from `after` on, where the attributes l₀ are read
@@ -186,7 +206,8 @@ next-map rec n l₀ (lbad m i) = refl
 pub opening-then : (rec : Counted Forest) (after n : Bytes) (l : List Attr) (k j : ℕ) (v : LRes (List Attr)) (x : LRes Tree)
     → x ≡ lnext v (λ l k j r. afterOpeningL rec n l k j r) → AttributesStep after l k j v → OpeningStep rec after n l k j x
 opening-then rec after n l k j v x e (stopped m i q g) = stopped m i (e ∙ ap (λ v. lnext v (λ l k j r. afterOpeningL rec n l k j r)) q) g
-opening-then rec after n l k j v x e (goes j₂ c q) = goes j₂ c (e ∙ ap (λ v. lnext v (λ l k j r. afterOpeningL rec n l k j r)) q ∙ next-map rec n l (attributesC k j₂ after))
+opening-then rec after n l k j v x e (goes j₂ c q) =
+    goes j₂ c (e ∙ ap (λ v. lnext v (λ l k j r. afterOpeningL rec n l k j r)) q ∙ next-map rec n l (attributesC k j₂ after))
 
 -- the tag's name is read
 pub tag-name : (rec : Counted Forest) (n s r : Bytes) (k j : ℕ) → Name nameByte s n → past blank s ≡ r
@@ -194,11 +215,13 @@ pub tag-name : (rec : Counted Forest) (n s r : Bytes) (k j : ℕ) → Name nameB
 unfolding elementL afterTagNameL attributesC
 tag-name rec n s r k j nm e =
     let i : ℕ = suc (length (n ++ s)) in
-    ap₂ (λ x y. afterTagNameL rec i x k j (past blank y)) (run-is nameByte n s (nm .run .only) (nm .run .longest)) (past-is nameByte n s (nm .run .only) (nm .run .longest))
+    ap₂ (λ x y. afterTagNameL rec i x k j (past blank y)) (run-is nameByte n s (nm .run .only) (nm .run .longest))
+        (past-is nameByte n s (nm .run .only) (nm .run .longest))
     ∙ ap (afterTagNameL rec i n k j) e
     ∙ go n (nm .some-byte) i
   where
-    go : (n : Bytes) → ¬ (n ≡ []) → (i : ℕ) → afterTagNameL rec i n k j r ≡ lnext (attributesL (suc (length r)) k j r) (λ l k j r. afterOpeningL rec n l k j r)
+    go : (n : Bytes) → ¬ (n ≡ []) → (i : ℕ) → afterTagNameL rec i n k j r
+        ≡ lnext (attributesL (suc (length r)) k j r) (λ l k j r. afterOpeningL rec n l k j r)
     go [] e i = absurd (e refl)
     go (c ∷ n) e i = refl
 
@@ -236,24 +259,28 @@ begins-some a m s h = rw (h .1) (omega arith)
 pub element-kind : (s : Bytes) → ElementBegins s → kind s ≡ as-node as-element
 element-kind s h = rw (not-prefix `</` s (h .1), not-prefix `<!--` s (h .2), not-prefix `<![CDATA[` s (h .3), begins-prefix `<` s (h .0))
 
-pub element-reach : (D K J : ℕ) (top : LRes Forest) (s w : Bytes) (d₀ k₀ j₀ : ℕ) (p : Before) → ElementBegins s → Reach D K J top s w d₀ k₀ j₀ p → ElementReach D K J top s w d₀ k₀ j₀
+pub element-reach : (D K J : ℕ) (top : LRes Forest) (s w : Bytes) (d₀ k₀ j₀ : ℕ) (p : Before) → ElementBegins s → Reach D K J top s w d₀ k₀ j₀ p
+    → ElementReach D K J top s w d₀ k₀ j₀
 unfolding nodeL
 element-reach D K J top s w d₀ k₀ j₀ p eb (early n l e g q) = early n l e g q
 element-reach D K J top s w d₀ k₀ j₀ p eb (here zero k j cd ck cj f) =
     limit 4 (f 4 (length s) (cont-bad d₀ 0 p k j s as-element 4 (length s) (begins-some 60 [] s (eb .0)) (element-kind s eb) refl)) (omega arith)
 element-reach D K J top s w d₀ k₀ j₀ p eb (here (suc d) zero j cd ck cj f) =
-    limit 5 (f 5 (length s) (cont-bad d₀ (suc d) p 0 j s as-element 5 (length s) (begins-some 60 [] s (eb .0)) (element-kind s eb) refl)) (omega arith)
+    limit 5 (f 5 (length s) (cont-bad d₀ (suc d) p 0 j s as-element 5 (length s) (begins-some 60 [] s (eb .0)) (element-kind s eb) refl))
+        (omega arith)
 element-reach D K J top s w d₀ k₀ j₀ p eb (here (suc d) (suc k) j cd ck cj f) =
     here d k j (omega arith) (omega arith) cj
     (λ n l e. f n l (cont-bad d₀ (suc d) p (suc k) j s as-element n l (begins-some 60 [] s (eb .0)) (element-kind s eb) e))
 
-pub comment-reach : (D K J : ℕ) (top : LRes Forest) (after u w : Bytes) (d₀ k₀ j₀ : ℕ) (p : Before) → Comment after u → Reach D K J top (u ++ after) w d₀ k₀ j₀ p
+pub comment-reach : (D K J : ℕ) (top : LRes Forest) (after u w : Bytes) (d₀ k₀ j₀ : ℕ) (p : Before) → Comment after u
+    → Reach D K J top (u ++ after) w d₀ k₀ j₀ p
     → Reach D K J top after (w ++ u) d₀ k₀ j₀ a-comment
 comment-reach D K J top after u w d₀ k₀ j₀ p c (early n l e g q) =
     early n l e (omega (arith, simp length-append at g)) (simp length-append (omega arith))
 comment-reach D K J top after u w d₀ k₀ j₀ p c (here d k j cd ck cj f) = here d k j cd ck cj (λ n l e. f n l (cont-comment d₀ d p k j c ∙ e))
 
-pub node-reach : (D K J : ℕ) (top : LRes Forest) (after u w : Bytes) (d₀ k₀ j₀ : ℕ) (p : Before) (t : Tree) → Node after u t → Reach D K J top (u ++ after) w d₀ k₀ j₀ p
+pub node-reach : (D K J : ℕ) (top : LRes Forest) (after u w : Bytes) (d₀ k₀ j₀ : ℕ) (p : Before) (t : Tree) → Node after u t
+    → Reach D K J top (u ++ after) w d₀ k₀ j₀ p
     → Reach D K J top after (w ++ u) d₀ (k₀ + treeNodes t) (j₀ + treeAttrs t) no-comment
 node-reach D K J top after u w d₀ k₀ j₀ p t x (early n l e g q) =
     early n l e (omega (arith, simp length-append at g)) (simp length-append (omega arith))
@@ -277,13 +304,15 @@ node-reach D K J top after u w d₀ k₀ j₀ p t x (here d k j cd ck cj f) = go
         ∙ ap (λ v. lnext v (λ t k j r. lmap (more t) (cont d₀ d no-comment k j r))) e ∙ ap (lmap (more t)) q))
 
 -- a start tag that ends goes on with its content
-pub opened-here : (rec : Counted Forest) (n : Bytes) (l : List Attr) (k j : ℕ) (after : Bytes) (m i : ℕ) → rec k j after ≡ lbad m i → tagC rec n l k j (62 ∷ after) ≡ lbad m i
+pub opened-here : (rec : Counted Forest) (n : Bytes) (l : List Attr) (k j : ℕ) (after : Bytes) (m i : ℕ) → rec k j after ≡ lbad m i
+    → tagC rec n l k j (62 ∷ after) ≡ lbad m i
 unfolding attributesStepL attributesAsL afterOpeningL openedAsL
 opened-here rec n l k j after m i e =
     ap (λ v. lnext v (λ l₂ k j r. afterOpeningL rec n (l ++ l₂) k j r)) (attributesC-is k j (62 ∷ after) blank-gt) ∙ ap (lmap (element n (l ++ []))) e
 
 pub start-reach : (D K J : ℕ) (top : LRes Forest) (after o w n : Bytes) (l : List Attr) (d₀ k₀ j₀ : ℕ) → Opening (62 ∷ after) o n l
-    → ElementReach D K J top (o ++ (62 ∷ after)) w d₀ k₀ j₀ → Reach D K J top after (w ++ (o ++ (62 ∷ []))) (suc d₀) (suc k₀) (j₀ + length l) no-comment
+    → ElementReach D K J top (o ++ (62 ∷ after)) w d₀ k₀ j₀ → Reach D K J top after (w ++ (o ++ (62 ∷ []))) (suc d₀) (suc k₀) (j₀ + length l)
+        no-comment
 start-reach D K J top after o w n l d₀ k₀ j₀ op (early m i e g q) =
     early m i e (omega (arith, simp length-append at g)) (simp length-append (omega arith))
 start-reach D K J top after o w n l d₀ k₀ j₀ op (limit m e g) =
@@ -295,7 +324,8 @@ start-reach D K J top after o w n l d₀ k₀ j₀ op (here d k j cd ck cj f) = 
     go (stopped m i e g) = early m i (f m i e) (omega arith) (simp length-append (omega arith))
     go (goes j₂ c e) = here d k j₂ cd ck (omega arith) (λ m i q. f m i (e ∙ opened-here (inElement d) n l k j₂ after m i q))
 
-pub reach : (D K J : ℕ) {after w : Bytes} {d₀ k₀ j₀ : ℕ} {p : Before} → Viable after w d₀ k₀ j₀ p → Reach D K J (answer D K J (w ++ after)) after w d₀ k₀ j₀ p
+pub reach : (D K J : ℕ) {after w : Bytes} {d₀ k₀ j₀ : ℕ} {p : Before} → Viable after w d₀ k₀ j₀ p
+    → Reach D K J (answer D K J (w ++ after)) after w d₀ k₀ j₀ p
 reach D K J (Viable.prolog {after} {w} pr np) =
     here D K J (omega arith) (omega arith) (omega arith)
     (λ n l e. ap (nodesC D K J) (prolog-complete pr np (suc (length (w ++ after))) (omega arith)) ∙ e)
@@ -318,7 +348,8 @@ reach D K J (Viable.start-tag {after} {w} {o} {n} {d = d₀} {k = k₀} {j = j�
 
 pub data TagReach (J : ℕ) (top : LRes Forest) (after w : Bytes) (j₀ : ℕ) : Type 0 where
   early : (n l : ℕ) → top ≡ lbad n l → length after < l → 0 < length w → TagReach J top after w j₀
-  here : (rec : Counted Forest) (name : Bytes) (l₀ : List Attr) (k j : ℕ) → j₀ + j ≡ J → ((n l : ℕ) → tagC rec name l₀ k j after ≡ lbad n l → top ≡ lbad n l)
+  here : (rec : Counted Forest) (name : Bytes) (l₀ : List Attr) (k j : ℕ) → j₀ + j ≡ J
+      → ((n l : ℕ) → tagC rec name l₀ k j after ≡ lbad n l → top ≡ lbad n l)
       → TagReach J top after w j₀
 
 pub opening-some : {after o n : Bytes} {l : List Attr} → Opening after o n l → 0 < length o
@@ -340,7 +371,8 @@ pub tag-reach : (D K J : ℕ) {after w : Bytes} {j₀ : ℕ} → Stops blank aft
 tag-reach D K J {after} h (in-start-tag {w} {o} {n} {d = d₀} {k = k₀} {j = j₀} {p} {l} v eb op) =
     let x : Bytes = w ++ (o ++ after) in
     subst (λ z. TagReach J (answer D K J z) after (w ++ o) (j₀ + length l)) (sym (append-assoc w o after))
-    (opening-reach D K J (answer D K J x) after o w n l d₀ k₀ j₀ h op (element-reach D K J (answer D K J x) (o ++ after) w d₀ k₀ j₀ p eb (reach D K J v)))
+    (opening-reach D K J (answer D K J x) after o w n l d₀ k₀ j₀ h op
+        (element-reach D K J (answer D K J x) (o ++ after) w d₀ k₀ j₀ p eb (reach D K J v)))
 
 -- ---- the numbers
 
@@ -351,16 +383,19 @@ pub record Sooner (D K J : ℕ) (s : Bytes) (m q : ℕ) : Type 0 where
   pub answered : readDocumentL D K J s ≡ refused number place
   pub no-later : (place < q) ⊎ ((place ≡ q) × (number ≤ m))
 
-pub by-answer : (D K J : ℕ) (x : Bytes) (m q n l : ℕ) → answer D K J x ≡ lbad n l → (length x - l < q) ⊎ ((length x - l ≡ q) × (n ≤ m)) → Sooner D K J x m q
+pub by-answer : (D K J : ℕ) (x : Bytes) (m q n l : ℕ) → answer D K J x ≡ lbad n l → (length x - l < q) ⊎ ((length x - l ≡ q) × (n ≤ m))
+    → Sooner D K J x m q
 by-answer D K J x m q n l e h =
     record { number = n; place = length x - l; answered = readDocumentL-is D K J x ∙ ap (finishL (length x)) e; no-later = h }
 
-pub sooner-before : (D K J : ℕ) (w after : Bytes) (m n l : ℕ) → answer D K J (w ++ after) ≡ lbad n l → length after < l → 0 < length w → Sooner D K J (w ++ after) m (length w)
+pub sooner-before : (D K J : ℕ) (w after : Bytes) (m n l : ℕ) → answer D K J (w ++ after) ≡ lbad n l → length after < l → 0 < length w
+    → Sooner D K J (w ++ after) m (length w)
 sooner-before D K J w after m n l e g h =
     let less : length (w ++ after) - l < length w = simp length-append (omega arith) in
     by-answer D K J (w ++ after) m (length w) n l e (inl less)
 
-pub sooner-here : (D K J : ℕ) (w after : Bytes) (m n : ℕ) → answer D K J (w ++ after) ≡ lbad n (length after) → n ≤ m → Sooner D K J (w ++ after) m (length w)
+pub sooner-here : (D K J : ℕ) (w after : Bytes) (m n : ℕ) → answer D K J (w ++ after) ≡ lbad n (length after) → n ≤ m
+    → Sooner D K J (w ++ after) m (length w)
 sooner-here D K J w after m n e h =
     let equal : length (w ++ after) - length after ≡ length w = simp length-append (omega arith) in
     by-answer D K J (w ++ after) m (length w) n (length after) e (inr (equal, h))
@@ -369,13 +404,15 @@ pub past-all : (p : ℕ → Bool) (s : Bytes) → Only p s → past p s ≡ []
 past-all p s o = ap (past p) (sym (append-nil s)) ∙ past-is p s [] o tt
 
 -- 4
-pub too-deep-sooner : (D K J : ℕ) (w after : Bytes) (k₀ j₀ : ℕ) (p : Before) → Reach D K J (answer D K J (w ++ after)) after w D k₀ j₀ p → ElementBegins after
+pub too-deep-sooner : (D K J : ℕ) (w after : Bytes) (k₀ j₀ : ℕ) (p : Before) → Reach D K J (answer D K J (w ++ after)) after w D k₀ j₀ p
+    → ElementBegins after
     → Sooner D K J (w ++ after) 4 (length w)
 unfolding nodeL
 too-deep-sooner D K J w after k₀ j₀ p (early n l e g h) eb = sooner-before D K J w after 4 n l e g h
 too-deep-sooner D K J w after k₀ j₀ p (here zero k j cd ck cj f) eb =
     sooner-here D K J w after 4 4
-    (f 4 (length after) (cont-bad D 0 p k j after as-element 4 (length after) (begins-some 60 [] after (eb .0)) (element-kind after eb) refl)) (omega arith)
+    (f 4 (length after) (cont-bad D 0 p k j after as-element 4 (length after) (begins-some 60 [] after (eb .0)) (element-kind after eb) refl))
+        (omega arith)
 too-deep-sooner D K J w after k₀ j₀ p (here (suc d) k j cd ck cj f) eb = absurd (omega (arith, cd))
 
 -- 5
@@ -396,7 +433,8 @@ no-room as-section d j s = (5, refl, omega arith)
 no-room as-element zero j s = (4, refl, omega arith)
 no-room as-element (suc d) j s = (5, refl, omega arith)
 
-pub too-many-nodes-sooner : (D K J : ℕ) (w after : Bytes) (d₀ j₀ : ℕ) (p : Before) → Reach D K J (answer D K J (w ++ after)) after w d₀ K j₀ p → NodeBegins after
+pub too-many-nodes-sooner : (D K J : ℕ) (w after : Bytes) (d₀ j₀ : ℕ) (p : Before) → Reach D K J (answer D K J (w ++ after)) after w d₀ K j₀ p
+    → NodeBegins after
     → Sooner D K J (w ++ after) 5 (length w)
 too-many-nodes-sooner D K J w after d₀ j₀ p (early n l e g h) nb = sooner-before D K J w after 5 n l e g h
 too-many-nodes-sooner D K J w after d₀ j₀ p (here d zero j cd ck cj f) nb =
@@ -412,7 +450,8 @@ unfolding elementL afterTagNameL
 no-name-here rec k j after h =
     ap (λ x. afterTagNameL rec (suc (length after)) x k j (past blank (past nameByte after))) (run-is nameByte [] after tt h)
 
-pub no-tag-name-sooner : (D K J : ℕ) (w after : Bytes) (d₀ k₀ j₀ : ℕ) → ElementReach D K J (answer D K J (w ++ (60 ∷ after))) (60 ∷ after) w d₀ k₀ j₀ → Stops nameByte after
+pub no-tag-name-sooner : (D K J : ℕ) (w after : Bytes) (d₀ k₀ j₀ : ℕ)
+    → ElementReach D K J (answer D K J (w ++ (60 ∷ after))) (60 ∷ after) w d₀ k₀ j₀ → Stops nameByte after
     → Sooner D K J (w ++ (60 ∷ after)) 6 (length w)
 no-tag-name-sooner D K J w after d₀ k₀ j₀ (early n l e g h) st = sooner-before D K J w (60 ∷ after) 6 n l e g h
 no-tag-name-sooner D K J w after d₀ k₀ j₀ (limit n e g) st = sooner-here D K J w (60 ∷ after) 6 n e (omega arith)
@@ -432,10 +471,12 @@ front-unblank s f = rw (f .is) (f .unblank)
 pub front-none : (k : ℕ) (s : Bytes) → Front s → attributesC k 0 s ≡ lbad 7 (length s)
 front-none k s f = subst (λ z. attributesC k 0 z ≡ lbad 7 (length z)) (append-nil s) (attribute-none k s [] f)
 
-pub tag-bad : (rec : Counted Forest) (n : Bytes) (l₀ : List Attr) (k j : ℕ) (s : Bytes) (m i : ℕ) → attributesC k j s ≡ lbad m i → tagC rec n l₀ k j s ≡ lbad m i
+pub tag-bad : (rec : Counted Forest) (n : Bytes) (l₀ : List Attr) (k j : ℕ) (s : Bytes) (m i : ℕ) → attributesC k j s ≡ lbad m i
+    → tagC rec n l₀ k j s ≡ lbad m i
 tag-bad rec n l₀ k j s m i e = ap (λ v. lnext v (λ l k j r. afterOpeningL rec n (l₀ ++ l) k j r)) e
 
-pub too-many-attributes-sooner : (D K J : ℕ) (w after : Bytes) → TagReach J (answer D K J (w ++ after)) after w J → Front after → Sooner D K J (w ++ after) 7 (length w)
+pub too-many-attributes-sooner : (D K J : ℕ) (w after : Bytes) → TagReach J (answer D K J (w ++ after)) after w J → Front after
+    → Sooner D K J (w ++ after) 7 (length w)
 too-many-attributes-sooner D K J w after (early n l e g h) fr = sooner-before D K J w after 7 n l e g h
 too-many-attributes-sooner D K J w after (here rec n l₀ k zero cj f) fr =
     sooner-here D K J w after 7 7 (f 7 (length after) (tag-bad rec n l₀ k 0 after 7 (length after) (front-none k after fr))) (omega arith)
@@ -457,7 +498,8 @@ slash-bad i t s h = go (past blank s) refl
         (λ q. absurd (h (run blank s) z (all-blanks s) (run-past blank s ∙ ap (run blank s ++_) (e ∙ ap (_∷ z) (eqb-eq c 62 q)))))
         (λ q. rw q)
 
-pub slash-here : (rec : Counted Forest) (n : Bytes) (l : List Attr) (k j : ℕ) (after : Bytes) → ((b r : Bytes) → Blanks b → ¬ (after ≡ b then `>` then r))
+pub slash-here : (rec : Counted Forest) (n : Bytes) (l : List Attr) (k j : ℕ) (after : Bytes)
+    → ((b r : Bytes) → Blanks b → ¬ (after ≡ b then `>` then r))
     → tagC rec n l k j (47 ∷ after) ≡ lbad 8 (suc (length after))
 unfolding attributesStepL attributesAsL afterOpeningL openedAsL
 slash-here rec n l k j after h =
@@ -471,7 +513,8 @@ slash-sooner D K J w after j₀ (here rec n l₀ k j cj f) un =
     sooner-here D K J w (47 ∷ after) 8 8 (f 8 (suc (length after)) (slash-here rec n l₀ k j after un)) (omega arith)
 
 -- 11
-pub open-close-here : (d k j : ℕ) (after : Bytes) → Only (other 62) after → contentC d no-comment k j (`</` ++ after) ≡ lbad 11 (length (`</` ++ after))
+pub open-close-here : (d k j : ℕ) (after : Bytes) → Only (other 62) after → contentC d no-comment k j (`</` ++ after)
+    ≡ lbad 11 (length (`</` ++ after))
 unfolding contentAsL afterClose
 open-close-here d k j after o =
     let s : Bytes = `</` ++ after in
@@ -479,7 +522,8 @@ open-close-here d k j after o =
     ∙ ap (λ i. contentAsL contentC d no-comment i k j s) (kind-close s (after, refl))
     ∙ ap (λ z. lift (afterClose (length s) z) (λ f r. lok f k j r)) (past-all (other 62) s (refl, (refl, o)))
 
-pub open-close-sooner : (D K J : ℕ) (w after : Bytes) (d₀ k₀ j₀ : ℕ) → Reach D K J (answer D K J (w ++ (`</` ++ after))) (`</` ++ after) w (suc d₀) k₀ j₀ no-comment
+pub open-close-sooner : (D K J : ℕ) (w after : Bytes) (d₀ k₀ j₀ : ℕ)
+    → Reach D K J (answer D K J (w ++ (`</` ++ after))) (`</` ++ after) w (suc d₀) k₀ j₀ no-comment
     → Only (other 62) after → Sooner D K J (w ++ (`</` ++ after)) 11 (length w)
 open-close-sooner D K J w after d₀ k₀ j₀ (early n l e g h) o = sooner-before D K J w (`</` ++ after) 11 n l e g h
 open-close-sooner D K J w after d₀ k₀ j₀ (here d k j cd ck cj f) o =
@@ -514,7 +558,8 @@ pub attribute-bad : (k j : ℕ) (s : Bytes) (m i : ℕ) → Front s → readAttr
 unfolding attributesStepL attributesAsL
 attribute-bad k j s m i f e = attributesC-is k (suc j) s (front-unblank s f) ∙ go s (f .byte) (f .rest) (f .is) (f .inside) e
   where
-    go : (s : Bytes) (b : ℕ) (v : Bytes) → s ≡ b ∷ v → tagEnd b ≡ false → readAttribute s ≡ bad m i → attributesStepL attributesC k (suc j) s ≡ lbad m i
+    go : (s : Bytes) (b : ℕ) (v : Bytes) → s ≡ b ∷ v → tagEnd b ≡ false → readAttribute s ≡ bad m i → attributesStepL attributesC k (suc j) s
+        ≡ lbad m i
     go [] b v q t e = absurd (nil≢cons q)
     go (c ∷ s) b v q t e =
         let t₂ : tagEnd c ≡ false = ap tagEnd (head-eq-of-cons-eq q) ∙ t in
@@ -525,7 +570,8 @@ pub at-or-before : (a b n m : ℕ) → n ≤ m → (a < a + b) ⊎ ((a ≡ a + b
 at-or-before a zero n m h = inr (omega arith, h)
 at-or-before a (suc b) n m h = inl (omega arith)
 
-pub no-value-sooner : (D K J : ℕ) (w n b c : Bytes) (j₀ : ℕ) → TagReach J (answer D K J (w then n then b then `=` then c)) (n then b then `=` then c) w j₀
+pub no-value-sooner : (D K J : ℕ) (w n b c : Bytes) (j₀ : ℕ)
+    → TagReach J (answer D K J (w then n then b then `=` then c)) (n then b then `=` then c) w j₀
     → NameOrNone n b c → Blanks b → Blanks c → Sooner D K J (w then n then b then `=` then c) 9 (length (w then n then b))
 no-value-sooner D K J w n b c j₀ (early m i e g q) h bb bc =
     let x : Bytes = w then n then b then `=` then c in
@@ -544,7 +590,8 @@ no-value-sooner D K J w n b c j₀ (here rec name l₀ k (suc j) cj f) h bb bc =
     let x : Bytes = w then s in
     let equal : length x - suc (length c) ≡ length (w then n then b) = simp length-append (omega arith) in
     by-answer D K J x 9 (length (w then n then b)) 9 (suc (length c))
-    (f 9 (suc (length c)) (tag-bad rec name l₀ k (suc j) s 9 (suc (length c)) (attribute-bad k j s 9 (suc (length c)) (equals-front n b c h) (no-value-here n b c h bb bc))))
+    (f 9 (suc (length c)) (tag-bad rec name l₀ k (suc j) s 9 (suc (length c))
+        (attribute-bad k j s 9 (suc (length c)) (equals-front n b c h) (no-value-here n b c h bb bc))))
     (inr (equal, omega arith))
 
 -- 10
@@ -558,12 +605,14 @@ pub ten-map : (a : Attr) (v : LRes (List Attr)) → Ten v → Ten (lmap (a ∷_)
 ten-map a (lok l k j r) h = tt
 ten-map a (lbad m i) h = h
 
-pub ten-then : (rec : Counted (List Attr)) → ((k j : ℕ) (r : Bytes) → Stops blank r → Ten (rec k j r)) → (k j : ℕ) (s : Bytes) (x : Res Attr) → AttributeF s x
+pub ten-then : (rec : Counted (List Attr)) → ((k j : ℕ) (r : Bytes) → Stops blank r → Ten (rec k j r)) → (k j : ℕ) (s : Bytes) (x : Res Attr)
+    → AttributeF s x
     → Ten (lift x (λ a r. lmap (a ∷_) (rec k j (past blank r))))
 ten-then rec ih k j s (ok a r) h = ten-map a (rec k j (past blank r)) (ih k j (past blank r) (past-stops blank r))
 ten-then rec ih k j s (bad m i) h = omega (arith, h .number)
 
-pub ten-as : (rec : Counted (List Attr)) → ((k j : ℕ) (r : Bytes) → Stops blank r → Ten (rec k j r)) → (k j a : ℕ) (s : Bytes) → blank a ≡ false → tagEnd a ≡ false
+pub ten-as : (rec : Counted (List Attr)) → ((k j : ℕ) (r : Bytes) → Stops blank r → Ten (rec k j r)) → (k j a : ℕ) (s : Bytes) → blank a ≡ false
+    → tagEnd a ≡ false
     → Ten (attributesAsL rec false k j (a ∷ s))
 unfolding attributesAsL
 ten-as rec ih k zero a s u i = omega arith
@@ -605,14 +654,16 @@ pub attributes-unread : (n after : Bytes) (k j : ℕ) → Name nameByte after n 
 unfolding attributesC
 attributes-unread n after k j nm no-open =
     let r : Bytes = past blank after in
-    unread-fails n after k j (readAttributes (suc (length r)) r) (attributesL (suc (length r)) k j r) nm no-open (attributes-sim (suc (length r)) k j r)
+    unread-fails n after k j (readAttributes (suc (length r)) r) (attributesL (suc (length r)) k j r) nm no-open
+        (attributes-sim (suc (length r)) k j r)
     (attributes-sound (suc (length r)) r (past-stops blank after)) (attributes-ten (suc (length r)) k j r (past-stops blank after))
 
 pub end-of-text : (x i m : ℕ) → 0 < x → m ≤ 10 → (x - i < x) ⊎ ((x - i ≡ x) × (m ≤ 10))
 end-of-text x zero m g h = inr (omega arith, h)
 end-of-text x (suc i) m g h = inl (omega arith)
 
-pub end-in-tag-sooner : (D K J : ℕ) (w n after : Bytes) (d₀ k₀ j₀ : ℕ) → ElementReach D K J (answer D K J (w ++ (60 ∷ (n ++ after)))) (60 ∷ (n ++ after)) w d₀ k₀ j₀
+pub end-in-tag-sooner : (D K J : ℕ) (w n after : Bytes) (d₀ k₀ j₀ : ℕ)
+    → ElementReach D K J (answer D K J (w ++ (60 ∷ (n ++ after)))) (60 ∷ (n ++ after)) w d₀ k₀ j₀
     → Name nameByte after n → NoOpening n after → Sooner D K J (w ++ (60 ∷ (n ++ after))) 10 (length (w ++ (60 ∷ (n ++ after))))
 end-in-tag-sooner D K J w n after d₀ k₀ j₀ (early m i e g q) nm no-open =
     let x : Bytes = w ++ (60 ∷ (n ++ after)) in
@@ -672,6 +723,7 @@ exactly D K J s n p = (
   (λ e. record { met = refused-meets D K J s n p e; first = λ m q h. as-first D K J s n p m q e (meets-sooner D K J h) }),
   (λ h.
       let a = meets-sooner D K J (h .met) in
-      let b = no-other (a .number) (a .place) n p (a .no-later) (h .first (a .number) (a .place) (refused-meets D K J s (a .number) (a .place) (a .answered))) in
+      let b = no-other (a .number) (a .place) n p (a .no-later)
+          (h .first (a .number) (a .place) (refused-meets D K J s (a .number) (a .place) (a .answered))) in
       a .answered ∙ ap₂ refused (b .0) (b .1)),
 )

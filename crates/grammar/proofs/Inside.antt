@@ -13,13 +13,17 @@ use Rattle.grammar.specs.Tree.{Attr, Tree, element, Forest, none, more}
 use Rattle.grammar.specs.Tree.{`-->`}
 use Rattle.grammar.specs.Grammar.{Before, a-comment, no-comment}
 use Rattle.grammar.specs.Scan.{run, past, beyond}
-use Rattle.grammar.specs.Reader.{Res, next, mapRes, readAttribute, tagEnd, attributesAs, attributesStep, readAttributes, afterSlash, openedAs, afterOpening, afterTagName, readElement, NodeKind, Kind, kind, nodeAs, afterClose, contentAs, contentStep, readContent, ok, bad, as-text, as-section, as-element, as-close, as-comment, as-node}
-use Rattle.grammar.specs.Counted.{LRes, lnext, lmap, lift, Counted, attributesAsL, attributesStepL, attributesL, openedAsL, afterOpeningL, afterTagNameL, elementL, nodeL, contentAsL, contentStepL, contentL, lok, lbad}
+use Rattle.grammar.proofs.Reader.{Res, next, mapRes, readAttribute, tagEnd, attributesAs, attributesStep, readAttributes, afterSlash}
+use Rattle.grammar.proofs.Reader.{openedAs, afterOpening, afterTagName, readElement, NodeKind, Kind, kind, nodeAs, afterClose, contentAs}
+use Rattle.grammar.proofs.Reader.{contentStep, readContent, ok, bad, as-text, as-section, as-element, as-close, as-comment, as-node}
+use Rattle.grammar.proofs.Counted.{LRes, lnext, lmap, lift, Counted, attributesAsL, attributesStepL, attributesL, openedAsL, afterOpeningL}
+use Rattle.grammar.proofs.Counted.{afterTagNameL, elementL, nodeL, contentAsL, contentStepL, contentL, lok, lbad}
 use Rattle.grammar.proofs.Tests.{by-test}
 use Rattle.grammar.proofs.Scans.{past-stops}
 use Rattle.grammar.proofs.Sound.{View, view, comments}
 use Rattle.grammar.proofs.Simulation.{SimA, SimT, attributes-sim, InStep, node-sim, content-sim, same, over, fails}
-use Rattle.grammar.proofs.Ends.{Ends, weaken, ends-map, past-length, attribute-ends, attributes-ends, opened-ends, node-ends, comment-ends, content-ends}
+use Rattle.grammar.proofs.Ends.{Ends, weaken, ends-map, past-length, attribute-ends, attributes-ends, opened-ends, node-ends, comment-ends}
+use Rattle.grammar.proofs.Ends.{content-ends}
 
 -- the reader without limits gives u, the one with limits v: a refusal of what u reads has more bytes left than u leaves
 abbrev pub Inside : {A : Type 0} → Res A → LRes A → Type 0
@@ -79,7 +83,8 @@ attributes-inside (suc n) k j (a ∷ s) h g =
 module _ (N : ℕ) (rec : Bytes → Res Forest) (recL : Counted Forest) (ends : (s : Bytes) → length s < N → Ends (length s) (rec s))
     (ih : (k j : ℕ) (s : Bytes) → length s < N → Inside (rec s) (recL k j s))
   where
-    pub opened-inside : (n : Bytes) (l : List Attr) (k j : ℕ) (s : Bytes) → length s ≤ N → Inside (afterOpening rec n l s) (afterOpeningL recL n l k j s)
+    pub opened-inside : (n : Bytes) (l : List Attr) (k j : ℕ) (s : Bytes) → length s ≤ N
+        → Inside (afterOpening rec n l s) (afterOpeningL recL n l k j s)
     unfolding afterOpening openedAs afterOpeningL openedAsL
     opened-inside n l k j [] g = tt
     opened-inside n l k j (a ∷ s) g = by-test (eqb a 62)
@@ -93,11 +98,13 @@ module _ (N : ℕ) (rec : Bytes → Res Forest) (recL : Counted Forest) (ends : 
         inside-ends (length r) m i (afterOpening rec n l r) (opened-ends rec N ends n l r (omega arith)) h
     tag-then-inside n k j M u v fails h e g = tt
 
-    pub tag-inside : (i : ℕ) (n : Bytes) (k j : ℕ) (r : Bytes) → Stops blank r → length r ≤ N → Inside (afterTagName rec i n r) (afterTagNameL recL i n k j r)
+    pub tag-inside : (i : ℕ) (n : Bytes) (k j : ℕ) (r : Bytes) → Stops blank r → length r ≤ N
+        → Inside (afterTagName rec i n r) (afterTagNameL recL i n k j r)
     unfolding afterTagName afterTagNameL
     tag-inside i [] k j r h g = tt
     tag-inside i (a ∷ n) k j r h g =
-        tag-then-inside (a ∷ n) k j (length r) (readAttributes (suc (length r)) r) (attributesL (suc (length r)) k j r) (attributes-sim (suc (length r)) k j r)
+        tag-then-inside (a ∷ n) k j (length r) (readAttributes (suc (length r)) r) (attributesL (suc (length r)) k j r)
+            (attributes-sim (suc (length r)) k j r)
         (attributes-inside (suc (length r)) k j r h (omega arith)) (attributes-ends (suc (length r)) r h (omega arith)) g
 
     pub element-inside : (k j : ℕ) (s : Bytes) → length s ≤ N → Inside (readElement rec s) (elementL recL k j s)
@@ -109,7 +116,8 @@ module _ (N : ℕ) (rec : Bytes → Res Forest) (recL : Counted Forest) (ends : 
 -- ---- nodes
 
 pub node-inside : (N : ℕ) (rec : Bytes → Res Forest) (recL : ℕ → Counted Forest) → ((s : Bytes) → length s < N → Ends (length s) (rec s))
-    → ((d k j : ℕ) (s : Bytes) → length s < N → Inside (rec s) (recL d k j s)) → (a : ℕ) (s : Bytes) (i : NodeKind) → View (a ∷ s) (as-node i) → length s ≤ N
+    → ((d k j : ℕ) (s : Bytes) → length s < N → Inside (rec s) (recL d k j s)) → (a : ℕ) (s : Bytes) (i : NodeKind) → View (a ∷ s) (as-node i)
+        → length s ≤ N
     → (d k j : ℕ) → Inside (nodeAs rec i (a ∷ s)) (nodeL recL i d k j (a ∷ s))
 unfolding nodeAs nodeL
 node-inside N rec recL ends ih a s as-text v g d zero j =
@@ -127,22 +135,28 @@ node-inside N rec recL ends ih a s as-element v g (suc d) (suc k) j = element-in
 -- ---- content
 
 pub node-then-inside : (N : ℕ) (rec : Bytes → Res Forest) (recL : ℕ → Counted Forest) → ((s : Bytes) → length s < N → Ends (length s) (rec s))
-    → ((d k j : ℕ) (s : Bytes) → length s < N → Inside (rec s) (recL d k j s)) → (M d k j : ℕ) (u : Res Tree) (v : LRes Tree) → SimT d k j u v → Inside u v → Ends M u → M < N
+    → ((d k j : ℕ) (s : Bytes) → length s < N → Inside (rec s) (recL d k j s)) → (M d k j : ℕ) (u : Res Tree) (v : LRes Tree) → SimT d k j u v
+        → Inside u v → Ends M u → M < N
     → Inside (next u (λ t r. mapRes (more t) (rec r))) (lnext v (λ t k j r. lmap (more t) (recL d k j r)))
-node-then-inside N rec recL ends ih M d k j u v (same t k₂ j₂ {r} x y z) h e g = inside-map (more t) (rec r) (recL d k₂ j₂ r) (ih d k₂ j₂ r (omega arith))
+node-then-inside N rec recL ends ih M d k j u v (same t k₂ j₂ {r} x y z) h e g =
+    inside-map (more t) (rec r) (recL d k₂ j₂ r) (ih d k₂ j₂ r (omega arith))
 node-then-inside N rec recL ends ih M d k j u v (over t {r} {n = m} {l = i} q) h e g =
     inside-ends (length r) m i (mapRes (more t) (rec r)) (ends-map (more t) (length r) (rec r) (ends r (omega arith))) h
 node-then-inside N rec recL ends ih M d k j u v fails h e g = tt
 
-pub content-as-inside : (N : ℕ) (rec : Before → Bytes → Res Forest) (recL : ℕ → Before → Counted Forest) → ((p : Before) (s : Bytes) → length s < N → Ends (length s) (rec p s))
+pub content-as-inside : (N : ℕ) (rec : Before → Bytes → Res Forest) (recL : ℕ → Before → Counted Forest)
+    → ((p : Before) (s : Bytes) → length s < N → Ends (length s) (rec p s))
     → ((p : Before) (d k j : ℕ) (s : Bytes) → length s < N → Inside (rec p s) (recL d p k j s)) → ((p : Before) → InStep (rec p) (λ d. recL d p))
-    → (d : ℕ) (p : Before) (k j a : ℕ) (s : Bytes) (i : Kind) → View (a ∷ s) i → length s < N → Inside (contentAs rec p i (a ∷ s)) (contentAsL recL d p i k j (a ∷ s))
+    → (d : ℕ) (p : Before) (k j a : ℕ) (s : Bytes) (i : Kind) → View (a ∷ s) i → length s < N
+        → Inside (contentAs rec p i (a ∷ s)) (contentAsL recL d p i k j (a ∷ s))
 unfolding contentAs contentAsL
 content-as-inside N rec recL ends ih sim d no-comment k j a s as-close v g = inside-lift k j (afterClose (suc (length s)) (past (other 62) (a ∷ s)))
 content-as-inside N rec recL ends ih sim d a-comment k j a s as-close v g = tt
-content-as-inside N rec recL ends ih sim d p k j a s as-comment (comments b) g = ih a-comment d k j (beyond `-->` (a ∷ s)) (omega (arith, comment-ends a s b))
+content-as-inside N rec recL ends ih sim d p k j a s as-comment (comments b) g =
+    ih a-comment d k j (beyond `-->` (a ∷ s)) (omega (arith, comment-ends a s b))
 content-as-inside N rec recL ends ih sim d p k j a s (as-node i) v g =
-    node-then-inside N (rec no-comment) (λ d. recL d no-comment) (ends no-comment) (ih no-comment) (length s) d k j (nodeAs (rec no-comment) i (a ∷ s))
+    node-then-inside N (rec no-comment) (λ d. recL d no-comment) (ends no-comment) (ih no-comment) (length s) d k j
+        (nodeAs (rec no-comment) i (a ∷ s))
     (nodeL (λ d. recL d no-comment) i d k j (a ∷ s)) (node-sim (rec no-comment) (λ d. recL d no-comment) (sim no-comment) i d k j (a ∷ s))
     (node-inside N (rec no-comment) (λ d. recL d no-comment) (ends no-comment) (ih no-comment) a s i v (omega arith) d k j)
     (node-ends (rec no-comment) N (ends no-comment) a s i v (omega arith)) g
@@ -152,5 +166,6 @@ unfolding readContent contentStep contentL contentStepL
 content-inside zero p d k j s g = tt
 content-inside (suc n) p d k j [] g = tt
 content-inside (suc n) p d k j (a ∷ s) g =
-    content-as-inside n (λ q r. readContent n q r) (λ d p k j r. contentL n d p k j r) (λ q r h. content-ends n q r h) (λ q d k j r h. content-inside n q d k j r h)
+    content-as-inside n (λ q r. readContent n q r) (λ d p k j r. contentL n d p k j r) (λ q r h. content-ends n q r h)
+        (λ q d k j r h. content-inside n q d k j r h)
     (λ q d k j r. content-sim n q d k j r) d p k j a s (kind (a ∷ s)) (view (a ∷ s)) (omega arith)

@@ -1,4 +1,6 @@
--- What the crates above cite: Theorem. The others are its proof, and the worked cases.
+-- What the crates above cite: Theorem. The others are its proof (by a reader on lists: Reader, Counted), and the worked cases.
+pub mod Reader
+pub mod Counted
 pub mod Tests
 pub mod Scans
 pub mod Complete

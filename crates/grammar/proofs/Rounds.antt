@@ -15,7 +15,9 @@ use Rattle.grammar.specs.Tree.{Attr, Tree, element, Forest, more}
 use Rattle.grammar.specs.Tree.{`-->`}
 use Rattle.grammar.specs.Grammar.{Before, a-comment, no-comment}
 use Rattle.grammar.specs.Scan.{run, past, beyond}
-use Rattle.grammar.specs.Reader.{Res, next, mapRes, readAttributes, openedAs, afterOpening, afterTagName, readElement, NodeKind, Kind, kind, nodeAs, contentAs, contentStep, readContent, ok, bad, as-text, as-section, as-element, as-close, as-comment, as-node}
+use Rattle.grammar.proofs.Reader.{Res, next, mapRes, readAttributes, openedAs, afterOpening, afterTagName, readElement, NodeKind, Kind}
+use Rattle.grammar.proofs.Reader.{kind, nodeAs, contentAs, contentStep, readContent, ok, bad, as-text, as-section, as-element, as-close}
+use Rattle.grammar.proofs.Reader.{as-comment, as-node}
 use Rattle.grammar.proofs.Scans.{past-stops}
 use Rattle.grammar.proofs.Sound.{View, view, comments}
 use Rattle.grammar.proofs.Ends.{Ends, past-length, attributes-ends, comment-ends, content-ends, node-ends}
@@ -41,7 +43,8 @@ module _ (N : ℕ) (f g : Bytes → Res Forest) (same : (r : Bytes) → length r
   tag-same k [] m h = refl
   tag-same k (a ∷ n) m h =
       let r : Bytes = past blank m in
-      next-same (a ∷ n) (length r) (readAttributes (suc (length r)) r) (attributes-ends (suc (length r)) r (past-stops blank m) (omega arith)) (omega (arith, past-length blank m))
+      next-same (a ∷ n) (length r) (readAttributes (suc (length r)) r) (attributes-ends (suc (length r)) r (past-stops blank m) (omega arith))
+          (omega (arith, past-length blank m))
 
   element-same : (s : Bytes) → length s ≤ N → readElement f s ≡ readElement g s
   unfolding readElement
@@ -63,14 +66,16 @@ Agree N f g = (p : Before) (r : Bytes) → length r < N → f p r ≡ g p r
 abbrev pub AllEnd : ℕ → (Before → Bytes → Res Forest) → Type 0
 AllEnd N f = (p : Before) (r : Bytes) → length r < N → Ends (length r) (f p r)
 
-content-as-same : (N : ℕ) (f g : Before → Bytes → Res Forest) → Agree N f g → AllEnd N f → (p : Before) (a : ℕ) (s : Bytes) (k : Kind) → View (a ∷ s) k
+content-as-same : (N : ℕ) (f g : Before → Bytes → Res Forest) → Agree N f g → AllEnd N f → (p : Before) (a : ℕ) (s : Bytes) (k : Kind)
+    → View (a ∷ s) k
     → length s < N → contentAs f p k (a ∷ s) ≡ contentAs g p k (a ∷ s)
 unfolding contentAs
 content-as-same N f g q e no-comment a s as-close v h = refl
 content-as-same N f g q e a-comment a s as-close v h = refl
 content-as-same N f g q e p a s as-comment (comments b) h = q a-comment (beyond `-->` (a ∷ s)) (omega (arith, comment-ends a s b))
 content-as-same N f g q e p a s (as-node i) v h =
-    more-same N (f no-comment) (g no-comment) (q no-comment) (length s) (nodeAs (f no-comment) i (a ∷ s)) (node-ends (f no-comment) N (e no-comment) a s i v (omega arith)) h
+    more-same N (f no-comment) (g no-comment) (q no-comment) (length s) (nodeAs (f no-comment) i (a ∷ s))
+        (node-ends (f no-comment) N (e no-comment) a s i v (omega arith)) h
     ∙ ap (λ x. next x (λ t r. mapRes (more t) (g no-comment r))) (node-same N (f no-comment) (g no-comment) (q no-comment) i a s (omega arith))
 
 content-step-same : (N : ℕ) (f g : Before → Bytes → Res Forest) → Agree N f g → AllEnd N f → (p : Before) (s : Bytes) → length s ≤ N

@@ -19,8 +19,13 @@ use Rattle.grammar.specs.Grammar.{Before, a-comment, no-comment, Documen
 use Rattle.grammar.specs.Limits.{treeNodes, nodes, treeAttrs, attrs, treeDepth, depth, Within}
 use Rattle.grammar.specs.Demand.{tree}
 use Rattle.grammar.specs.Scan.{run, past, before, beyond}
-use Rattle.grammar.specs.Reader.{Res, next, mapRes, readAttribute, tagEnd, attributesAs, attributesStep, readAttributes, slashAs, afterSlash, openedAs, afterOpening, afterTagName, readElement, NodeKind, Kind, kind, nodeAs, afterClose, contentAs, contentStep, readContent, nodesAs, nodesStep, readNodes, pastProlog, finish, readDocument, ok, bad, as-text, as-section, as-element, as-close, as-comment, as-node}
-use Rattle.grammar.specs.Counted.{LRes, lnext, lmap, lift, Counted, attributesAsL, attributesStepL, attributesL, openedAsL, afterOpeningL, afterTagNameL, elementL, nodeL, contentAsL, contentStepL, contentL, nodesAsL, nodesStepL, nodesL, finishL, readDocumentL, textAs, readText, lok, lbad}
+use Rattle.grammar.proofs.Reader.{Res, next, mapRes, readAttribute, tagEnd, attributesAs, attributesStep, readAttributes, slashAs}
+use Rattle.grammar.proofs.Reader.{afterSlash, openedAs, afterOpening, afterTagName, readElement, NodeKind, Kind, kind, nodeAs, afterClose}
+use Rattle.grammar.proofs.Reader.{contentAs, contentStep, readContent, nodesAs, nodesStep, readNodes, pastProlog, finish, readDocument, ok}
+use Rattle.grammar.proofs.Reader.{bad, as-text, as-section, as-element, as-close, as-comment, as-node}
+use Rattle.grammar.proofs.Counted.{LRes, lnext, lmap, lift, Counted, attributesAsL, attributesStepL, attributesL, openedAsL, afterOpeningL}
+use Rattle.grammar.proofs.Counted.{afterTagNameL, elementL, nodeL, contentAsL, contentStepL, contentL, nodesAsL, nodesStepL, nodesL}
+use Rattle.grammar.proofs.Counted.{finishL, readDocumentL, textAs, readText, lok, lbad}
 use Rattle.grammar.proofs.Tests.{by-test, T→is, is→T, both}
 use Rattle.grammar.proofs.Complete.{complete}
 use Rattle.grammar.proofs.Sound.{sound}
@@ -53,7 +58,8 @@ attr-none k l a (ok x r) = over (a ∷ x) (λ q. omega (arith, q .2))
 attr-none k l a (bad x y) = fails
 
 pub attr-next : (rec : Bytes → Res (List Attr)) (recL : Counted (List Attr)) → ((k j : ℕ) (r : Bytes) → SimA k j (rec r) (recL k j r))
-    → (k j l : ℕ) (s : Bytes) (x : Res Attr) → SimA k (suc j) (next x (λ a r. mapRes (a ∷_) (rec (past blank r)))) (lift x (λ a r. lmap (a ∷_) (recL k j (past blank r))))
+    → (k j l : ℕ) (s : Bytes) (x : Res Attr) → SimA k (suc j) (next x (λ a r. mapRes (a ∷_) (rec (past blank r))))
+        (lift x (λ a r. lmap (a ∷_) (recL k j (past blank r))))
 attr-next rec recL ih k j l s (ok a r) = attr-more k j a (rec (past blank r)) (recL k j (past blank r)) (ih k j (past blank r))
 attr-next rec recL ih k j l s (bad x y) = fails
 
@@ -72,22 +78,27 @@ pub attributes-sim : (n k j : ℕ) (s : Bytes) → SimA k j (readAttributes n s)
 unfolding readAttributes attributesStep attributesL attributesStepL
 attributes-sim zero k j s = fails
 attributes-sim (suc n) k j [] = fails
-attributes-sim (suc n) k j (a ∷ s) = attr-as (λ r. readAttributes n r) (λ k j r. attributesL n k j r) (λ k j r. attributes-sim n k j r) (tagEnd a) k j (a ∷ s)
+attributes-sim (suc n) k j (a ∷ s) =
+    attr-as (λ r. readAttributes n r) (λ k j r. attributesL n k j r) (λ k j r. attributes-sim n k j r) (tagEnd a) k j (a ∷ s)
 
 -- ---- elements: the node itself and its depth are counted by `node-sim`
 
 -- an element whose attributes are read, with what is left for them
 pub data SimE (l : List Attr) (d k j : ℕ) : Res Tree → LRes Tree → Type 0 where
-  same : (n : Bytes) (f : Forest) (k′ j′ : ℕ) {r : Bytes} → depth f ≤ d → k ≡ nodes f + k′ → j ≡ attrs f + j′ → SimE l d k j (ok (element n l f) r) (lok (element n l f) k′ j′ r)
-  over : (n : Bytes) (f : Forest) {r : Bytes} {x y : ℕ} → ¬ ((depth f ≤ d) × (nodes f ≤ k) × (attrs f ≤ j)) → SimE l d k j (ok (element n l f) r) (lbad x y)
+  same : (n : Bytes) (f : Forest) (k′ j′ : ℕ) {r : Bytes} → depth f ≤ d → k ≡ nodes f + k′ → j ≡ attrs f + j′
+      → SimE l d k j (ok (element n l f) r) (lok (element n l f) k′ j′ r)
+  over : (n : Bytes) (f : Forest) {r : Bytes} {x y : ℕ} → ¬ ((depth f ≤ d) × (nodes f ≤ k) × (attrs f ≤ j))
+      → SimE l d k j (ok (element n l f) r) (lbad x y)
   fails : {x y x′ y′ : ℕ} → SimE l d k j (bad x y) (lbad x′ y′)
 
-pub element-map : (n : Bytes) (l : List Attr) (d k j : ℕ) (u : Res Forest) (v : LRes Forest) → SimF d k j u v → SimE l d k j (mapRes (element n l) u) (lmap (element n l) v)
+pub element-map : (n : Bytes) (l : List Attr) (d k j : ℕ) (u : Res Forest) (v : LRes Forest) → SimF d k j u v
+    → SimE l d k j (mapRes (element n l) u) (lmap (element n l) v)
 element-map n l d k j u v (same f k′ j′ x y z) = same n f k′ j′ x y z
 element-map n l d k j u v (over f h) = over n f h
 element-map n l d k j u v fails = fails
 
-pub slash-sim : (n : Bytes) (l : List Attr) (d k j i : ℕ) (s : Bytes) → SimE l d k j (afterSlash i (element n l none) s) (lift (afterSlash i (element n l none) s) (λ t r. lok t k j r))
+pub slash-sim : (n : Bytes) (l : List Attr) (d k j i : ℕ) (s : Bytes)
+    → SimE l d k j (afterSlash i (element n l none) s) (lift (afterSlash i (element n l none) s) (λ t r. lok t k j r))
 unfolding afterSlash slashAs depth nodes attrs
 slash-sim n l d k j i [] = fails
 slash-sim n l d k j i (a ∷ s) = by-test (eqb a 62) (λ e. rw e (same n none k j (omega arith) (omega arith) (omega arith))) (λ e. rw e fails)
@@ -97,7 +108,8 @@ pub opened-sim : (d : ℕ) (rec : Bytes → Res Forest) (recL : Counted Forest) 
 unfolding afterOpening openedAs afterOpeningL openedAsL
 opened-sim d rec recL ih n l k j [] = fails
 opened-sim d rec recL ih n l k j (a ∷ s) =
-    by-test (eqb a 62) (λ e. rw e (element-map n l d k j (rec s) (recL k j s) (ih k j s))) (λ e. rw e (slash-sim n l d k j (suc (length s)) (past blank s)))
+    by-test (eqb a 62) (λ e. rw e (element-map n l d k j (rec s) (recL k j s) (ih k j s)))
+        (λ e. rw e (slash-sim n l d k j (suc (length s)) (past blank s)))
 
 -- an element, with what is left for its attributes and its content
 pub data SimX (d k j : ℕ) : Res Tree → LRes Tree → Type 0 where
@@ -107,12 +119,14 @@ pub data SimX (d k j : ℕ) : Res Tree → LRes Tree → Type 0 where
       → SimX d k j (ok (element n l f) r) (lbad x y)
   fails : {x y x′ y′ : ℕ} → SimX d k j (bad x y) (lbad x′ y′)
 
-pub element-paid : (l : List Attr) (d k j k′ j′ : ℕ) (u : Res Tree) (v : LRes Tree) → SimE l d k′ j′ u v → k ≡ 0 + k′ → j ≡ length l + j′ → SimX d k j u v
+pub element-paid : (l : List Attr) (d k j k′ j′ : ℕ) (u : Res Tree) (v : LRes Tree) → SimE l d k′ j′ u v → k ≡ 0 + k′ → j ≡ length l + j′
+    → SimX d k j u v
 element-paid l d k j k₀ j₀ u v (same n f k′ j′ x y z) p q = same n l f k′ j′ x (omega arith) (omega arith)
 element-paid l d k j k₀ j₀ u v (over n f h) p q = over n l f (λ w. h (w .0, omega (arith, w .1), omega (arith, w .2)))
 element-paid l d k j k₀ j₀ u v fails p q = fails
 
-pub element-over : (l : List Attr) (d k j k′ j′ x y : ℕ) (u : Res Tree) (v : LRes Tree) → SimE l d k′ j′ u v → ¬ (length l ≤ j) → SimX d k j u (lbad x y)
+pub element-over : (l : List Attr) (d k j k′ j′ x y : ℕ) (u : Res Tree) (v : LRes Tree) → SimE l d k′ j′ u v → ¬ (length l ≤ j)
+    → SimX d k j u (lbad x y)
 element-over l d k j k₀ j₀ x y u v (same n f k′ j′ a b c) h = over n l f (λ w. h (omega (arith, w .2)))
 element-over l d k j k₀ j₀ x y u v (over n f g) h = over n l f (λ w. h (omega (arith, w .2)))
 element-over l d k j k₀ j₀ x y u v fails h = fails
@@ -123,13 +137,15 @@ module _ (d : ℕ) (rec : Bytes → Res Forest) (recL : Counted Forest) (ih : (k
   tag-next n k j u v (same l k′ j′ {r} x y z) =
       element-paid l d k j k′ j′ (afterOpening rec n l r) (afterOpeningL recL n l k′ j′ r) (opened-sim d rec recL ih n l k′ j′ r) y z
   tag-next n k j u v (over l {r} h) =
-      element-over l d k j 0 0 _ _ (afterOpening rec n l r) (afterOpeningL recL n l 0 0 r) (opened-sim d rec recL ih n l 0 0 r) (λ q. h (omega arith, omega arith, q))
+      element-over l d k j 0 0 _ _ (afterOpening rec n l r) (afterOpeningL recL n l 0 0 r) (opened-sim d rec recL ih n l 0 0 r)
+          (λ q. h (omega arith, omega arith, q))
   tag-next n k j u v fails = fails
 
   pub tag-sim : (i : ℕ) (n : Bytes) (k j : ℕ) (r : Bytes) → SimX d k j (afterTagName rec i n r) (afterTagNameL recL i n k j r)
   unfolding afterTagName afterTagNameL
   tag-sim i [] k j r = fails
-  tag-sim i (a ∷ n) k j r = tag-next (a ∷ n) k j (readAttributes (suc (length r)) r) (attributesL (suc (length r)) k j r) (attributes-sim (suc (length r)) k j r)
+  tag-sim i (a ∷ n) k j r =
+      tag-next (a ∷ n) k j (readAttributes (suc (length r)) r) (attributesL (suc (length r)) k j r) (attributes-sim (suc (length r)) k j r)
 
   pub element-sim : (k j : ℕ) (s : Bytes) → SimX d k j (readElement rec s) (elementL recL k j s)
   unfolding readElement elementL
@@ -168,18 +184,24 @@ node-sim rec recL ih as-text d zero j s = over (text (run textByte s)) (λ w. om
 node-sim rec recL ih as-text d (suc k) j s = same (text (run textByte s)) k j (omega arith) (omega arith) (omega arith)
 node-sim rec recL ih as-section d zero j s = over (section (before `]]>` (drop 9 s))) (λ w. omega (arith, w .1))
 node-sim rec recL ih as-section d (suc k) j s = same (section (before `]]>` (drop 9 s))) k j (omega arith) (omega arith) (omega arith)
-node-sim rec recL ih as-element zero k j s = no-element 0 0 k j _ _ (readElement rec (drop 1 s)) (elementL (recL 0) 0 j (drop 1 s)) (element-sim 0 rec (recL 0) (ih 0) 0 j (drop 1 s))
-node-sim rec recL ih as-element (suc d) zero j s = no-node (suc d) 0 j _ _ (readElement rec (drop 1 s)) (elementL (recL (suc d)) 0 j (drop 1 s)) (element-sim (suc d) rec (recL (suc d)) (ih (suc d)) 0 j (drop 1 s))
-node-sim rec recL ih as-element (suc d) (suc k) j s = one-element d k j (readElement rec (drop 1 s)) (elementL (recL d) k j (drop 1 s)) (element-sim d rec (recL d) (ih d) k j (drop 1 s))
+node-sim rec recL ih as-element zero k j s =
+    no-element 0 0 k j _ _ (readElement rec (drop 1 s)) (elementL (recL 0) 0 j (drop 1 s)) (element-sim 0 rec (recL 0) (ih 0) 0 j (drop 1 s))
+node-sim rec recL ih as-element (suc d) zero j s =
+    no-node (suc d) 0 j _ _ (readElement rec (drop 1 s)) (elementL (recL (suc d)) 0 j (drop 1 s))
+    (element-sim (suc d) rec (recL (suc d)) (ih (suc d)) 0 j (drop 1 s))
+node-sim rec recL ih as-element (suc d) (suc k) j s =
+    one-element d k j (readElement rec (drop 1 s)) (elementL (recL d) k j (drop 1 s)) (element-sim d rec (recL d) (ih d) k j (drop 1 s))
 
 -- ---- content
 
-pub more-over : (d k j : ℕ) (t : Tree) (x y : ℕ) (u : Res Forest) → ¬ ((treeDepth t ≤ d) × (treeNodes t ≤ k) × (treeAttrs t ≤ j)) → SimF d k j (mapRes (more t) u) (lbad x y)
+pub more-over : (d k j : ℕ) (t : Tree) (x y : ℕ) (u : Res Forest) → ¬ ((treeDepth t ≤ d) × (treeNodes t ≤ k) × (treeAttrs t ≤ j))
+    → SimF d k j (mapRes (more t) u) (lbad x y)
 unfolding nodes attrs depth
 more-over d k j t x y (ok f r) h = over (more t f) (λ w. h (omega (arith, w .0), omega (arith, w .1), omega (arith, w .2)))
 more-over d k j t x y (bad n l) h = fails
 
-pub more-same : (d k j k₀ j₀ : ℕ) (t : Tree) (u : Res Forest) (v : LRes Forest) → treeDepth t ≤ d → k ≡ treeNodes t + k₀ → j ≡ treeAttrs t + j₀ → SimF d k₀ j₀ u v
+pub more-same : (d k j k₀ j₀ : ℕ) (t : Tree) (u : Res Forest) (v : LRes Forest) → treeDepth t ≤ d → k ≡ treeNodes t + k₀ → j ≡ treeAttrs t + j₀
+    → SimF d k₀ j₀ u v
     → SimF d k j (mapRes (more t) u) (lmap (more t) v)
 unfolding nodes attrs depth
 more-same d k j k₀ j₀ t u v p q r (same f k′ j′ x y z) = same (more t f) k′ j′ (omega arith) (omega arith) (omega arith)
@@ -217,14 +239,16 @@ unfolding readContent contentStep contentL contentStepL
 content-sim zero p d k j s = fails
 content-sim (suc n) p d k j [] = none-sim d k j []
 content-sim (suc n) p d k j (a ∷ s) =
-    content-as-sim (λ q r. readContent n q r) (λ d p k j r. contentL n d p k j r) (λ q d k j r. content-sim n q d k j r) d p (kind (a ∷ s)) k j (a ∷ s)
+    content-as-sim (λ q r. readContent n q r) (λ d p k j r. contentL n d p k j r) (λ q d k j r. content-sim n q d k j r) d p (kind (a ∷ s)) k j (a
+        ∷ s)
 
 pub nodes-as-sim : (content rec : Bytes → Res Forest) (contentC recL : ℕ → Counted Forest) → InStep content contentC → InStep rec recL
     → (d : ℕ) (i : Kind) (k j : ℕ) (s : Bytes) → SimF d k j (nodesAs content rec i s) (nodesAsL contentC recL d i k j s)
 unfolding nodesAs nodesAsL
 nodes-as-sim content rec cL recL hc ih d as-close k j s = none-sim d k j s
 nodes-as-sim content rec cL recL hc ih d as-comment k j s = ih d k j (beyond `-->` s)
-nodes-as-sim content rec cL recL hc ih d (as-node i) k j s = more-next rec recL ih d k j (nodeAs content i s) (nodeL cL i d k j s) (node-sim content cL hc i d k j s)
+nodes-as-sim content rec cL recL hc ih d (as-node i) k j s =
+    more-next rec recL ih d k j (nodeAs content i s) (nodeL cL i d k j s) (node-sim content cL hc i d k j s)
 
 pub nodes-sim : (n : ℕ) → InStep (readNodes n) (nodesL n)
 unfolding readNodes nodesStep nodesL nodesStepL
@@ -236,14 +260,16 @@ nodes-sim (suc n) d k j (a ∷ s) =
 
 -- ---- the limits
 
-pub finish-taken : (size d k j : ℕ) (f : Forest) (u : Res Forest) (v : LRes Forest) → SimF d k j u v → finishL size v ≡ tree f → (finish size u ≡ tree f) × Within d k j f
+pub finish-taken : (size d k j : ℕ) (f : Forest) (u : Res Forest) (v : LRes Forest) → SimF d k j u v → finishL size v ≡ tree f
+    → (finish size u ≡ tree f) × Within d k j f
 finish-taken size d k j f u v (same g k′ j′ x y z) e =
     let q : g ≡ f = cc in
     (e, subst (λ h. Within d k j h) q (record { deep = x; many = omega arith; named = omega arith }))
 finish-taken size d k j f u v (over g h) e = let z : _≡_ {A = ℕ} 0 1 = cc in absurd (omega arith)
 finish-taken size d k j f u v fails e = let z : _≡_ {A = ℕ} 0 1 = cc in absurd (omega arith)
 
-pub finish-within : (size d k j : ℕ) (f : Forest) (u : Res Forest) (v : LRes Forest) → SimF d k j u v → finish size u ≡ tree f → Within d k j f → finishL size v ≡ tree f
+pub finish-within : (size d k j : ℕ) (f : Forest) (u : Res Forest) (v : LRes Forest) → SimF d k j u v → finish size u ≡ tree f → Within d k j f
+    → finishL size v ≡ tree f
 finish-within size d k j f u v (same g k′ j′ x y z) e w = e
 finish-within size d k j f u v (over g h) e w =
     let q : f ≡ g = cc in

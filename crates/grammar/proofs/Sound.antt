@@ -14,13 +14,22 @@ use Rattle.scan.specs.Bytes.{blank, textByte, nameByte, attrNameByte, other}
 use Rattle.grammar.specs.Words.{Bytes, _then_, Only, Stops, Run, Begins}
 use Rattle.grammar.specs.Tree.{Attr, attr, Tree, section, element, Forest, none, more, quote}
 use Rattle.grammar.specs.Tree.{`<`, `>`, `/`, `=`, `</`, `<?`, `<!`, `<!--`, `-->`, `<![CDATA[`, `]]>`}
-use Rattle.grammar.specs.Grammar.{Blanks, Piece, one-blank, instruction, declaration, Prolog, no-piece, piece, NoPiece, Name, Value, quoted, unquoted, Attribute, alone, named, nameless, Attributes, no-attribute, attribute, Opening, opening, Comment, Before, a-comment, no-comment, Node, a-text, a-section, last-section, an-element, Element, without-content, with-content, Content, Nodes, Document, document}
+use Rattle.grammar.specs.Grammar.{Blanks, Piece, one-blank, instruction, declaration, Prolog, no-piece, piece, NoPiece, Name, Value, quoted}
+use Rattle.grammar.specs.Grammar.{unquoted, Attribute, alone, named, nameless, Attributes, no-attribute, attribute, Opening, opening}
+use Rattle.grammar.specs.Grammar.{Comment, Before, a-comment, no-comment, Node, a-text, a-section, last-section, an-element, Element}
+use Rattle.grammar.specs.Grammar.{without-content, with-content, Content, Nodes, Document, document}
 use Rattle.grammar.specs.Demand.{tree}
 use Rattle.grammar.specs.Scan.{run, past, prefix, from, before, beyond}
-use Rattle.grammar.specs.Reader.{Res, next, mapRes, valueAs, readValue, afterNameAs, afterName, readAttribute, tagEnd, attributesAs, attributesStep, readAttributes, slashAs, afterSlash, openedAs, afterOpening, afterTagName, readElement, NodeKind, Kind, kind, nodeAs, afterClose, contentAs, contentStep, readContent, nodesAs, nodesStep, readNodes, PieceKind, pieceKind, prologAs, pastProlog, finish, readDocument, ok, bad, as-text, as-section, as-element, as-close, as-comment, as-node, blank-byte, to-mark, no-more}
+use Rattle.grammar.proofs.Reader.{Res, next, mapRes, valueAs, readValue, afterNameAs, afterName, readAttribute, tagEnd, attributesAs}
+use Rattle.grammar.proofs.Reader.{attributesStep, readAttributes, slashAs, afterSlash, openedAs, afterOpening, afterTagName, readElement}
+use Rattle.grammar.proofs.Reader.{NodeKind, Kind, kind, nodeAs, afterClose, contentAs, contentStep, readContent, nodesAs, nodesStep}
+use Rattle.grammar.proofs.Reader.{readNodes, PieceKind, pieceKind, prologAs, pastProlog, finish, readDocument, ok, bad, as-text}
+use Rattle.grammar.proofs.Reader.{as-section, as-element, as-close, as-comment, as-node, blank-byte, to-mark, no-more}
 use Rattle.grammar.proofs.Tests.{by-test, both, eqb-eq, not-false, or-true3, equals-byte}
-use Rattle.grammar.proofs.Scans.{run-past, run-only, past-stops, past-is, prefix-begins, prefix-not, before-from, Found, found, before-lacks, up-to, nowhere, at-first}
-use Rattle.grammar.proofs.Complete.{past-none, blank-equals, AtTagEnd, begins-more, begins-piece, open-comment, open-instruction, open-declaration, piece-length, kind-instruction, kind-comment-piece, kind-declaration, complete}
+use Rattle.grammar.proofs.Scans.{run-past, run-only, past-stops, past-is, prefix-begins, prefix-not, before-from, Found, found}
+use Rattle.grammar.proofs.Scans.{before-lacks, up-to, nowhere, at-first}
+use Rattle.grammar.proofs.Complete.{past-none, blank-equals, AtTagEnd, begins-more, begins-piece, open-comment, open-instruction}
+use Rattle.grammar.proofs.Complete.{open-declaration, piece-length, kind-instruction, kind-comment-piece, kind-declaration, complete}
 
 -- ---- values
 
@@ -70,7 +79,8 @@ value-sound k (q ∷ s) h = by-test (quote q) (λ e. rw e (quoted-sound q s e)) 
 
 -- an attribute and the blanks after it, where the text goes on
 abbrev pub AttributeS : Bytes → Res Attr → Type 0
-AttributeS s (ok a r) = ¬ (past blank r ≡ []) → (u : Bytes) × (b : Bytes) × (s ≡ u ++ (b ++ past blank r)) × Attribute (b ++ past blank r) u a × Blanks b
+AttributeS s (ok a r) =
+    ¬ (past blank r ≡ []) → (u : Bytes) × (b : Bytes) × (s ≡ u ++ (b ++ past blank r)) × Attribute (b ++ past blank r) u a × Blanks b
 AttributeS s (bad n l) = Unit {0}
 
 abbrev pub AttributesS : Bytes → Res (List Attr) → Type 0
@@ -103,10 +113,12 @@ pub nameless-sound : (s : Bytes) → AttributeS (61 ∷ s) (readAttribute (61 �
 unfolding readAttribute afterName afterNameAs run past attrNameByte blank
 nameless-sound s =
     subst (λ z. AttributeS (61 ∷ z) (readAttribute (61 ∷ s))) (sym (run-past blank s))
-    (value-attribute [] (past blank s) (61 ∷ run blank s) (readValue (suc (length s)) (past blank s)) (value-sound (suc (length s)) (past blank s) (past-stops blank s))
+    (value-attribute [] (past blank s) (61 ∷ run blank s) (readValue (suc (length s)) (past blank s))
+        (value-sound (suc (length s)) (past blank s) (past-stops blank s))
     (λ r w v val e. nameless (all-blanks s) val))
 
-pub not-equals : (b t : Bytes) (c : ℕ) → Only blank b → blank c ≡ false → eqb c 61 ≡ false → (b′ r : Bytes) → Blanks b′ → ¬ (b ++ (c ∷ t) ≡ b′ then `=` then r)
+pub not-equals : (b t : Bytes) (c : ℕ) → Only blank b → blank c ≡ false → eqb c 61 ≡ false → (b′ r : Bytes) → Blanks b′
+    → ¬ (b ++ (c ∷ t) ≡ b′ then `=` then r)
 not-equals b t c o u n b′ r o′ e =
     let x : past blank (b ++ (c ∷ t)) ≡ c ∷ t = past-is blank b (c ∷ t) o u in
     let y : past blank (b′ ++ (61 ∷ r)) ≡ 61 ∷ r = past-is blank b′ (61 ∷ r) (o′ .all) blank-equals in
@@ -166,7 +178,8 @@ pub no-nil : (w s : Bytes) (a : ℕ) → ¬ (w ++ (a ∷ s) ≡ [])
 no-nil [] s a e = cons≢nil e
 no-nil (b ∷ w) s a e = cons≢nil e
 
-pub attributes-more : (s r : Bytes) (a : Attr) → AttributeS s (ok a r) → (y : Res (List Attr)) → AttributesS (past blank r) y → AttributesS s (mapRes (a ∷_) y)
+pub attributes-more : (s r : Bytes) (a : Attr) → AttributeS s (ok a r) → (y : Res (List Attr)) → AttributesS (past blank r) y
+    → AttributesS s (mapRes (a ∷_) y)
 attributes-more s r a h (bad n l) k = tt
 attributes-more s r a h (ok l r₂) k =
     let end : AtTagEnd r₂ = k .0 in
@@ -198,7 +211,8 @@ attributes-step rec ih [] h = tt
 attributes-step rec ih (a ∷ s) h =
     by-test (tagEnd a)
     (λ e. subst (λ z. AttributesS (a ∷ s) (attributesAs rec z (a ∷ s))) (sym e) ((a, s, refl, e), ([], refl, no-attribute)))
-    (λ e. subst (λ z. AttributesS (a ∷ s) (attributesAs rec z (a ∷ s))) (sym e) (attributes-next rec ih (a ∷ s) (readAttribute (a ∷ s)) (attribute-sound a s h e)))
+    (λ e. subst (λ z. AttributesS (a ∷ s) (attributesAs rec z (a ∷ s))) (sym e)
+        (attributes-next rec ih (a ∷ s) (readAttribute (a ∷ s)) (attribute-sound a s h e)))
 
 pub attributes-sound : (n : ℕ) (s : Bytes) → Stops blank s → AttributesS s (readAttributes n s)
 unfolding readAttributes
@@ -268,7 +282,9 @@ pub tag-sound : (rec : Bytes → Res Forest) → ((s : Bytes) → ContentS no-co
     → (k : ℕ) (s n m : Bytes) → s ≡ n ++ m → Run nameByte m n → ElementS (60 ∷ s) (afterTagName rec k n (past blank m))
 unfolding afterTagName
 tag-sound rec ih k s [] m e h = tt
-tag-sound rec ih k s (c ∷ n) m e h = go (readAttributes (suc (length (past blank m))) (past blank m)) (attributes-sound (suc (length (past blank m))) (past blank m) (past-stops blank m))
+tag-sound rec ih k s (c ∷ n) m e h =
+    go (readAttributes (suc (length (past blank m))) (past blank m))
+    (attributes-sound (suc (length (past blank m))) (past blank m) (past-stops blank m))
   where
     name : Bytes
     name = c ∷ n
@@ -289,7 +305,8 @@ tag-sound rec ih k s (c ∷ n) m e h = go (readAttributes (suc (length (past bla
 pub element-sound : (rec : Bytes → Res Forest) → ((s : Bytes) → ContentS no-comment s (rec s)) → (s : Bytes) → ElementS (60 ∷ s) (readElement rec s)
 unfolding readElement
 element-sound rec ih s =
-    tag-sound rec ih (suc (length s)) s (run nameByte s) (past nameByte s) (run-past nameByte s) (record { only = run-only nameByte s; longest = past-stops nameByte s })
+    tag-sound rec ih (suc (length s)) s (run nameByte s) (past nameByte s) (run-past nameByte s)
+        (record { only = run-only nameByte s; longest = past-stops nameByte s })
 
 -- ---- what begins here
 
@@ -339,7 +356,8 @@ section-sound rec x = go (found 93 (93 ∷ 62 ∷ []) x)
     go : Found `]]>` x → NodeS (`<![CDATA[` ++ x) (ok (section d) (drop 3 (from `]]>` x)))
     go (nowhere f l) =
         let d-is : d ≡ x = before-lacks `]]>` x l in
-        rw f (subst (λ z. NodeS (`<![CDATA[` ++ x) (ok (section z) [])) (sym d-is) (`<![CDATA[` ++ x, sym (append-nil (`<![CDATA[` ++ x)), last-section l))
+        rw f (subst (λ z. NodeS (`<![CDATA[` ++ x) (ok (section z) [])) (sym d-is) (`<![CDATA[` ++ x, sym (append-nil (`<![CDATA[` ++ x)),
+            last-section l))
     go (at-first r f l) =
         rw f (
           `<![CDATA[` then d then `]]>`,
@@ -381,7 +399,8 @@ close-sound k x = go (past (other 62) x) refl (past-stops (other 62) x)
 pub comment-sound : (s : Bytes) → Begins `<!--` s → (w : Bytes) × (s ≡ w ++ beyond `-->` s) × Comment (beyond `-->` s) w
 comment-sound s h =
     let k = up-to 45 (45 ∷ 62 ∷ []) s in
-    (k .0, k .1, record { opens = begins-piece `<!--` (45 ∷ 45 ∷ []) (beyond `-->` s) (k .0) open-comment (k .2) (subst (Begins `<!--`) (k .1) h); ends = k .2 })
+    (k .0, k .1, record { opens = begins-piece `<!--` (45 ∷ 45 ∷ []) (beyond `-->` s) (k .0) open-comment (k .2) (subst (Begins `<!--`) (k .1) h);
+        ends = k .2 })
 
 pub content-comment : (p : Before) (s u r : Bytes) → s ≡ u ++ r → Comment r u → (y : Res Forest) → ContentS a-comment r y → ContentS p s y
 content-comment p s u r e c (bad n l) h = tt
@@ -391,7 +410,8 @@ content-comment p s u r e c (ok f r₂) h = (
   Content.comment (subst (λ z. Comment z u) (h .1) c) (h .2),
 )
 
-pub content-node : (p : Before) (s r : Bytes) (t : Tree) → NodeS s (ok t r) → (y : Res Forest) → ContentS no-comment r y → ContentS p s (mapRes (more t) y)
+pub content-node : (p : Before) (s r : Bytes) (t : Tree) → NodeS s (ok t r) → (y : Res Forest) → ContentS no-comment r y
+    → ContentS p s (mapRes (more t) y)
 content-node p s r t x (bad n l) h = tt
 content-node p s r t x (ok f r₂) h = (
   x .0 then h .0,
@@ -465,7 +485,8 @@ unfolding readNodes nodesStep
 nodes-sound zero s = tt
 nodes-sound (suc n) [] = Nodes.end-of-text
 nodes-sound (suc n) (a ∷ s) =
-    nodes-as (λ r. readContent n no-comment r) (λ r. readNodes n r) (content-sound n no-comment) (λ r. nodes-sound n r) a s (kind (a ∷ s)) (view (a ∷ s))
+    nodes-as (λ r. readContent n no-comment r) (λ r. readNodes n r) (content-sound n no-comment) (λ r. nodes-sound n r) a s (kind (a ∷ s))
+        (view (a ∷ s))
 
 -- ---- the prolog
 
@@ -482,13 +503,17 @@ piece-view (a ∷ s) =
     by-test (blank a) (λ e. rw e (blank-here a s refl e)) (λ e.
     by-test (prefix `<?` t)
     (λ q. let w = up-to 63 (62 ∷ []) t in
-    rw (e, q) (piece-here 63 (62 ∷ []) (w .0) (w .1) (instruction (begins-piece `<?` (63 ∷ []) _ (w .0) open-instruction (w .2) (subst (Begins `<?`) (w .1) (prefix-begins `<?` t q))) (w .2)))) (λ q₁.
+    rw (e, q) (piece-here 63 (62 ∷ []) (w .0) (w .1) (instruction
+        (begins-piece `<?` (63 ∷ []) _ (w .0) open-instruction (w .2) (subst (Begins `<?`) (w .1) (prefix-begins `<?` t q))) (w .2)))) (λ q₁.
     by-test (prefix `<!--` t)
     (λ q. let w = up-to 45 (45 ∷ 62 ∷ []) t in
-    rw (e, q₁, q) (piece-here 45 (45 ∷ 62 ∷ []) (w .0) (w .1) (Piece.comment (begins-piece `<!--` (45 ∷ 45 ∷ []) _ (w .0) open-comment (w .2) (subst (Begins `<!--`) (w .1) (prefix-begins `<!--` t q))) (w .2)))) (λ q₂.
+    rw (e, q₁, q) (piece-here 45 (45 ∷ 62 ∷ []) (w .0) (w .1)
+        (Piece.comment (begins-piece `<!--` (45 ∷ 45 ∷ []) _ (w .0) open-comment (w .2) (subst (Begins `<!--`) (w .1) (prefix-begins `<!--` t q)))
+        (w .2)))) (λ q₂.
     by-test (prefix `<!` t)
     (λ q. let w = up-to 62 [] t in
-    rw (e, q₁, q₂, q) (piece-here 62 [] (w .0) (w .1) (declaration (begins-piece `<!` [] _ (w .0) open-declaration (w .2) (subst (Begins `<!`) (w .1) (prefix-begins `<!` t q)))
+    rw (e, q₁, q₂, q) (piece-here 62 [] (w .0) (w .1) (declaration
+        (begins-piece `<!` [] _ (w .0) open-declaration (w .2) (subst (Begins `<!`) (w .1) (prefix-begins `<!` t q)))
     (λ z. prefix-not `<!--` t q₂ (subst (Begins `<!--`) (sym (w .1)) (begins-more `<!--` (w .0) _ z))) (w .2))))
     (λ q₃. rw (e, q₁, q₂, q₃) (none-here (rw (e, q₁, q₂, q₃)))))))
 

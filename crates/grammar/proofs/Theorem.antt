@@ -14,7 +14,7 @@ use Rattle.grammar.specs.Words.{Bytes}
 use Rattle.grammar.specs.Tree.{Forest}
 use Rattle.grammar.specs.Demand.{Result, tree, refused, Derives, TakesExactly, GivesThatTree, NoTwo, decodeForest}
 use Rattle.grammar.specs.Refusals.{RefusesTruly, RefusesExactly}
-use Rattle.grammar.specs.Counted.{readDocumentL, textAs, readText, decodeResult, treeReader}
+use Rattle.grammar.proofs.Counted.{readDocumentL, textAs, readText, decodeResult, treeReader}
 use Rattle.grammar.proofs.Tests.{by-test, T→is, is→T}
 use Rattle.grammar.proofs.Complete.{unique}
 use Rattle.grammar.proofs.Simulation.{text-exactly}
@@ -57,14 +57,16 @@ too-long decode s h =
     (λ e. rw e)
 
 -- a text that is not too long is refused as the reader without entities refuses it
-pub refuses-as : (decode : Bytes → Bytes) (s : Bytes) (n p : ℕ) → length s ≤ 65536 → (treeReader decode s ≡ refused n p) ↔ (readDocumentL 64 8192 8192 s ≡ refused n p)
+pub refuses-as : (decode : Bytes → Bytes) (s : Bytes) (n p : ℕ) → length s ≤ 65536 → (treeReader decode s ≡ refused n p)
+    ↔ (readDocumentL 64 8192 8192 s ≡ refused n p)
 unfolding treeReader readText textAs
 refuses-as decode s n p h = ((λ e. go (readDocumentL 64 8192 8192 s) refl (sym short ∙ e)), (λ e. short ∙ ap (decodeResult decode) e))
   where
     short : decodeResult decode (textAs (leb (length s) 65536) s) ≡ decodeResult decode (readDocumentL 64 8192 8192 s)
     short = ap (λ b. decodeResult decode (textAs b s)) (T→is (leb (length s) 65536) (le→leb (length s) 65536 h))
 
-    go : (r : Result) → readDocumentL 64 8192 8192 s ≡ r → decodeResult decode (readDocumentL 64 8192 8192 s) ≡ refused n p → readDocumentL 64 8192 8192 s ≡ refused n p
+    go : (r : Result) → readDocumentL 64 8192 8192 s ≡ r → decodeResult decode (readDocumentL 64 8192 8192 s) ≡ refused n p
+        → readDocumentL 64 8192 8192 s ≡ refused n p
     go (tree f) q z =
         let y : _≡_ {A = Result} (tree (decodeForest decode f)) (refused n p) = ap (decodeResult decode) (sym q) ∙ z in
         let o : _≡_ {A = ℕ} 0 1 = cc in

@@ -8,7 +8,7 @@ use lib.ListN.{length}
 use Rattle.grammar.specs.Words.{Bytes}
 use Rattle.grammar.specs.Tree.{Attr, attr, Tree, text, section, element, Forest, none, more}
 use Rattle.grammar.specs.Grammar.{Document}
-use Rattle.grammar.specs.Limits.{Within}
+use Rattle.grammar.specs.Limits.{mostBytes, mostDepth, mostNodes, mostAttrs, Within}
 
 -- what a tree reader answers: a tree; or a number of document 01's list, and its byte place
 pub data Result : Type 0 where
@@ -19,8 +19,8 @@ pub data Result : Type 0 where
 -- others, and it has at most 8,192 nodes and at most 8,192 attributes."
 pub record Derives (s : Bytes) (f : Forest) : Type 0 where
   pub derived : Document s f
-  pub limits : Within 64 8192 8192 f
-  pub size : length s ≤ 65536
+  pub limits : Within mostDepth mostNodes mostAttrs f
+  pub size : length s ≤ mostBytes
 
 -- "It is taken if the tree reader […] answers without a number"
 abbrev pub Taken : (Bytes → Result) → Bytes → Type 0

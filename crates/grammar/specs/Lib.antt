@@ -1,5 +1,4 @@
--- What a reader must believe: Words, Tree, Grammar, Limits, Demand, Refusals. Scan, Reader and Counted are a reader on lists, used in the
--- proof.
+-- What a reader must believe: Words, Tree, Grammar, Limits, Demand, Refusals; and Scan, which the specifications of the crates above cite.
 pub mod Words
 pub mod Tree
 pub mod Grammar
@@ -7,5 +6,3 @@ pub mod Limits
 pub mod Demand
 pub mod Refusals
 pub mod Scan
-pub mod Reader
-pub mod Counted

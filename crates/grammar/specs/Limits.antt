@@ -4,6 +4,20 @@ use mathlib.Core.List.{List}
 use lib.ListN.{length}
 use Rattle.grammar.specs.Tree.{Attr, Tree, text, section, element, Forest, none, more}
 
+-- ---- "Text 65,536 bytes; depth 64; nodes and attributes 8,192 each": said here once
+abbrev pub mostBytes : ℕ
+mostBytes = 65536
+
+abbrev pub mostDepth : ℕ
+mostDepth = 64
+
+abbrev pub mostNodes : ℕ
+mostNodes = 8192
+
+abbrev pub mostAttrs : ℕ
+mostAttrs = 8192
+
+-- ---- the measures
 -- how many nodes
 unfoldable mutual
   pub treeNodes : Tree → ℕ

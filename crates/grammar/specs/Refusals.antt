@@ -13,7 +13,7 @@ use Rattle.grammar.specs.Words.{Bytes, _then_, Only, Stops, Begins}
 use Rattle.grammar.specs.Tree.{Attr, Tree}
 use Rattle.grammar.specs.Tree.{`<`, `>`, `/`, `=`, `</`, `<!--`, `<![CDATA[`}
 use Rattle.grammar.specs.Grammar.{Blanks, Prolog, NoPiece, Name, Opening, Comment, Before, a-comment, no-comment, Node}
-use Rattle.grammar.specs.Limits.{treeNodes, treeAttrs}
+use Rattle.grammar.specs.Limits.{mostBytes, mostDepth, mostNodes, mostAttrs, treeNodes, treeAttrs}
 use Rattle.grammar.specs.Demand.{Result, refused}
 
 -- ---- what begins here
@@ -61,7 +61,8 @@ pub data Meets (d k j : ℕ) : Bytes → (number place : ℕ) → Type 0 where
   -- "5. An 8,193rd node begins (its first byte)."
   too-many-nodes : {after w : Bytes} {d₀ j₀ : ℕ} {p : Before} → Viable after w d₀ k j₀ p → NodeBegins after → Meets d k j (w then after) 5 (length w)
   -- "6. A tag name is empty (its `<`)."
-  no-tag-name : {after w : Bytes} {d₀ k₀ j₀ : ℕ} {p : Before} → Viable (`<` then after) w d₀ k₀ j₀ p → ElementBegins (`<` then after) → Stops nameByte after
+  no-tag-name : {after w : Bytes} {d₀ k₀ j₀ : ℕ} {p : Before} → Viable (`<` then after) w d₀ k₀ j₀ p → ElementBegins (`<` then after)
+      → Stops nameByte after
       → Meets d k j (w then `<` then after) 6 (length w)
   -- "7. An 8,193rd attribute begins (its first byte)."
   too-many-attributes : {after w : Bytes} → InStartTag after w j → AttributeBegins after → Meets d k j (w then after) 7 (length w)
@@ -91,8 +92,8 @@ pub record FirstMet (d k j : ℕ) (s : Bytes) (number place : ℕ) : Type 0 wher
 
 -- what a tree reader answers is met at its place, in a text of at most 65,536 bytes
 abbrev pub RefusesTruly : (Bytes → Result) → Type 0
-RefusesTruly reader = (s : Bytes) (n p : ℕ) → length s ≤ 65536 → reader s ≡ refused n p → Meets 64 8192 8192 s n p
+RefusesTruly reader = (s : Bytes) (n p : ℕ) → length s ≤ mostBytes → reader s ≡ refused n p → Meets mostDepth mostNodes mostAttrs s n p
 
 -- and it answers exactly the first that is met
 abbrev pub RefusesExactly : (Bytes → Result) → Type 0
-RefusesExactly reader = (s : Bytes) (n p : ℕ) → length s ≤ 65536 → (reader s ≡ refused n p) ↔ FirstMet 64 8192 8192 s n p
+RefusesExactly reader = (s : Bytes) (n p : ℕ) → length s ≤ mostBytes → (reader s ≡ refused n p) ↔ FirstMet mostDepth mostNodes mostAttrs s n p

@@ -1,4 +1,5 @@
--- Scans of a string from its front. A reader on lists, used in the proof; not what one must believe.
+-- Parts of a string: the run at its front, and what stands before and after a mark. Definitions alone. The grammar does without them; the
+-- specifications of the crates above cite `run` and `prefix`, and the proofs all.
 use Prim.Native.Nat.{ℕ}
 use mathlib.Core.Bool.{Bool, true, false, cond, _&&_}
 use mathlib.Core.List.{List, [], _∷_}

@@ -1,8 +1,9 @@
 -- The tree that a text derives, before its entities are read, and the bytes that the grammar names. Definitions alone.
 use Prim.Native.Nat.{ℕ}
 use mathlib.Core.Bool.{Bool, _||_}
-use mathlib.Core.List.{List, [], _∷_}
+use mathlib.Core.List.{List}
 use lib.Dec.{eqb}
+use Rattle.scan.specs.Text.{ascii}
 use Rattle.grammar.specs.Words.{Bytes}
 
 -- ---- trees
@@ -28,40 +29,40 @@ mutual
 -- ---- marks, each named by its own bytes
 
 abbrev pub `<` : Bytes
-`<` = 60 ∷ []
+`<` = ascii "<"
 
 abbrev pub `>` : Bytes
-`>` = 62 ∷ []
+`>` = ascii ">"
 
 abbrev pub `/` : Bytes
-`/` = 47 ∷ []
+`/` = ascii "/"
 
 abbrev pub `=` : Bytes
-`=` = 61 ∷ []
+`=` = ascii "="
 
 abbrev pub `</` : Bytes
-`</` = 60 ∷ 47 ∷ []
+`</` = ascii "</"
 
 abbrev pub `<?` : Bytes
-`<?` = 60 ∷ 63 ∷ []
+`<?` = ascii "<?"
 
 abbrev pub `?>` : Bytes
-`?>` = 63 ∷ 62 ∷ []
+`?>` = ascii "?>"
 
 abbrev pub `<!` : Bytes
-`<!` = 60 ∷ 33 ∷ []
+`<!` = ascii "<!"
 
 abbrev pub `<!--` : Bytes
-`<!--` = 60 ∷ 33 ∷ 45 ∷ 45 ∷ []
+`<!--` = ascii "<!--"
 
 abbrev pub `-->` : Bytes
-`-->` = 45 ∷ 45 ∷ 62 ∷ []
+`-->` = ascii "-->"
 
 abbrev pub `<![CDATA[` : Bytes
-`<![CDATA[` = 60 ∷ 33 ∷ 91 ∷ 67 ∷ 68 ∷ 65 ∷ 84 ∷ 65 ∷ 91 ∷ []
+`<![CDATA[` = ascii "<![CDATA["
 
 abbrev pub `]]>` : Bytes
-`]]>` = 93 ∷ 93 ∷ 62 ∷ []
+`]]>` = ascii "]]>"
 
 -- a quote mark: `"` or `'` (the other classes of bytes are those of `scan`)
 unfoldable pub quote : ℕ → Bool

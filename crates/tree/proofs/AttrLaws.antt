@@ -71,7 +71,8 @@ unfolding blank
 blank-equals b e = rw e
 
 -- an attribute has at least a byte
-module _ (s : List ℕ) (p e q : ℕ) (l : p < length s) (n : nameByte (getD s p 0) ≡ true) (h : Ends attrNameByte s p e) (g : Ends blank s e q) (c : startsAt s q equals ≡ false) where
+module _ (s : List ℕ) (p e q : ℕ) (l : p < length s) (n : nameByte (getD s p 0) ≡ true) (h : Ends attrNameByte s p e) (g : Ends blank s e q)
+    (c : startsAt s q equals ≡ false) where
   named-none : e ≡ p → ⊥
   named-none z = go (eqb (getD s p 0) 61) refl
     where

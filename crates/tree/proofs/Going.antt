@@ -35,7 +35,8 @@ module _ (s : List ℕ) (el : Reader) (p : ℕ) (x : State) where
   outer-node = refl
 
   module _ (e : startsAt s p closeMark ≡ true) where
-    inner-close : ltb (runEnd (other 62) s p) (length s) ≡ true → innerTurn s el p x ≡ halt (got (x .forest) (runEnd (other 62) s p + 1) (x .nodes) (x .attrs))
+    inner-close : ltb (runEnd (other 62) s p) (length s) ≡ true → innerTurn s el p x
+        ≡ halt (got (x .forest) (runEnd (other 62) s p + 1) (x .nodes) (x .attrs))
     unfolding innerTurn closeAt
     inner-close w = rw (e, w)
 
@@ -85,7 +86,8 @@ start s turn t u from k₀ a₀ r = record {
   is = refl;
 }
 
-module _ {s : List ℕ} {turn : Turn} {t u : List ℕ} {from k₀ a₀ : ℕ} {t′ u′ : List ℕ} {pos k a : ℕ} (g : Going s turn t u from k₀ a₀ t′ u′ pos k a) where
+module _ {s : List ℕ} {turn : Turn} {t u : List ℕ} {from k₀ a₀ : ℕ} {t′ u′ : List ℕ} {pos k a : ℕ} (g : Going s turn t u from k₀ a₀ t′ u′ pos k a)
+    where
   abbrev pub now-at : State
   now-at = record { forest = g .forest; nodes = k; attrs = a }
 
@@ -158,12 +160,16 @@ module _ {s : List ℕ} {turn : Turn} {t u : List ℕ} {from k₀ a₀ : ℕ} {t
         }
 
 -- a turn at a close tag
-pub closed : {s : List ℕ} (el : Reader) {t u : List ℕ} {from k₀ a₀ : ℕ} {t′ u′ : List ℕ} {pos k a : ℕ} → Going s (innerTurn s el) t u from k₀ a₀ t′ u′ pos k a
+pub closed : {s : List ℕ} (el : Reader) {t u : List ℕ} {from k₀ a₀ : ℕ} {t′ u′ : List ℕ} {pos k a : ℕ}
+    → Going s (innerTurn s el) t u from k₀ a₀ t′ u′ pos k a
     → pos < length s → startsAt s pos closeMark ≡ true
     → ContentPost (rowOf s (innerTurn s el) from (fresh k₀ a₀)) s t t′ u u′ from k₀ a₀ (closedAt s pos k a)
 unfolding closedAt
 closed {s} el {t} {u} {from} {k₀} {a₀} {t′} {u′} {pos} {k} {a} g h e = go (ltb (runEnd (other 62) s pos) (length s)) refl
   where
-    go : (b : Bool) → ltb (runEnd (other 62) s pos) (length s) ≡ b → ContentPost (rowOf s (innerTurn s el) from (fresh k₀ a₀)) s t t′ u u′ from k₀ a₀ (closedAt s pos k a)
-    go true w = rw w (done g (runEnd (other 62) s pos + 1) h (inner-close s el pos _ e w) (omega (arith, run-low (other 62) s pos)) (omega (arith, ltb-true (runEnd (other 62) s pos) (length s) w)))
+    go : (b : Bool) → ltb (runEnd (other 62) s pos) (length s) ≡ b
+        → ContentPost (rowOf s (innerTurn s el) from (fresh k₀ a₀)) s t t′ u u′ from k₀ a₀ (closedAt s pos k a)
+    go true w =
+        rw w (done g (runEnd (other 62) s pos + 1) h (inner-close s el pos _ e w) (omega (arith, run-low (other 62) s pos))
+        (omega (arith, ltb-true (runEnd (other 62) s pos) (length s) w)))
     go false w = rw w (fail g 11 pos h (inner-torn s el pos _ e w))

@@ -12,7 +12,9 @@ use borrow.Author.Tests.{lt-ltb, le-ltb, eq-eqb, ne-eqb, ltb-true, ltb-false}
 use Rattle.scan.specs.Bytes.{textByte, nameByte}
 use Rattle.scan.specs.Marks.{startsAt}
 use Rattle.tree.specs.Trees.{Attr, Forest, nil, text, section, elem, size, attrsOf, row, rows, attrRows}
-use Rattle.tree.specs.Read.{Out, nothing, bad, cdataMark, cdataEnd, closeMark, commentMark, commentEnd, TagOut, opened, shut, torn, startAt, Reader, commentTurn, pastComments, textAt, sectionAt, nodeHere, nodeAt, enclose, tagged, elementBy, elementOf, contentOf}
+use Rattle.tree.specs.Read.{Out, nothing, bad, cdataMark, cdataEnd, closeMark, commentMark, commentEnd, TagOut, opened, shut, torn, startAt}
+use Rattle.tree.specs.Read.{Reader, commentTurn, pastComments, textAt, sectionAt, nodeHere, nodeAt, enclose, tagged, elementBy, elementOf}
+use Rattle.tree.specs.Read.{contentOf}
 use Rattle.scan.specs.Posts.{Ends, Found, Passed}
 use Rattle.tree.specs.Posts.{Skipped, Laid, StepPost}
 use Rattle.tree.specs.declared.answers.Cursor.{Cursor}
@@ -106,7 +108,8 @@ module _ (s t t′ u : List ℕ) (p k a e : ℕ) (h : k < 8192) (b : a ≤ 8192)
     listed = refl;
   }
 
-  pub built-section : (q : ℕ) → Found cdataEnd s (p + 9) e → Passed cdataEnd s (p + 9) q → t′ ≡ sets t (k * 6) (row 3 (k + 1) (p + 9) (e - (p + 9)) 0 0)
+  pub built-section : (q : ℕ) → Found cdataEnd s (p + 9) e → Passed cdataEnd s (p + 9) q → t′
+      ≡ sets t (k * 6) (row 3 (k + 1) (p + 9) (e - (p + 9)) 0 0)
       → Laid (sectionAt s p k a) s t t′ u u (p + 1) k a (record { pos = q; nodes = k + 1; attrs = a })
   unfolding sectionAt size rows row attrsOf attrRows
   built-section q w x l = record {
@@ -201,7 +204,9 @@ built-elem o inner s t t′ t″ u u′ u″ p n k a q b l c e g f h x y =
       tallied = rw (append-nil, length-append l (attrsOf i)) (omega arith);
       most = g .most;
       least = g .least;
-      laid = x ∙ rw (g .laid, m, g .counted, z, h, append-nil) (sets-before (row 2 (k + 1 + size i) p n a (length l)) (rows (k + 1) (a + length l) i) t (k * 6));
+      laid =
+          x ∙ rw (g .laid, m, g .counted, z, h, append-nil) (sets-before (row 2 (k + 1 + size i) p n a (length l)) (rows (k + 1) (a + length l) i) t
+          (k * 6));
       listed = attrs-on l (attrsOf i) u u′ u″ a b h y (g .listed) ∙ rw append-nil;
     }
 

@@ -27,13 +27,17 @@ module _ (s : List ℕ) (i : ℕ) (h : i < length s) where
   unfolding prologTurn
   pi q r e a b = loop-more (length s) (prologTurn s) (λ j x. j) i tt r tt h (rw (e, ← (a .is), ← (b .is))) (beyond piEnd q r (omega arith) a b)
 
-  pub comment : (q r : ℕ) → startsAt s i piMark ≡ false → startsAt s i commentMark ≡ true → Passed commentEnd s i q → Ends blank s q r → from s i ≡ from s r
+  pub comment : (q r : ℕ) → startsAt s i piMark ≡ false → startsAt s i commentMark ≡ true → Passed commentEnd s i q → Ends blank s q r → from s i
+      ≡ from s r
   unfolding prologTurn
-  comment q r d e a b = loop-more (length s) (prologTurn s) (λ j x. j) i tt r tt h (rw (d, e, ← (a .is), ← (b .is))) (beyond commentEnd q r (omega arith) a b)
+  comment q r d e a b =
+      loop-more (length s) (prologTurn s) (λ j x. j) i tt r tt h (rw (d, e, ← (a .is), ← (b .is))) (beyond commentEnd q r (omega arith) a b)
 
-  pub decl : (q r : ℕ) → startsAt s i piMark ≡ false → startsAt s i commentMark ≡ false → startsAt s i declMark ≡ true → Passed gt s i q → Ends blank s q r → from s i ≡ from s r
+  pub decl : (q r : ℕ) → startsAt s i piMark ≡ false → startsAt s i commentMark ≡ false → startsAt s i declMark ≡ true → Passed gt s i q
+      → Ends blank s q r → from s i ≡ from s r
   unfolding prologTurn
-  decl q r c d e a b = loop-more (length s) (prologTurn s) (λ j x. j) i tt r tt h (rw (c, d, e, ← (a .is), ← (b .is))) (beyond gt q r (omega arith) a b)
+  decl q r c d e a b =
+      loop-more (length s) (prologTurn s) (λ j x. j) i tt r tt h (rw (c, d, e, ← (a .is), ← (b .is))) (beyond gt q r (omega arith) a b)
 
   pub stop : startsAt s i piMark ≡ false → startsAt s i commentMark ≡ false → startsAt s i declMark ≡ false → from s i ≡ i
   unfolding prologTurn

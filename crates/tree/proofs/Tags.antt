@@ -84,11 +84,14 @@ module _ (s : List ℕ) (p : ℕ) (x : TagState) where
 
     pub tag-flaw : (n q : ℕ) → x .count < 8192 → attrAt s p ≡ flaw n q → tagFrom s p x ≡ torn n q
     unfolding tagFrom tagTurn attrNext
-    tag-flaw n q l w = loop-halt (length s) (tagTurn s) _ p x _ h (rw (ne-eqb (getD s p 0) 62 e, ne-eqb (getD s p 0) 47 f, lt-ltb (x .count) 8192 l, w))
+    tag-flaw n q l w =
+        loop-halt (length s) (tagTurn s) _ p x _ h (rw (ne-eqb (getD s p 0) 62 e, ne-eqb (getD s p 0) 47 f, lt-ltb (x .count) 8192 l, w))
 
-    pub tag-attr : (y : Attr) (q : ℕ) → x .count < 8192 → attrAt s p ≡ attr y q → p < q → tagFrom s p x ≡ tagFrom s q (record { list = x .list ++ (y ∷ []); count = x .count + 1 })
+    pub tag-attr : (y : Attr) (q : ℕ) → x .count < 8192 → attrAt s p ≡ attr y q → p < q → tagFrom s p x
+        ≡ tagFrom s q (record { list = x .list ++ (y ∷ []); count = x .count + 1 })
     unfolding tagFrom tagTurn attrNext
-    tag-attr y q l w m = loop-more (length s) (tagTurn s) _ p x q _ h (rw (ne-eqb (getD s p 0) 62 e, ne-eqb (getD s p 0) 47 f, lt-ltb (x .count) 8192 l, w)) m
+    tag-attr y q l w m =
+        loop-more (length s) (tagTurn s) _ p x q _ h (rw (ne-eqb (getD s p 0) 62 e, ne-eqb (getD s p 0) 47 f, lt-ltb (x .count) 8192 l, w)) m
 
 -- ---- the loop
 pub record TagGoing (s u : List ℕ) (pos count : ℕ) (u′ : List ℕ) (at n : ℕ) : Type 0 where
@@ -102,7 +105,8 @@ pub record TagGoing (s u : List ℕ) (pos count : ℕ) (u′ : List ℕ) (at n :
   pub laid : u′ ≡ sets u (count * 4) (attrRows list)
   pub is : tagFrom s pos (record { list = []; count = count }) ≡ tagFrom s at (record { list = list; count = n })
 
-pub tag-start : (s u : List ℕ) (pos count : ℕ) → pos ≤ length s → (pos < length s → blank (getD s pos 0) ≡ false) → count ≤ 8192 → TagGoing s u pos count u pos count
+pub tag-start : (s u : List ℕ) (pos count : ℕ) → pos ≤ length s → (pos < length s → blank (getD s pos 0) ≡ false) → count ≤ 8192
+    → TagGoing s u pos count u pos count
 unfolding attrRows
 tag-start s u pos count h g l = record {
   within = h;
@@ -134,7 +138,8 @@ module _ {s u : List ℕ} {pos count : ℕ} {u′ : List ℕ} {at n : ℕ} where
         is = g .is ∙ tag-attr s at _ h e f (w .one) q l (w .is) (omega arith);
       }
 
-  pub tag-done : {mk : List Attr → ℕ → ℕ → TagOut} (g : TagGoing s u pos count u′ at n) (q : ℕ) → tagFrom s at (record { list = g .list; count = n }) ≡ mk (g .list) q n
+  pub tag-done : {mk : List Attr → ℕ → ℕ → TagOut} (g : TagGoing s u pos count u′ at n) (q : ℕ)
+      → tagFrom s at (record { list = g .list; count = n }) ≡ mk (g .list) q n
       → at < q → q ≤ length s → TagGot mk (tagFrom s pos (record { list = []; count = count })) s u u′ pos count (record { pos = q; attrs = n })
   tag-done g q e l m = record {
     list = g .list;
@@ -147,12 +152,16 @@ module _ {s u : List ℕ} {pos count : ℕ} {u′ : List ℕ} {at n : ℕ} where
   }
 
   -- a turn at a `/`
-  pub tag-slashed : TagGoing s u pos count u′ at n → at < length s → getD s at 0 ≡ 47 → TagPost (tagFrom s pos (record { list = []; count = count })) s u u′ pos count (shutAt s at n)
+  pub tag-slashed : TagGoing s u pos count u′ at n → at < length s → getD s at 0 ≡ 47
+      → TagPost (tagFrom s pos (record { list = []; count = count })) s u u′ pos count (shutAt s at n)
   unfolding shutAt
   tag-slashed g h e = go (startsAt s (skip s (at + 1)) gt) refl
     where
-      go : (t : Bool) → startsAt s (skip s (at + 1)) gt ≡ t → TagPost (tagFrom s pos (record { list = []; count = count })) s u u′ pos count (shutAt s at n)
-      go true w = rw w (tag-done g (skip s (at + 1) + 1) (tag-shut s at _ h e w) (omega (arith, run-low blank s (at + 1))) (omega (arith, starts-some s (skip s (at + 1)) 62 [] w)))
+      go : (t : Bool) → startsAt s (skip s (at + 1)) gt ≡ t → TagPost (tagFrom s pos (record { list = []; count = count })) s u u′ pos count
+          (shutAt s at n)
+      go true w =
+          rw w (tag-done g (skip s (at + 1) + 1) (tag-shut s at _ h e w) (omega (arith, run-low blank s (at + 1)))
+          (omega (arith, starts-some s (skip s (at + 1)) 62 [] w)))
       go false w = rw w (g .is ∙ tag-torn s at _ h e w)
 
 -- ---- the whole start tag
@@ -166,7 +175,8 @@ module _ (s : List ℕ) (p e a : ℕ) where
   start-tag q z w = rw (ne-eqb e (p + 1) z, ← (w .is))
 
 -- what is ensured from a later place is ensured from an earlier one
-lower-got : (mk : List Attr → ℕ → ℕ → TagOut) (o : TagOut) (s u u′ : List ℕ) (p q a : ℕ) (c : Spot) → p ≤ q → TagGot mk o s u u′ q a c → TagGot mk o s u u′ p a c
+lower-got : (mk : List Attr → ℕ → ℕ → TagOut) (o : TagOut) (s u u′ : List ℕ) (p q a : ℕ) (c : Spot) → p ≤ q → TagGot mk o s u u′ q a c
+    → TagGot mk o s u u′ p a c
 lower-got mk o s u u′ p q a c h l = record {
   list = l .list;
   is = l .is;

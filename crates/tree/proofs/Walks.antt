@@ -10,86 +10,14 @@ use mathlib.Core.Path.{_≡_, refl, sym, ap, _∙_}
 use mathlib.Core.List.{List, [], _∷_, _++_, append-assoc}
 use native.Mathlib.Omega.{arith}
 use native.Mathlib.Nat.{sub-zero}
-use lib.ListN.{take, length, getD, drop, replicate, length-append, length-drop, List·getD-append}
+use lib.ListN.{length, getD, drop, replicate, length-append, length-drop}
 use lib.Seq.{getD-drop, drop-drop, drop-at}
-use Rattle.scan.specs.Rows.{cells, Wide}
-use Rattle.scan.proofs.Rows.{cells-append, wide-append, cells-at}
 use Rattle.tree.specs.Trees.{Attr, Forest, nil, text, section, elem, size, attrsOf, row, rows, attrRow, attrRows, attrSpans, spans, InOrder}
 use Rattle.tree.specs.Read.{Out, got, nothing, bad, meaning, nodesOf, attrCells}
-use Rattle.tree.specs.Walks.{treeOf, rowList, RowFits, Item, items, itemSpans, spansOf, ownOf, Shows, Stands, RowIs, Listed, AttrIs}
+use Rattle.tree.specs.Walks.{treeOf, Stands, RowIs, Listed, AttrIs}
 use Rattle.tree.proofs.Tags.{length-attrRows, attrRows-append}
 use Rattle.tree.proofs.Forests.{length-rows}
 use Rattle.tree.proofs.Places.{in-whole, in-first, in-rest, meaning-placed}
-
--- ---- row by row
-pub rows-cells : (f : Forest) (k a : ℕ) → rows k a f ≡ cells (rowList k a f)
-unfolding rows rowList cells
-rows-cells nil k a = refl
-rows-cells (text p n f) k a = rw (rows-cells f (k + 1) a)
-rows-cells (section p n f) k a = rw (rows-cells f (k + 1) a)
-rows-cells (elem p n l c f) k a =
-    let b : ℕ = a + length l in
-    let d : ℕ = a + length l + length (attrsOf c) in
-    rw (cells-append (rowList (k + 1) b c) (rowList (k + 1 + size c) d f), rows-cells c (k + 1) b, rows-cells f (k + 1 + size c) d)
-
-pub rows-wide : (f : Forest) (k a : ℕ) → Wide 6 (rowList k a f)
-unfolding rowList row
-rows-wide nil k a = tt
-rows-wide (text p n f) k a = (refl, rows-wide f (k + 1) a)
-rows-wide (section p n f) k a = (refl, rows-wide f (k + 1) a)
-rows-wide (elem p n l c f) k a =
-    let b : ℕ = a + length l in
-    let d : ℕ = a + length l + length (attrsOf c) in
-    (refl, wide-append 6 (rowList (k + 1) b c) (rowList (k + 1 + size c) d f) (rows-wide c (k + 1) b) (rows-wide f (k + 1 + size c) d))
-
-pub rows-many : (f : Forest) (k a : ℕ) → length (rowList k a f) ≡ size f
-unfolding rowList size
-rows-many nil k a = refl
-rows-many (text p n f) k a = omega (arith, rows-many f (k + 1) a)
-rows-many (section p n f) k a = omega (arith, rows-many f (k + 1) a)
-rows-many (elem p n l c f) k a =
-    let b : ℕ = a + length l in
-    let d : ℕ = a + length l + length (attrsOf c) in
-    omega (arith, length-append (rowList (k + 1) b c) (rowList (k + 1 + size c) d f), rows-many c (k + 1) b, rows-many f (k + 1 + size c) d)
-
--- every row of a list fits, the first being number j
-abbrev Fitting : ℕ → ℕ → ℕ → ℕ → List (List ℕ) → Type 0
-Fitting hi n m j [] = Unit {0}
-Fitting hi n m j (r ∷ rs) = RowFits hi n m j r × Fitting hi n m (j + 1) rs
-
-module _ (hi n m : ℕ) where
-  fitting-append : (a b : List (List ℕ)) (j k : ℕ) → k ≡ j + length a → Fitting hi n m j a → Fitting hi n m k b → Fitting hi n m j (a ++ b)
-  fitting-append [] b j k e f g = let z : j ≡ k = omega arith in rw z g
-  fitting-append (r ∷ a) b j k e f g = (f .0, fitting-append a b (j + 1) k (omega arith) (f .1) g)
-
-  fitting-at : (rs : List (List ℕ)) (j i : ℕ) → Fitting hi n m j rs → i < length rs → RowFits hi n m (j + i) (getD rs i [])
-  fitting-at [] j i f h = absurd (omega arith)
-  fitting-at (r ∷ rs) j zero f h = let z : j + 0 ≡ j = omega arith in rw z (f .0)
-  fitting-at (r ∷ rs) j (suc i) f h = let z : j + suc i ≡ j + 1 + i = omega arith in rw z (fitting-at rs (j + 1) i (f .1) (omega arith))
-
-  fitting : (f : Forest) (k a lo : ℕ) → InOrder lo (spans f) hi → k + size f ≤ n → a + length (attrsOf f) ≤ m → Fitting hi n m k (rowList k a f)
-  unfolding rowList row size attrsOf spans
-  fitting nil k a lo i h g = tt
-  fitting (text p x f) k a lo i h g =
-      (record { within = in-whole (spans f) (p + x) hi (i .1); later = omega arith; last = omega arith; own = omega arith }, fitting f (k + 1) a (p + x) (i .1) (omega arith) g)
-  fitting (section p x f) k a lo i h g =
-      (record { within = in-whole (spans f) (p + x) hi (i .1); later = omega arith; last = omega arith; own = omega arith }, fitting f (k + 1) a (p + x) (i .1) (omega arith) g)
-  fitting (elem p x l c f) k a lo i h g =
-      let b : ℕ = a + length l in
-      let d : ℕ = a + length l + length (attrsOf c) in
-      let e : length (l ++ (attrsOf c ++ attrsOf f)) ≡ length l + (length (attrsOf c) + length (attrsOf f)) = simp length-append in
-      let w : p + 1 + x ≤ hi = in-whole (attrSpans l ++ (spans c ++ spans f)) (p + 1 + x) hi (i .1) in
-      let r : InOrder (p + 1 + x) (spans c ++ spans f) hi = in-rest (attrSpans l) (spans c ++ spans f) (p + 1 + x) hi (i .1) in (
-        record { within = omega arith; later = omega arith; last = omega arith; own = omega arith },
-        fitting-append (rowList (k + 1) b c) (rowList (k + 1 + size c) d f) (k + 1) (k + 1 + size c) (omega (arith, rows-many c (k + 1) b))
-            (fitting c (k + 1) b (p + 1 + x) (in-first (spans c) (spans f) (p + 1 + x) hi r) (omega arith) (omega arith))
-            (fitting f (k + 1 + size c) d (p + 1 + x) (in-rest (spans c) (spans f) (p + 1 + x) hi r) (omega arith) (omega arith)),
-      )
-
-  pub row-fits : (f : Forest) (lo i : ℕ) → InOrder lo (spans f) hi → size f ≤ n → length (attrsOf f) ≤ m → i < size f → RowFits hi n m i (getD (rowList 0 0 f) i [])
-  row-fits f lo i o h g l =
-      let z : 0 + i ≡ i = omega arith in
-      rw z at (fitting-at (rowList 0 0 f) 0 i (fitting f 0 0 lo o (omega arith) (omega arith)) (omega (arith, rows-many f 0 0)))
 
 -- every attribute's name and value lie within the bound
 abbrev Within : ℕ → List Attr → Type 0
@@ -115,93 +43,19 @@ within (section p n f) lo hi i = within f (p + n) hi (i .1)
 within (elem p n l c f) lo hi i =
     let r : InOrder (p + 1 + n) (spans c ++ spans f) hi = in-rest (attrSpans l) (spans c ++ spans f) (p + 1 + n) hi (i .1) in
     within-append hi l (attrsOf c ++ attrsOf f) (within-tag l (p + 1 + n) hi (in-first (attrSpans l) (spans c ++ spans f) (p + 1 + n) hi (i .1)))
-    (within-append hi (attrsOf c) (attrsOf f) (within c (p + 1 + n) hi (in-first (spans c) (spans f) (p + 1 + n) hi r)) (within f (p + 1 + n) hi (in-rest (spans c) (spans f) (p + 1 + n) hi r)))
+    (within-append hi (attrsOf c) (attrsOf f) (within c (p + 1 + n) hi (in-first (spans c) (spans f) (p + 1 + n) hi r))
+        (within f (p + 1 + n) hi (in-rest (spans c) (spans f) (p + 1 + n) hi r)))
 
-within-at : (none : Attr) (hi : ℕ) (l : List Attr) (j : ℕ) → Within hi l → j < length l → (getD l j none .name + getD l j none .nameLen ≤ hi) × (getD l j none .value + getD l j none .valueLen ≤ hi)
+within-at : (none : Attr) (hi : ℕ) (l : List Attr) (j : ℕ) → Within hi l → j < length l → (getD l j none .name + getD l j none .nameLen ≤ hi)
+    × (getD l j none .value + getD l j none .valueLen ≤ hi)
 within-at none hi [] j h g = absurd (omega arith)
 within-at none hi (x ∷ l) zero h g = (h .0, h .1)
 within-at none hi (x ∷ l) (suc j) h g = within-at none hi l j (h .2) (omega arith)
 
 pub attr-fits : (none : Attr) (f : Forest) (lo hi j : ℕ) → InOrder lo (spans f) hi → j < length (attrsOf f)
-    → (getD (attrsOf f) j none .name + getD (attrsOf f) j none .nameLen ≤ hi) × (getD (attrsOf f) j none .value + getD (attrsOf f) j none .valueLen ≤ hi)
+    → (getD (attrsOf f) j none .name + getD (attrsOf f) j none .nameLen ≤ hi)
+        × (getD (attrsOf f) j none .value + getD (attrsOf f) j none .valueLen ≤ hi)
 attr-fits none f lo hi j i h = within-at none hi (attrsOf f) j (within f lo hi i) h
-
--- ---- in document order
-pub items-many : (f : Forest) → length (items f) ≡ size f
-unfolding items size
-items-many nil = refl
-items-many (text p n f) = omega (arith, items-many f)
-items-many (section p n f) = omega (arith, items-many f)
-items-many (elem p n l c f) = omega (arith, length-append (items c) (items f), items-many c, items-many f)
-
-spansOf-append : (a b : List Item) → spansOf (a ++ b) ≡ spansOf a ++ spansOf b
-unfolding spansOf
-spansOf-append [] b = refl
-spansOf-append (x ∷ a) b = rw (spansOf-append a b, append-assoc)
-
-ownOf-append : (a b : List Item) → ownOf (a ++ b) ≡ ownOf a ++ ownOf b
-unfolding ownOf
-ownOf-append [] b = refl
-ownOf-append (x ∷ a) b = rw (ownOf-append a b, append-assoc)
-
-pub items-spans : (f : Forest) → spansOf (items f) ≡ spans f
-unfolding items spansOf itemSpans spans attrSpans
-items-spans nil = refl
-items-spans (text p n f) = rw (items-spans f)
-items-spans (section p n f) = rw (items-spans f)
-items-spans (elem p n l c f) = rw (spansOf-append (items c) (items f), items-spans c, items-spans f)
-
-pub items-attrs : (f : Forest) → ownOf (items f) ≡ attrsOf f
-unfolding items ownOf attrsOf
-items-attrs nil = refl
-items-attrs (text p n f) = items-attrs f
-items-attrs (section p n f) = items-attrs f
-items-attrs (elem p n l c f) = rw (ownOf-append (items c) (items f), items-attrs c, items-attrs f)
-
--- rows show items one by one, a attributes standing before the first
-abbrev Showing : ℕ → List (List ℕ) → List Item → Type 0
-Showing a [] [] = Unit {0}
-Showing a [] (x ∷ xs) = ⊥
-Showing a (r ∷ rs) [] = ⊥
-Showing a (r ∷ rs) (x ∷ xs) = Shows r x a × Showing (a + length (x .own)) rs xs
-
-showing-append : (a b : ℕ) (r s : List (List ℕ)) (x y : List Item) → b ≡ a + length (ownOf x) → Showing a r x → Showing b s y → Showing a (r ++ s) (x ++ y)
-unfolding ownOf
-showing-append a b [] s [] y e h g = let z : a ≡ b = omega arith in rw z g
-showing-append a b [] s (x ∷ xs) y e h g = absurd h
-showing-append a b (r ∷ rs) s [] y e h g = absurd h
-showing-append a b (r ∷ rs) s (x ∷ xs) y e h g = (h .0, showing-append (a + length (x .own)) b rs s xs y (omega (arith, length-append (x .own) (ownOf xs))) (h .1) g)
-
-showing : (f : Forest) (k a : ℕ) → Showing a (rowList k a f) (items f)
-unfolding rowList row items
-showing nil k a = tt
-showing (text p n f) k a =
-    let z : a + 0 ≡ a = omega arith in
-    (record { kind-is = refl; place-is = refl; len-is = refl; first-is = λ e. absurd (omega (arith, e)); many-is = refl }, rw z (showing f (k + 1) a))
-showing (section p n f) k a =
-    let z : a + 0 ≡ a = omega arith in
-    (record { kind-is = refl; place-is = refl; len-is = refl; first-is = λ e. absurd (omega (arith, e)); many-is = refl }, rw z (showing f (k + 1) a))
-showing (elem p n l c f) k a =
-    let b : ℕ = a + length l in
-    let d : ℕ = a + length l + length (attrsOf c) in
-    let e : d ≡ b + length (ownOf (items c)) = rw (items-attrs c) in
-    (record { kind-is = refl; place-is = refl; len-is = refl; first-is = λ w. refl; many-is = refl }, showing-append b d (rowList (k + 1) b c) (rowList (k + 1 + size c) d f) (items c) (items f) e (showing c (k + 1) b) (showing f (k + 1 + size c) d))
-
-showing-at : (none : Item) (a i : ℕ) (rs : List (List ℕ)) (xs : List Item) → Showing a rs xs → i < length xs → Shows (getD rs i []) (getD xs i none) (a + length (ownOf (take i xs)))
-unfolding ownOf
-showing-at none a i [] [] h l = absurd (omega arith)
-showing-at none a i [] (x ∷ xs) h l = absurd h
-showing-at none a i (r ∷ rs) [] h l = absurd h
-showing-at none a zero (r ∷ rs) (x ∷ xs) h l = let z : a + 0 ≡ a = omega arith in rw z (h .0)
-showing-at none a (suc i) (r ∷ rs) (x ∷ xs) h l =
-    let z : a + length (x .own ++ ownOf (take i xs)) ≡ a + length (x .own) + length (ownOf (take i xs)) = rw length-append (omega arith) in
-    rw z (showing-at none (a + length (x .own)) i rs xs (h .1) (omega arith))
-
--- row i shows item i
-pub item-at : (none : Item) (f : Forest) (i : ℕ) → i < size f → Shows (getD (rowList 0 0 f) i []) (getD (items f) i none) (length (ownOf (take i (items f))))
-item-at none f i h =
-    let z : 0 + length (ownOf (take i (items f))) ≡ length (ownOf (take i (items f))) = omega arith in
-    rw z at (showing-at none 0 i (rowList 0 0 f) (items f) (showing f 0 0) (omega (arith, items-many f)))
 
 -- ---- the table of nodes that the reader leaves
 nodes-of : (n : ℕ) (o : Out) → nodesOf n o ≡ rows 0 0 (treeOf o) ++ replicate (n - size (treeOf o) * 6) 0
@@ -216,7 +70,8 @@ attrs-of n (got f q k a) = refl
 attrs-of n (nothing q) = rw (sub-zero n)
 attrs-of n (bad m q) = rw (sub-zero n)
 
-tree-placed : (s : List ℕ) (o : Out) → ((f : Forest) (q k a : ℕ) → o ≡ got f q k a → InOrder 0 (spans f) (length s)) → InOrder 0 (spans (treeOf o)) (length s)
+tree-placed : (s : List ℕ) (o : Out) → ((f : Forest) (q k a : ℕ) → o ≡ got f q k a → InOrder 0 (spans f) (length s))
+    → InOrder 0 (spans (treeOf o)) (length s)
 unfolding treeOf spans
 tree-placed s (got f q k a) h = h f q k a refl
 tree-placed s (nothing q) h = omega arith
@@ -229,17 +84,6 @@ root-placed s n m = tree-placed s (meaning s n m) (λ f q k a e. meaning-placed 
 module _ (s t : List ℕ) (n m : ℕ) (left : t ≡ nodesOf n (meaning s n m)) where
   abbrev pub forest : Forest
   forest = treeOf (meaning s n m)
-
-  -- cell j of row i
-  pub cell-at : (i j : ℕ) → i < size forest → j < 6 → getD t (i * 6 + j) 0 ≡ getD (getD (rowList 0 0 forest) i []) j 0
-  cell-at i j h g =
-      let l : length (rows 0 0 forest) ≡ size forest * 6 = length-rows forest 0 0 in
-      let d : getD t (i * 6 + j) 0 ≡ getD (rows 0 0 forest) (i * 6 + j) 0
-      = rw (left, nodes-of n (meaning s n m)) (List·getD-append (rows 0 0 forest) (replicate (n - size forest * 6) 0) 0 (i * 6 + j) (omega arith)) in
-      d ∙ rw (rows-cells forest 0 0) (cells-at 6 (rowList 0 0 forest) i j (rows-wide forest 0 0) (omega (arith, rows-many forest 0 0)) g)
-
-  pub root-fits : (i : ℕ) → i < size forest → RowFits (length s) (size forest) (length (attrsOf forest)) i (getD (rowList 0 0 forest) i [])
-  root-fits i h = row-fits (length s) (size forest) (length (attrsOf forest)) forest 0 i (root-placed s n m) (omega arith) (omega arith) h
 
   pub root-room : size forest * 6 ≤ length t
   root-room =
@@ -265,7 +109,8 @@ attrs-room s u n m left =
 past-cells : (t l : List ℕ) (i e m : ℕ) → drop (i * 6) t ≡ l → e * 6 ≡ i * 6 + m → drop (e * 6) t ≡ drop m l
 past-cells t l i e m w z = rw (z, ← (drop-drop m (i * 6) t), w)
 
-row-is : (t : List ℕ) (i kind end place len first many : ℕ) (l : List ℕ) → drop (i * 6) t ≡ row kind end place len first many ++ l → RowIs t i kind end place len first many
+row-is : (t : List ℕ) (i kind end place len first many : ℕ) (l : List ℕ) → drop (i * 6) t ≡ row kind end place len first many ++ l
+    → RowIs t i kind end place len first many
 unfolding row
 row-is t i kind end place len first many l e = record {
   kind-is = cell-0;
@@ -288,14 +133,19 @@ row-is t i kind end place len first many l e = record {
 module _ (t : List ℕ) (i a p n : ℕ) where
   pub on-text : (f : Forest) → Stands t i a (text p n f) → RowIs t i 1 (i + 1) p n 0 0 × Stands t (i + 1) a f
   unfolding rows row
-  on-text f x = (row-is t i 1 (i + 1) p n 0 0 (rows (i + 1) a f ++ x .tail) (x .is), record { tail = x .tail; is = past-cells t _ i (i + 1) 6 (x .is) (omega arith) })
+  on-text f x =
+      (row-is t i 1 (i + 1) p n 0 0 (rows (i + 1) a f ++ x .tail) (x .is),
+      record { tail = x .tail; is = past-cells t _ i (i + 1) 6 (x .is) (omega arith) })
 
   pub on-section : (f : Forest) → Stands t i a (section p n f) → RowIs t i 3 (i + 1) p n 0 0 × Stands t (i + 1) a f
   unfolding rows row
-  on-section f x = (row-is t i 3 (i + 1) p n 0 0 (rows (i + 1) a f ++ x .tail) (x .is), record { tail = x .tail; is = past-cells t _ i (i + 1) 6 (x .is) (omega arith) })
+  on-section f x =
+      (row-is t i 3 (i + 1) p n 0 0 (rows (i + 1) a f ++ x .tail) (x .is),
+      record { tail = x .tail; is = past-cells t _ i (i + 1) 6 (x .is) (omega arith) })
 
   pub on-elem : (l : List Attr) (c f : Forest) → Stands t i a (elem p n l c f)
-      → RowIs t i 2 (i + 1 + size c) p n a (length l) × Stands t (i + 1) (a + length l) c × Stands t (i + 1 + size c) (a + length l + length (attrsOf c)) f
+      → RowIs t i 2 (i + 1 + size c) p n a (length l) × Stands t (i + 1) (a + length l) c
+          × Stands t (i + 1 + size c) (a + length l + length (attrsOf c)) f
   unfolding rows row
   on-elem l c f x =
       let b : ℕ = a + length l in
@@ -305,7 +155,8 @@ module _ (t : List ℕ) (i a p n : ℕ) where
       let j : length q ≡ size c * 6 = length-rows c (i + 1) b in (
         row-is t i 2 (i + 1 + size c) p n a (length l) ((q ++ r) ++ x .tail) (x .is),
         record { tail = r ++ x .tail; is = past-cells t _ i (i + 1) 6 (x .is) (omega arith) ∙ append-assoc q r (x .tail) },
-        record { tail = x .tail; is = past-cells t _ i (i + 1 + size c) (6 + size c * 6) (x .is) (omega arith) ∙ (sym (drop-drop (size c * 6) 6 _) ∙ rw (append-assoc q r (x .tail)) (drop-at q (r ++ x .tail) (size c * 6) j)) },
+        record { tail = x .tail; is = past-cells t _ i (i + 1 + size c) (6 + size c * 6) (x .is) (omega arith)
+            ∙ (sym (drop-drop (size c * 6) 6 _) ∙ rw (append-assoc q r (x .tail)) (drop-at q (r ++ x .tail) (size c * 6) j)) },
       )
 
 -- the rows of a forest that has some are within the table
@@ -342,10 +193,12 @@ attr-at none u j (suc i) (x ∷ l) y h =
 -- two lists of attributes, one after the other
 pub on-attrs : (u : List ℕ) (j : ℕ) (a b : List Attr) → Listed u j (a ++ b) → Listed u j a × Listed u (j + length a) b
 on-attrs u j a b y =
-    let e : drop (j * 4) u ≡ attrRows a ++ (attrRows b ++ y .tail) = y .is ∙ rw (attrRows-append a b) (append-assoc (attrRows a) (attrRows b) (y .tail)) in
+    let e : drop (j * 4) u ≡ attrRows a ++ (attrRows b ++ y .tail) = y .is
+        ∙ rw (attrRows-append a b) (append-assoc (attrRows a) (attrRows b) (y .tail)) in
     let z : (j + length a) * 4 ≡ j * 4 + length a * 4 = omega arith in (
       record { tail = attrRows b ++ y .tail; is = e },
-      record { tail = y .tail; is = rw (z, ← (drop-drop (length a * 4) (j * 4) u), e) (drop-at (attrRows a) (attrRows b ++ y .tail) (length a * 4) (length-attrRows a)) },
+      record { tail = y .tail; is = rw (z, ← (drop-drop (length a * 4) (j * 4) u),
+          e) (drop-at (attrRows a) (attrRows b ++ y .tail) (length a * 4) (length-attrRows a)) },
     )
 
 -- ---- the order of strings, node by node
@@ -358,6 +211,7 @@ module _ (lo hi p n : ℕ) where
   unfolding spans
   placed-section f i = i
 
-  pub placed-elem : (l : List Attr) (c f : Forest) → InOrder lo (spans (elem p n l c f)) hi → (lo ≤ p + 1) × InOrder (p + 1 + n) (attrSpans l ++ (spans c ++ spans f)) hi
+  pub placed-elem : (l : List Attr) (c f : Forest) → InOrder lo (spans (elem p n l c f)) hi → (lo ≤ p + 1)
+      × InOrder (p + 1 + n) (attrSpans l ++ (spans c ++ spans f)) hi
   unfolding spans
   placed-elem l c f i = i

@@ -1,6 +1,6 @@
 -- The whole text: which case of `meaning` holds, and the answer and tables of each. Assumes nothing.
 use Prim.Native.Nat.{ℕ, zero, suc, _+_, _-_, _*_, _≤_, _<_}
-use mathlib.Core.Path.{_≡_, refl, _∙_}
+use mathlib.Core.Path.{_≡_, refl, ap, _∙_}
 use mathlib.Core.List.{List, _++_}
 use native.Mathlib.Omega.{arith}
 use native.Mathlib.Nat.{sub-zero, zero-sub, suc-sub-suc, zero-add}
@@ -9,8 +9,10 @@ use lib.Seq.{sets, sets-eq}
 use borrow.Author.Tests.{lt-ltb, le-ltb}
 use Rattle.unicode.specs.Utf8.{utf8End}
 use Rattle.tree.specs.Trees.{Forest, size, attrsOf, rows, attrRows}
-use Rattle.tree.specs.Read.{Out, bad, outerTurn, rowOf, fresh, elementOf, prologEnd, meaning, answerOf, nodesOf, attrCells}
-use Rattle.tree.specs.Posts.{Laid, Fits}
+use Rattle.tree.specs.Read.{Out, bad, topOf, prologEnd, meaning, answerOf, nodesOf, attrCells}
+use Rattle.tree.specs.Posts.{Laid, Fits, TreeRead}
+use Rattle.tree.specs.Answers.{numberOf, placeOf}
+use Rattle.tree.specs.declared.answers.Answer.{Answer}
 use Rattle.tree.specs.declared.answers.Cursor.{Cursor}
 use Rattle.tree.specs.declared.answers.Answer.the-variants.{Tree, Refused}
 use Rattle.tree.proofs.Forests.{length-rows}
@@ -33,9 +35,10 @@ module _ (s : List ℕ) (n m : ℕ) where
   unfolding meaning
   not-utf8 r h g l e b = rw (le-ltb n 49152 h, le-ltb m 32768 g, le-ltb 65536 (length s) l, ← e, lt-ltb r (length s) b)
 
-  pub in-range : (p : ℕ) → Fits s n m → p ≡ prologEnd s → meaning s n m ≡ rowOf s (outerTurn s (elementOf 64 s)) p (fresh 0 0)
+  pub in-range : (p : ℕ) → Fits s n m → p ≡ prologEnd s → meaning s n m ≡ topOf s p
   unfolding meaning
-  in-range p f e = rw (le-ltb n 49152 (f .long), le-ltb m 32768 (f .wide), le-ltb 65536 (length s) (f .short), le-ltb (utf8End s) (length s) (f .valid), e)
+  in-range p f e =
+      rw (le-ltb n 49152 (f .long), le-ltb m 32768 (f .wide), le-ltb 65536 (length s) (f .short), le-ltb (utf8End s) (length s) (f .valid), e)
 
 drop-replicate : (m n a : ℕ) → drop m (replicate n a) ≡ replicate (n - m) a
 drop-replicate zero n a = rw (sub-zero n)
@@ -55,7 +58,8 @@ pub refused : (o : Out) (x q n m : ℕ) (t u : List ℕ) → o ≡ bad x q → t
 unfolding answerOf nodesOf attrCells
 refused o x q n m t u e y z = rw e (refl, (y, z))
 
-pub tree : (o : Out) (s t t′ u u′ : List ℕ) (low n m : ℕ) (c : Cursor) → Laid o s t t′ u u′ low 0 0 c → t ≡ replicate n 0 → u ≡ replicate m 0 → 49152 ≤ n → 32768 ≤ m
+pub tree : (o : Out) (s t t′ u u′ : List ℕ) (low n m : ℕ) (c : Cursor) → Laid o s t t′ u u′ low 0 0 c → t ≡ replicate n 0 → u ≡ replicate m 0
+    → 49152 ≤ n → 32768 ≤ m
     → (Tree (c .nodes) (c .attrs) ≡ answerOf o) × ((t′ ≡ nodesOf n o) × (u′ ≡ attrCells m o))
 unfolding answerOf nodesOf attrCells
 tree o s t t′ u u′ low n m c l y z h g =
@@ -69,3 +73,16 @@ tree o s t t′ u u′ low n m c l y z h g =
         laid-blank u u′ (attrRows (attrsOf f)) m (length (attrsOf f) * 4) z (l .listed) (length-attrRows (attrsOf f)) (omega arith),
       ),
     )
+
+-- as the promise has them
+pub read-of : {s t u : List ℕ} {r : Answer} {t′ u′ : List ℕ}
+    → (r ≡ answerOf (meaning s (length t) (length u)))
+    × ((t′ ≡ nodesOf (length t) (meaning s (length t) (length u))) × (u′ ≡ attrCells (length u) (meaning s (length t) (length u))))
+    → TreeRead s t u r t′ u′
+unfolding answerOf numberOf placeOf
+read-of x = record {
+  answer = x .0;
+  says = λ n p e. let w = x .0 ∙ ap answerOf e in (ap numberOf w, ap placeOf w);
+  of-nodes = x .1 .0;
+  of-attrs = x .1 .1;
+}

@@ -1,4 +1,4 @@
--- What the functions ask and ensure, by the cases of their answers.
+-- What the functions ask and ensure, by the cases of their answers. Steps of the program: `TreeRead` alone is a promise to others.
 use Prim.Native.Nat.{ℕ, _+_, _*_, _≤_, _<_}
 use mathlib.Core.Path.{_≡_}
 use mathlib.Core.Bool.{false, cond}
@@ -11,6 +11,9 @@ use Rattle.scan.specs.Marks.{startsAt}
 use Rattle.unicode.specs.Utf8.{utf8End}
 use Rattle.tree.specs.Trees.{Attr, Forest, size, attrsOf, rows, attrRow, attrRows}
 use Rattle.tree.specs.Read.{Out, got, nothing, bad, AttrOut, attr, flaw, TagOut, opened, shut, torn, gt, skip, pastComments, meaning}
+use Rattle.tree.specs.Read.{answerOf, nodesOf, attrCells}
+use Rattle.tree.specs.Answers.{Says}
+use Rattle.tree.specs.declared.answers.Answer.{Answer}
 use Rattle.tree.specs.declared.answers.Cursor.{Cursor}
 use Rattle.tree.specs.declared.answers.Spot.{Spot}
 use Rattle.tree.specs.declared.answers.Step.{Step}
@@ -123,3 +126,11 @@ pub record Fits (s : List ℕ) (n m : ℕ) : Type 0 where
 abbrev pub LimitsPost : List ℕ → ℕ → ℕ → Limits → Type 0
 LimitsPost s n m limits.Within = Fits s n m
 LimitsPost s n m (limits.Refused f) = meaning s n m ≡ bad (f .number) (f .place)
+
+-- the whole call: the tables t and u as they are lent, t′ and u′ as they are left
+pub record TreeRead (s t u : List ℕ) (r : Answer) (t′ u′ : List ℕ) : Type 0 where
+  pub answer : r ≡ answerOf (meaning s (length t) (length u))
+  -- a refusal is answered with its number and its place
+  pub says : (n p : ℕ) → meaning s (length t) (length u) ≡ bad n p → Says r n p
+  pub of-nodes : t′ ≡ nodesOf (length t) (meaning s (length t) (length u))
+  pub of-attrs : u′ ≡ attrCells (length u) (meaning s (length t) (length u))

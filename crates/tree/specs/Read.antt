@@ -1,10 +1,12 @@
--- What a text means: the reader's executable definition. s is the whole text, p a place in it; k nodes and a attributes were read before. Definitions alone.
--- Quoted phrases are document 01's.
+-- The reader by places. It need not be believed: a step on the way from the program to the grammar, which `derivation` shows equal to what
+-- the grammar derives and to what is refused (`derivation/proofs/Theorem`).
+-- s is the whole text, p a place in it; k nodes and a attributes were read before. Quoted phrases are document 01's.
 use Prim.Native.Nat.{ℕ, zero, suc, _+_, _-_, _*_}
 use mathlib.Core.List.{List, [], _∷_, _++_}
 use mathlib.Core.Bool.{Bool, cond, _||_}
 use lib.ListN.{length, getD, replicate}
 use lib.Dec.{eqb, ltb}
+use Rattle.scan.specs.Text.{ascii}
 use Rattle.scan.specs.Loop.{Next, halt, more, loop}
 use Rattle.scan.specs.Bytes.{blank, textByte, nameByte, attrNameByte, other, runEnd}
 use Rattle.scan.specs.Marks.{startsAt, seek, past}
@@ -21,39 +23,34 @@ pub data Out : Type 0 where
 
 -- ---- marks
 abbrev pub gt : List ℕ
-gt = 62 ∷ []
+gt = ascii ">"
 
 abbrev pub equals : List ℕ
-equals = 61 ∷ []
+equals = ascii "="
 
--- `</`
 abbrev pub closeMark : List ℕ
-closeMark = 60 ∷ 47 ∷ []
+closeMark = ascii "</"
 
--- `<!--` and `-->`
 abbrev pub commentMark : List ℕ
-commentMark = 60 ∷ 33 ∷ 45 ∷ 45 ∷ []
+commentMark = ascii "<!--"
 
 abbrev pub commentEnd : List ℕ
-commentEnd = 45 ∷ 45 ∷ 62 ∷ []
+commentEnd = ascii "-->"
 
--- `<![CDATA[` and `]]>`
 abbrev pub cdataMark : List ℕ
-cdataMark = 60 ∷ 33 ∷ 91 ∷ 67 ∷ 68 ∷ 65 ∷ 84 ∷ 65 ∷ 91 ∷ []
+cdataMark = ascii "<![CDATA["
 
 abbrev pub cdataEnd : List ℕ
-cdataEnd = 93 ∷ 93 ∷ 62 ∷ []
+cdataEnd = ascii "]]>"
 
--- `<?` and `?>`
 abbrev pub piMark : List ℕ
-piMark = 60 ∷ 63 ∷ []
+piMark = ascii "<?"
 
 abbrev pub piEnd : List ℕ
-piEnd = 63 ∷ 62 ∷ []
+piEnd = ascii "?>"
 
--- `<!`
 abbrev pub declMark : List ℕ
-declMark = 60 ∷ 33 ∷ []
+declMark = ascii "<!"
 
 -- `"` and `'`
 unfoldable pub quoteByte : ℕ → Bool
@@ -225,13 +222,17 @@ unfoldable pub prologEnd : List ℕ → ℕ
 prologEnd s = loop (length s) (prologTurn s) (λ i x. i) (skip s 0) tt
 
 -- ---- the whole text, with tables of n and m cells
+-- the nodes at top level, from p on
+abbrev pub topOf : List ℕ → ℕ → Out
+topOf s p = rowOf s (outerTurn s (elementOf 64 s)) p (fresh 0 0)
+
 unfoldable pub meaning : List ℕ → ℕ → ℕ → Out
 meaning s n m =
     cond (ltb n 49152) (bad 1 0)
     (cond (ltb m 32768) (bad 1 0)
     (cond (ltb 65536 (length s)) (bad 2 0)
     (cond (ltb (utf8End s) (length s)) (bad 3 (utf8End s))
-    (rowOf s (outerTurn s (elementOf 64 s)) (prologEnd s) (fresh 0 0)))))
+    (topOf s (prologEnd s)))))
 
 -- the answer, and the cells of the two tables
 unfoldable pub answerOf : Out → Answer

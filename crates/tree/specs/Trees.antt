@@ -35,7 +35,15 @@ join (text p n f) g = text p n (join f g)
 join (section p n f) g = section p n (join f g)
 join (elem p n l c f) g = elem p n l c (join f g)
 
--- a node's row: kind, the row after the subtree, place, length, first attribute, number of attributes
+-- ---- rows
+-- "the fixed length" of a table: 8,192 nodes of 6 numbers, 8,192 attributes of 4
+abbrev pub nodeTable : ℕ
+nodeTable = 49152
+
+abbrev pub attrTable : ℕ
+attrTable = 32768
+
+-- a node's row: kind (1 a text, 2 an element, 3 a section), the row after the subtree, place, length, first attribute, number of attributes
 unfoldable pub row : ℕ → ℕ → ℕ → ℕ → ℕ → ℕ → List ℕ
 row kind end place len first count = kind ∷ end ∷ place ∷ len ∷ first ∷ count ∷ []
 

@@ -52,7 +52,8 @@ fn parse_value(src: &[u8], attrs: &mut [u32], pos: usize, e: usize, eq: usize, c
 
 // The attribute at pos, where no blank, `>` or `/` stands.
 fn parse_attr(src: &[u8], attrs: &mut [u32], pos: usize, count: usize) -> Pair
-    requires { ⌜ (length (now src) ≤ 65536) × (32768 ≤ length (now attrs)) × (pos < length (now src)) × (nameByte (getD (now src) pos 0) ≡ true) × (count < 8192) ⌝ }
+    requires { ⌜ (length (now src) ≤ 65536) × (32768 ≤ length (now attrs)) × (pos < length (now src)) × (nameByte (getD (now src) pos 0) ≡ true)
+        × (count < 8192) ⌝ }
     ensures { λ r. ⌜ PairPost (attrAt (now (src .entry)) pos) (now (src .entry)) (now (attrs .entry)) (now (attrs .exit)) pos count r ⌝ }
 {
     let e = scan::over(src, pos, Class::AttrName);
@@ -84,8 +85,10 @@ fn parse_shut(src: &[u8], at: usize, n: usize) -> Tag
 
 // The attributes from pos on, where no blank stands, up to `>` or `/`.
 fn parse_tag(src: &[u8], attrs: &mut [u32], pos: usize, count: usize) -> Tag
-    requires { ⌜ (length (now src) ≤ 65536) × (32768 ≤ length (now attrs)) × (pos ≤ length (now src)) × (pos < length (now src) → blank (getD (now src) pos 0) ≡ false) × (count ≤ 8192) ⌝ }
-    ensures { λ r. ⌜ TagPost (tagFrom (now (src .entry)) pos (record { list = []; count = count })) (now (src .entry)) (now (attrs .entry)) (now (attrs .exit)) pos count r ⌝ }
+    requires { ⌜ (length (now src) ≤ 65536) × (32768 ≤ length (now attrs)) × (pos ≤ length (now src))
+        × (pos < length (now src) → blank (getD (now src) pos 0) ≡ false) × (count ≤ 8192) ⌝ }
+    ensures { λ r. ⌜ TagPost (tagFrom (now (src .entry)) pos (record { list = []; count = count })) (now (src .entry)) (now (attrs .entry))
+        (now (attrs .exit)) pos count r ⌝ }
 {
     let mut at = pos;
     let mut n = count;
@@ -124,7 +127,8 @@ fn parse_tag(src: &[u8], attrs: &mut [u32], pos: usize, count: usize) -> Tag
 
 // The start tag of the element at pos, from the end e of its name on.
 pub fn parse_start(src: &[u8], attrs: &mut [u32], pos: usize, e: usize, count: usize) -> Tag
-    requires { ⌜ (length (now src) ≤ 65536) × (32768 ≤ length (now attrs)) × (pos < length (now src)) × Ends nameByte (now src) (pos + 1) e × (count ≤ 8192) ⌝ }
+    requires { ⌜ (length (now src) ≤ 65536) × (32768 ≤ length (now attrs)) × (pos < length (now src)) × Ends nameByte (now src) (pos + 1) e
+        × (count ≤ 8192) ⌝ }
     ensures { λ r. ⌜ TagPost (startAt (now (src .entry)) pos e count) (now (src .entry)) (now (attrs .entry)) (now (attrs .exit)) e count r ⌝ }
 {
     if e == pos + 1 {

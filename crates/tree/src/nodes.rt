@@ -31,8 +31,10 @@ fn skip_comments(src: &[u8], pos: usize) -> usize
 
 // The text at pos, where no `<` stands.
 fn parse_text(src: &[u8], nodes: &mut [u32], pos: usize, k: usize, a: usize) -> Step
-    requires { ⌜ (length (now src) ≤ 65536) × (49152 ≤ length (now nodes)) × (pos < length (now src)) × (getD (now src) pos 0 ≡ 60 → ⊥) × (a ≤ 8192) ⌝ }
-    ensures { λ r. ⌜ ((u : List ℕ) → StepPost (textAt (now (src .entry)) pos k a) (now (src .entry)) (now (nodes .entry)) (now (nodes .exit)) u u pos k a r) ⌝ }
+    requires { ⌜ (length (now src) ≤ 65536) × (49152 ≤ length (now nodes)) × (pos < length (now src)) × (getD (now src) pos 0 ≡ 60 → ⊥)
+        × (a ≤ 8192) ⌝ }
+    ensures { λ r. ⌜ ((u : List ℕ) → StepPost (textAt (now (src .entry)) pos k a) (now (src .entry)) (now (nodes .entry)) (now (nodes .exit)) u u
+        pos k a r) ⌝ }
 {
     if MOST <= k {
         return Step::Refused(Refusal {
@@ -52,7 +54,8 @@ fn parse_text(src: &[u8], nodes: &mut [u32], pos: usize, k: usize, a: usize) -> 
 // The CDATA section that opens at pos.
 fn parse_section(src: &[u8], nodes: &mut [u32], pos: usize, k: usize, a: usize) -> Step
     requires { ⌜ (length (now src) ≤ 65536) × (49152 ≤ length (now nodes)) × (pos + 9 ≤ length (now src)) × (a ≤ 8192) ⌝ }
-    ensures { λ r. ⌜ ((u : List ℕ) → StepPost (sectionAt (now (src .entry)) pos k a) (now (src .entry)) (now (nodes .entry)) (now (nodes .exit)) u u pos k a r) ⌝ }
+    ensures { λ r. ⌜ ((u : List ℕ) → StepPost (sectionAt (now (src .entry)) pos k a) (now (src .entry)) (now (nodes .entry)) (now (nodes .exit)) u u
+        pos k a r) ⌝ }
 {
     if MOST <= k {
         return Step::Refused(Refusal {
@@ -105,7 +108,8 @@ pub fn parse_node(
     room: usize,
 ) -> Step
     requires { ⌜ Ready (now src) (now nodes) (now attrs) pos k a ⌝ }
-    ensures { λ r. ⌜ StepPost (nodeAt (now (src .entry)) (elementOf room (now (src .entry))) pos k a) (now (src .entry)) (now (nodes .entry)) (now (nodes .exit)) (now (attrs .entry)) (now (attrs .exit)) pos k a r ⌝ }
+    ensures { λ r. ⌜ StepPost (nodeAt (now (src .entry)) (elementOf room (now (src .entry))) pos k a) (now (src .entry)) (now (nodes .entry))
+        (now (nodes .exit)) (now (attrs .entry)) (now (attrs .exit)) pos k a r ⌝ }
 {
     let at = skip_comments(src, pos);
     if src.len() <= at {
@@ -134,7 +138,8 @@ fn parse_element(
     room: usize,
 ) -> Step
     requires { ⌜ Ready (now src) (now nodes) (now attrs) pos k a × (pos < length (now src)) ⌝ }
-    ensures { λ r. ⌜ StepPost (elementOf room (now (src .entry)) pos k a) (now (src .entry)) (now (nodes .entry)) (now (nodes .exit)) (now (attrs .entry)) (now (attrs .exit)) pos k a r ⌝ }
+    ensures { λ r. ⌜ StepPost (elementOf room (now (src .entry)) pos k a) (now (src .entry)) (now (nodes .entry)) (now (nodes .exit))
+        (now (attrs .entry)) (now (attrs .exit)) pos k a r ⌝ }
 {
     if room == 0 {
         return Step::Refused(Refusal {
@@ -185,7 +190,8 @@ fn parse_children(
     room: usize,
 ) -> Content
     requires { ⌜ Ready (now src) (now nodes) (now attrs) from k0 a0 ⌝ }
-    ensures { λ r. ⌜ ContentPost (contentOf room (now (src .entry)) from k0 a0) (now (src .entry)) (now (nodes .entry)) (now (nodes .exit)) (now (attrs .entry)) (now (attrs .exit)) from k0 a0 r ⌝ }
+    ensures { λ r. ⌜ ContentPost (contentOf room (now (src .entry)) from k0 a0) (now (src .entry)) (now (nodes .entry)) (now (nodes .exit))
+        (now (attrs .entry)) (now (attrs .exit)) from k0 a0 r ⌝ }
 {
     let mut pos = from;
     let mut k = k0;

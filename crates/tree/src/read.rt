@@ -1,8 +1,6 @@
 // The whole text: its limits, its top-level nodes, and the public call.
-ghost use mathlib.Core.Path.{_≡_};
-ghost use lib.ListN.{length};
-ghost use Rattle.tree.specs.Read.{outerTurn, elementOf, rowOf, fresh, meaning, answerOf, nodesOf, attrCells};
-ghost use Rattle.tree.specs.Posts.{Ready, ContentPost, LimitsPost};
+ghost use Rattle.tree.specs.Read.{topOf};
+ghost use Rattle.tree.specs.Posts.{Ready, ContentPost, LimitsPost, TreeRead};
 use crate::answers::Answer;
 use crate::answers::Content;
 use crate::answers::Cursor;
@@ -53,7 +51,8 @@ fn test_limits(src: &[u8], nodes: usize, attrs: usize) -> Limits
 // The nodes at top level, from the prolog's end on.
 fn parse_top(src: &[u8], nodes: &mut [u32], attrs: &mut [u32], from: usize) -> Content
     requires { ⌜ Ready (now src) (now nodes) (now attrs) from 0 0 ⌝ }
-    ensures { λ r. ⌜ ContentPost (rowOf (now (src .entry)) (outerTurn (now (src .entry)) (elementOf 64 (now (src .entry)))) from (fresh 0 0)) (now (src .entry)) (now (nodes .entry)) (now (nodes .exit)) (now (attrs .entry)) (now (attrs .exit)) from 0 0 r ⌝ }
+    ensures { λ r. ⌜ ContentPost (topOf (now (src .entry)) from) (now (src .entry))
+        (now (nodes .entry)) (now (nodes .exit)) (now (attrs .entry)) (now (attrs .exit)) from 0 0 r ⌝ }
 {
     let mut pos = from;
     let mut k = 0;
@@ -86,9 +85,7 @@ fn parse_top(src: &[u8], nodes: &mut [u32], attrs: &mut [u32], from: usize) -> C
 
 // The text read into the tables of nodes and attributes; after a refusal every cell is 0.
 pub fn read_tree(src: &[u8], nodes: &mut [u32], attrs: &mut [u32]) -> Answer
-    ensures { λ r. ⌜ r ≡ answerOf (meaning (now (src .entry)) (length (now (nodes .entry))) (length (now (attrs .entry)))) ⌝ }
-    ensures { λ _. ⌜ now (nodes .exit) ≡ nodesOf (length (now (nodes .entry))) (meaning (now (src .entry)) (length (now (nodes .entry))) (length (now (attrs .entry)))) ⌝ }
-    ensures { λ _. ⌜ now (attrs .exit) ≡ attrCells (length (now (attrs .entry))) (meaning (now (src .entry)) (length (now (nodes .entry))) (length (now (attrs .entry)))) ⌝ }
+    ensures { λ r. ⌜ TreeRead (now (src .entry)) (now (nodes .entry)) (now (attrs .entry)) r (now (nodes .exit)) (now (attrs .exit)) ⌝ }
 {
     scan::clear(nodes);
     scan::clear(attrs);

@@ -19,7 +19,8 @@ pub fn put_node(
     first: usize,
     many: usize,
 )
-    requires { ⌜ (count * 6 + 6 ≤ length (now cells)) × (kind < 2 ^ 32) × (end < 2 ^ 32) × (place < 2 ^ 32) × (len < 2 ^ 32) × (first < 2 ^ 32) × (many < 2 ^ 32) ⌝ }
+    requires { ⌜ (count * 6 + 6 ≤ length (now cells)) × (kind < 2 ^ 32) × (end < 2 ^ 32) × (place < 2 ^ 32) × (len < 2 ^ 32) × (first < 2 ^ 32)
+        × (many < 2 ^ 32) ⌝ }
     ensures { λ _. ⌜ now (cells .exit) ≡ sets (now (cells .entry)) (count * 6) (row kind end place len first many) ⌝ }
 {
     let at = count * 6;
@@ -41,7 +42,8 @@ pub fn put_attr(
     value_len: usize,
 )
     requires { ⌜ (count * 4 + 4 ≤ length (now cells)) × (name < 2 ^ 32) × («name_len» < 2 ^ 32) × (value < 2 ^ 32) × («value_len» < 2 ^ 32) ⌝ }
-    ensures { λ _. ⌜ now (cells .exit) ≡ sets (now (cells .entry)) (count * 4) (attrRow (record { name = name; nameLen = «name_len»; value = value; valueLen = «value_len» })) ⌝ }
+    ensures { λ _. ⌜ now (cells .exit) ≡ sets (now (cells .entry)) (count * 4)
+        (attrRow (record { name = name; nameLen = «name_len»; value = value; valueLen = «value_len» })) ⌝ }
 {
     let at = count * 4;
     cells[at] = name as u32;

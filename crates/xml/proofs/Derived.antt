@@ -4,16 +4,16 @@
 --     node-read, nodes-read          a node, and the nodes of a document
 --     placed-as-derived              the whole text
 use Prim.Native.Nat.{ℕ, zero, suc, _+_, _-_, _≤_, _<_}
-use mathlib.Core.Path.{_≡_, refl, sym, ap, ap₂, _∙_, subst, subst⁻¹}
-use mathlib.Core.Logic.{_⊎_, inl, inr}
-use mathlib.Core.Bool.{Bool, true, false, cond, true≢false}
+use mathlib.Core.Path.{_≡_, refl, sym, ap, _∙_, subst, subst⁻¹}
+use mathlib.Core.Logic.{inl, inr}
+use mathlib.Core.Bool.{true, false}
 use mathlib.Core.List.{List, [], _∷_, _++_, append-assoc, append-nil}
 use native.Mathlib.Omega.{arith}
-use lib.ListN.{length, getD, drop, length-append, drop-of-length-le}
-use lib.Dec.{eqb, ltb}
+use lib.ListN.{length, drop, length-append}
+use lib.Dec.{ltb}
 use borrow.Author.Tests.{lt-ltb, le-ltb, ltb-true, ltb-false}
 use Rattle.scan.specs.Loop.{Next, halt, more}
-use Rattle.scan.specs.Bytes.{blank, textByte, nameByte, other, runEnd}
+use Rattle.scan.specs.Bytes.{blank, textByte, other, runEnd}
 use Rattle.scan.specs.Marks as marks
 use Rattle.scan.specs.Marks.{startsAt, seek}
 use Rattle.scan.specs.Posts.{Passed}
@@ -21,24 +21,29 @@ use Rattle.scan.proofs.Loop.{loop-out, loop-halt, loop-more}
 use Rattle.grammar.specs.Words.{Bytes, _then_, Only, Stops, Begins, Lacks, EndsAtFirst, closed, unclosed}
 use Rattle.grammar.specs.Tree.{Tree, Forest, Attr}
 use Rattle.grammar.specs.Tree.{`>`, `/`, `</`, `<!--`, `<![CDATA[`, `]]>`}
-use Rattle.grammar.specs.Grammar.{Blanks, Name, Opening, Comment, Before, a-comment, no-comment, Node, a-text, a-section, last-section, an-element, Element, without-content, with-content, Content, Nodes, Document, document}
+use Rattle.grammar.specs.Grammar.{Blanks, Name, Opening, Comment, Before, a-comment, no-comment, Node, a-text, a-section, last-section}
+use Rattle.grammar.specs.Grammar.{an-element, Element, without-content, with-content, Content, Nodes, Document, document}
 use Rattle.grammar.specs.Scan.{prefix, from}
-use Rattle.grammar.specs.Reader.{NodeKind, as-text, as-section, as-element, Kind, as-close, as-comment, as-node, kind}
+use Rattle.grammar.proofs.Reader.{NodeKind, as-text, as-section, as-element, Kind, as-close, as-comment, as-node, kind}
 use Rattle.grammar.proofs.Tests.{by-test}
 use Rattle.grammar.proofs.Scans.{begins-prefix, from-first, from-lacks}
-use Rattle.grammar.proofs.Complete.{blank-gt, tag-end-stops, kind-text, kind-close, kind-element, Tagged, tagged-append, element-tagged, element-mark, not-begins, comment-length, begins-more, node-complete, prolog-complete}
+use Rattle.grammar.proofs.Complete.{blank-gt, tag-end-stops, kind-text, kind-close, kind-element, Tagged, tagged-append, element-tagged}
+use Rattle.grammar.proofs.Complete.{element-mark, not-begins, comment-length, begins-more, node-complete, prolog-complete}
 use Rattle.derivation.proofs.SearchLaws.{from-at, sought, passed}
 use Rattle.derivation.proofs.NodeKinds.{comment-only, Here, closes, here}
 use Rattle.derivation.proofs.NodeKinds as kinds
 use Rattle.derivation.proofs.Prologs.{prolog-agrees}
 use Rattle.tree.specs.Trees as placed
 use Rattle.tree.specs.Trees.{join}
-use Rattle.tree.specs.Read.{Out, got, nothing, bad, TagOut, opened, shut, torn, TagState, gt, closeMark, commentMark, commentEnd, cdataEnd, skip, slash, tagTurn, tagFrom, startAt, Reader, textAt, sectionAt, nodeHere, nodeAt, State, nodeNext, closeAt, innerTurn, outerTurn, rowOf, fresh, enclose, tagged, elementBy, elementOf, contentOf, prologEnd, meaning}
+use Rattle.tree.specs.Read.{Out, got, nothing, bad, opened, shut, TagState, gt, closeMark, commentMark, commentEnd, cdataEnd, skip, slash}
+use Rattle.tree.specs.Read.{tagTurn, tagFrom, startAt, Reader, textAt, sectionAt, nodeHere, nodeAt, State, nodeNext, closeAt, innerTurn}
+use Rattle.tree.specs.Read.{outerTurn, rowOf, fresh, enclose, tagged, elementBy, elementOf, contentOf, prologEnd, meaning}
 use Rattle.tree.specs.Posts.{Fits}
 use Rattle.tree.proofs.NodeLaws.{comment-on, comment-here, comment-out}
 use Rattle.tree.proofs.Whole.{in-range}
 use Rattle.xml.specs.Where.{openingPlaced, NodePlaced, ElementPlaced, ContentPlaced, nodePlaced, nodesPlaced, documentPlaced}
-use Rattle.xml.proofs.Standing.{At, at-length, at-one, at-on, at-same, at-some, at-byte, at-starts, run-to, beyond-to, name-to, StartAt, start-at}
+use Rattle.xml.proofs.Standing.{At, at-length, at-one, at-on, at-same, at-some, at-byte, at-starts, run-to, beyond-to, name-to, StartAt}
+use Rattle.xml.proofs.Standing.{start-at}
 
 -- ---- the places of elements and contents
 module _ (long : Bytes → ℕ) where
@@ -162,7 +167,8 @@ section-read s p k a d after f h =
     let first : (u v : Bytes) → d ++ `]]>` ≡ u ++ (`]]>` ++ v) → v ≡ [] = f .first in
     let i : At s (p + 9) ((d ++ `]]>`) ++ after) = at-on s `<![CDATA[` ((d ++ `]]>`) ++ after) h in
     let j : At s (seek cdataEnd s (p + 9)) (`]]>` ++ after) =
-    record { is = sym (from-at cdataEnd s (p + 9)) ∙ ap (from cdataEnd) (i .is) ∙ from-first 93 (93 ∷ 62 ∷ []) d after first; within = sought cdataEnd s (p + 9) (i .within) .within } in
+    record { is = sym (from-at cdataEnd s (p + 9)) ∙ ap (from cdataEnd) (i .is) ∙ from-first 93 (93 ∷ 62 ∷ []) d after first; within =
+        sought cdataEnd s (p + 9) (i .within) .within } in
     let e : seek cdataEnd s (p + 9) ≡ p + 9 + length d = at-one s j (at-on s d (`]]>` ++ after) (at-same s refl (append-assoc d `]]>` after) i)) in
     section-as s p k a (length d) (p + 9 + length (d ++ `]]>`)) _ e (beyond-to s 93 (93 ∷ 62 ∷ []) (d ++ `]]>`) after i (closed f)) (omega arith)
 
@@ -171,7 +177,8 @@ last-read : (s : List ℕ) (p k a : ℕ) (d : Bytes) → Lacks `]]>` d → At s 
 last-read s p k a d f h =
     let i : At s (p + 9) (d ++ []) = at-on s `<![CDATA[` (d ++ []) h in
     let j : At s (seek cdataEnd s (p + 9)) [] =
-    record { is = sym (from-at cdataEnd s (p + 9)) ∙ ap (from cdataEnd) (i .is ∙ append-nil d) ∙ from-lacks cdataEnd d f; within = sought cdataEnd s (p + 9) (i .within) .within } in
+    record { is = sym (from-at cdataEnd s (p + 9)) ∙ ap (from cdataEnd) (i .is ∙ append-nil d) ∙ from-lacks cdataEnd d f; within =
+        sought cdataEnd s (p + 9) (i .within) .within } in
     let e : seek cdataEnd s (p + 9) ≡ p + 9 + length d = at-one s j (at-on s d [] i) in
     section-as s p k a (length d) (p + 9 + length d) _ e (beyond-to s 93 (93 ∷ 62 ∷ []) d [] i (unclosed f)) (omega arith)
 
@@ -181,7 +188,8 @@ module _ (s : List ℕ) where
   unfolding tagFrom tagTurn
   open-tag q x z h = loop-halt (length s) (tagTurn s) _ q x _ (at-some s 62 z h) (rw (at-byte s 62 z h))
 
-  shut-tag : (q : ℕ) (x : TagState) (b z : Bytes) → At s q (47 ∷ (b ++ (62 ∷ z))) → Only blank b → tagFrom s q x ≡ shut (x .list) (q + 1 + length b + 1) (x .count)
+  shut-tag : (q : ℕ) (x : TagState) (b z : Bytes) → At s q (47 ∷ (b ++ (62 ∷ z))) → Only blank b → tagFrom s q x
+      ≡ shut (x .list) (q + 1 + length b + 1) (x .count)
   unfolding tagFrom tagTurn slash
   shut-tag q x b z h o =
       let a : At s (q + 1) (b ++ (62 ∷ z)) = at-on s (47 ∷ []) (b ++ (62 ∷ z)) h in
@@ -189,19 +197,23 @@ module _ (s : List ℕ) where
       let t : startsAt s (q + 1 + length b) gt ≡ true = at-starts s gt (62 ∷ z) (at-on s b (62 ∷ z) a) in
       loop-halt (length s) (tagTurn s) _ q x _ (at-some s 47 (b ++ (62 ∷ z)) h) (rw (at-byte s 47 (b ++ (62 ∷ z)) h, e, t))
 
-  element-by : {p : ℕ} {after o n : Bytes} {l : List Attr} (x : Opening after o n l) → Stops blank after → At s p (o ++ after) → (inner : Reader) (k a : ℕ)
-      (g : placed.Forest) (P : ℕ → Type 0) → ((j : ℕ) → Right g P (tagged inner p (length n) k (tagFrom s (p + length o) (record { list = openingPlaced length x p; count = j }))))
+  element-by : {p : ℕ} {after o n : Bytes} {l : List Attr} (x : Opening after o n l) → Stops blank after → At s p (o ++ after)
+      → (inner : Reader) (k a : ℕ)
+      (g : placed.Forest) (P : ℕ → Type 0) → ((j : ℕ) → Right g P
+          (tagged inner p (length n) k (tagFrom s (p + length o) (record { list = openingPlaced length x p; count = j }))))
       → Right g P (elementBy s inner p k a)
   unfolding elementBy tagged
   element-by {p} {o = o} {n = n} x t h inner k a g P r =
       let m : p + 1 + length n - (p + 1) ≡ length n = omega arith in
       by-test (ltb k 8192) (λ e. rw (e, name-to s x h, m) (go (start-at s x t h a))) (λ e. rw e tt)
     where
-      go : StartAt s p (p + 1 + length n) a (p + length o) (openingPlaced length x p) → Right g P (tagged inner p (length n) k (startAt s p (p + 1 + length n) a))
+      go : StartAt s p (p + 1 + length n) a (p + length o) (openingPlaced length x p)
+          → Right g P (tagged inner p (length n) k (startAt s p (p + 1 + length n) a))
       go (inl w) = rw (w .2) tt
       go (inr w) = rw (w .1) (r (w .0))
 
-  enclosed : (p n : ℕ) (l : List placed.Attr) (c : placed.Forest) (P : ℕ → Type 0) (o : Out) → Right c P o → Right (placed.elem p n l c placed.nil) P (enclose p n l o)
+  enclosed : (p n : ℕ) (l : List placed.Attr) (c : placed.Forest) (P : ℕ → Type 0) (o : Out) → Right c P o
+      → Right (placed.elem p n l c placed.nil) P (enclose p n l o)
   unfolding enclose
   enclosed p n l c P (got f q k a) r = (ap (λ f. placed.elem p n l f placed.nil) (r .0), r .1)
   enclosed p n l c P (nothing q) r = r
@@ -209,7 +221,8 @@ module _ (s : List ℕ) where
 
   without-read : (p : ℕ) (after o b n : Bytes) {l : List Attr} (x : Opening (`/` then b then `>` then after) o n l) → Blanks b
       → At s p ((o then `/` then b then `>`) ++ after) → (D k a : ℕ)
-      → Right (placed.elem p (length n) (openingPlaced length x p) placed.nil placed.nil) (λ q. q ≡ p + length (o then `/` then b then `>`)) (elementOf D s p k a)
+      → Right (placed.elem p (length n) (openingPlaced length x p) placed.nil placed.nil) (λ q. q ≡ p + length (o then `/` then b then `>`))
+          (elementOf D s p k a)
   unfolding elementOf tagged
   without-read p after o b n x y h zero k a = tt
   without-read p after o b n x y h (suc D) k a =
@@ -223,7 +236,8 @@ module _ (s : List ℕ) where
   with-read : (p : ℕ) (after o c n : Bytes) {l : List Attr} (x : Opening (`>` then c then after) o n l) (g : ℕ → placed.Forest)
       → ((q D j b : ℕ) → At s q (c ++ after) → Right (g q) (λ r. r ≡ q + length c) (contentOf D s q j b))
       → At s p ((o then `>` then c) ++ after) → (D k a : ℕ)
-      → Right (placed.elem p (length n) (openingPlaced length x p) (g (p + length o + 1)) placed.nil) (λ q. q ≡ p + length (o then `>` then c)) (elementOf D s p k a)
+      → Right (placed.elem p (length n) (openingPlaced length x p) (g (p + length o + 1)) placed.nil) (λ q. q ≡ p + length (o then `>` then c))
+          (elementOf D s p k a)
   unfolding elementOf tagged
   with-read p after o c n x g r h zero k a = tt
   with-read p after o c n x g r h (suc D) k a =
@@ -233,7 +247,8 @@ module _ (s : List ℕ) where
       let m : p + length o + 1 + length c ≡ p + length (o then `>` then c) = simp length-append (omega arith) in
       element-by x (tag-end-stops (62, c ++ after, refl, refl)) i (contentOf D s) k a _ _
       (λ j. rw (open-tag (p + length o) (record { list = openingPlaced length x p; count = j }) (c ++ after) q, ← m)
-      (enclosed p (length n) (openingPlaced length x p) (g (p + length o + 1)) _ _ (r (p + length o + 1) D (k + 1) j (at-on s (62 ∷ []) (c ++ after) q))))
+      (enclosed p (length n) (openingPlaced length x p) (g (p + length o + 1)) _ _
+          (r (p + length o + 1) D (k + 1) j (at-on s (62 ∷ []) (c ++ after) q))))
 
 -- ---- nodes in a row
 module _ (s : List ℕ) (el : Reader) (turn : ℕ → State → Next State Out) where
@@ -255,7 +270,8 @@ module _ (s : List ℕ) (el : Reader) (turn : ℕ → State → Next State Out) 
   ahead-next p x (bad n r) h q y e = let z : _≡_ {A = ℕ} 0 1 = cc in absurd (omega arith)
 
   -- the loop goes on with the node
-  row-open : (p : ℕ) (x : State) → p < length s → turn p x ≡ nodeNext x (here-out p x) → Ahead p (here-out p x) → rowOf s turn p x ≡ finish (nodeNext x (here-out p x))
+  row-open : (p : ℕ) (x : State) → p < length s → turn p x ≡ nodeNext x (here-out p x) → Ahead p (here-out p x) → rowOf s turn p x
+      ≡ finish (nodeNext x (here-out p x))
   unfolding rowOf
   row-open p x h t d = by (nodeNext x (here-out p x)) refl
     where
@@ -283,17 +299,21 @@ module _ (s : List ℕ) (el : Reader) (turn : ℕ → State → Next State Out) 
     where
       go : (o : Out) → Right f (λ q. q ≡ r) o → Ahead p o × Right (join (x .forest) (join f g)) P (finish (nodeNext x o))
       go (got f′ q k a) e =
-          (omega (arith, e .1), rw (e .0, e .1) (subst (λ z. Right z P (rowOf s turn r (record { forest = join (x .forest) f; nodes = k; attrs = a }))) (join-assoc (x .forest) f g) (rest (record { forest = join (x .forest) f; nodes = k; attrs = a }))))
+          (omega (arith, e .1), rw (e .0, e .1) (subst (λ z.
+              Right z P (rowOf s turn r (record { forest = join (x .forest) f; nodes = k; attrs = a }))) (join-assoc (x .forest) f g)
+              (rest (record { forest = join (x .forest) f; nodes = k; attrs = a }))))
       go (nothing q) e = absurd e
       go (bad n q) e = (tt, tt)
 
 -- ---- a node and its later siblings
-element-joined : {after w : Bytes} {t : Tree} (e : Element after w t) (p : ℕ) (later : placed.Forest) → elementPlaced length e p later ≡ join (elementPlaced length e p placed.nil) later
+element-joined : {after w : Bytes} {t : Tree} (e : Element after w t) (p : ℕ) (later : placed.Forest) → elementPlaced length e p later
+    ≡ join (elementPlaced length e p placed.nil) later
 unfolding elementPlaced join
 element-joined (without-content x y) p later = refl
 element-joined (with-content x d) p later = refl
 
-node-joined : {after w : Bytes} {t : Tree} (d : Node after w t) (p : ℕ) (later : placed.Forest) → nodePlaced length d p later ≡ join (nodePlaced length d p placed.nil) later
+node-joined : {after w : Bytes} {t : Tree} (d : Node after w t) (p : ℕ) (later : placed.Forest) → nodePlaced length d p later
+    ≡ join (nodePlaced length d p placed.nil) later
 unfolding nodePlaced elementPlaced join
 node-joined (a-text h) p later = refl
 node-joined (a-section e) p later = refl
@@ -322,7 +342,8 @@ module _ (s : List ℕ) (D p : ℕ) (x : State) where
       let l : p + length (`</` ++ d) < length s = at-some s 62 after (at-on s (`</` ++ d) (62 ∷ after) i) in
       let t : startsAt s p closeMark ≡ true = at-starts s closeMark ((`</` ++ d) ++ (62 ∷ after)) i in
       let m : p + length (`</` ++ d) + 1 ≡ p + length (`</` then d then `>`) = omega (arith, length-append d (62 ∷ [])) in
-      rw (loop-halt (length s) (innerTurn s (elementOf D s)) _ p x (closeAt s p x) (omega arith) (rw t), g, lt-ltb (p + length (`</` ++ d)) (length s) l)
+      rw (loop-halt (length s) (innerTurn s (elementOf D s)) _ p x (closeAt s p x) (omega arith) (rw t), g,
+          lt-ltb (p + length (`</` ++ d)) (length s) l)
       (sym (join-nil (x .forest)), m)
 
   end-here : (el : Reader) → length s ≤ p → nodeAt s el p (x .nodes) (x .attrs) ≡ nothing p
@@ -331,7 +352,8 @@ module _ (s : List ℕ) (D p : ℕ) (x : State) where
 
   close-here : (el : Reader) (z : Bytes) → Begins `</` z → At s p z → nodeAt s el p (x .nodes) (x .attrs) ≡ nothing p
   close-here el z b h =
-      stands-here s el p (x .nodes) (x .attrs) z h (rw (b .1) (omega arith)) (rw (b .1) refl) ∙ ap (picked s el p (x .nodes) (x .attrs)) (kind-close z b)
+      stands-here s el p (x .nodes) (x .attrs) z h (rw (b .1) (omega arith)) (rw (b .1) refl)
+          ∙ ap (picked s el p (x .nodes) (x .attrs)) (kind-close z b)
 
   comment-here-out : (el : Reader) (u after : Bytes) → Comment after u → At s p (u ++ after)
       → nodeAt s el p (x .nodes) (x .attrs) ≡ nodeAt s el (p + length u) (x .nodes) (x .attrs)
@@ -339,7 +361,8 @@ module _ (s : List ℕ) (D p : ℕ) (x : State) where
   comment-here-out el u after c h =
       let e : marks.past commentEnd s p ≡ p + length u = beyond-to s 45 (45 ∷ 62 ∷ []) u after h (c .ends) in
       let w : Passed commentEnd s p (p + length u) = subst (Passed commentEnd s p) e (passed commentEnd s p (h .within)) in
-      let t : startsAt s p commentMark ≡ true = at-starts s commentMark (u ++ after) h ∙ begins-prefix `<!--` (u ++ after) (begins-more `<!--` u after (c .opens)) in
+      let t : startsAt s p commentMark ≡ true = at-starts s commentMark (u ++ after) h
+          ∙ begins-prefix `<!--` (u ++ after) (begins-more `<!--` u after (c .opens)) in
       rw (comment-on s p (p + length u) (omega (arith, at-length s h, length-append u after, comment-length c)) t w)
 
   comment-starts : (u after : Bytes) → Comment after u → At s p (u ++ after) → (p < length s) × (startsAt s p closeMark ≡ false)
@@ -348,7 +371,8 @@ module _ (s : List ℕ) (D p : ℕ) (x : State) where
     comment-only s p (at-starts s commentMark (u ++ after) h ∙ begins-prefix `<!--` (u ++ after) (begins-more `<!--` u after (c .opens))),
   )
 
-  node-starts : (u after : Bytes) {t : Tree} → Node after u t → At s p (u ++ after) → (p < p + length u) × (p < length s) × (startsAt s p closeMark ≡ false)
+  node-starts : (u after : Bytes) {t : Tree} → Node after u t → At s p (u ++ after) → (p < p + length u) × (p < length s)
+      × (startsAt s p closeMark ≡ false)
   node-starts u after d h =
       let k = node-complete d (length (u ++ after)) (omega arith) in (
         omega (arith, k .some-byte),
@@ -358,13 +382,18 @@ module _ (s : List ℕ) (D p : ℕ) (x : State) where
 
 -- ---- the theorem of a node, by its derivation
 abbrev NodeR : (after w : Bytes) (t : Tree) → Node after w t → Type 0
-NodeR after w t d = (s : List ℕ) (p : ℕ) → At s p (w ++ after) → (D k a : ℕ) → Right (nodePlaced length d p placed.nil) (λ q. q ≡ p + length w) (nodeAt s (elementOf D s) p k a)
+NodeR after w t d =
+    (s : List ℕ) (p : ℕ) → At s p (w ++ after) → (D k a : ℕ)
+    → Right (nodePlaced length d p placed.nil) (λ q. q ≡ p + length w) (nodeAt s (elementOf D s) p k a)
 
 abbrev ElementR : (after w : Bytes) (t : Tree) → Element after w t → Type 0
-ElementR after w t d = (s : List ℕ) (p : ℕ) → At s p (w ++ after) → (D k a : ℕ) → Right (elementPlaced length d p placed.nil) (λ q. q ≡ p + length w) (elementOf D s p k a)
+ElementR after w t d =
+    (s : List ℕ) (p : ℕ) → At s p (w ++ after) → (D k a : ℕ)
+    → Right (elementPlaced length d p placed.nil) (λ q. q ≡ p + length w) (elementOf D s p k a)
 
 abbrev ContentR : (b : Before) (after w : Bytes) (f : Forest) → Content b after w f → Type 0
-ContentR b after w f d = (s : List ℕ) (p : ℕ) → At s p (w ++ after) → (D : ℕ) (x : State) → Rests b s D p x (contentPlaced length d p) (λ q. q ≡ p + length w)
+ContentR b after w f d =
+    (s : List ℕ) (p : ℕ) → At s p (w ++ after) → (D : ℕ) (x : State) → Rests b s D p x (contentPlaced length d p) (λ q. q ≡ p + length w)
 
 node-as : (s : List ℕ) (p D k a : ℕ) (z : Bytes) (i : NodeKind) (g : placed.Forest) (P : ℕ → Type 0) → At s p z → 0 < length z → kind z ≡ as-node i
     → Right g P (picked s (elementOf D s) p k a (as-node i)) → Right g P (nodeAt s (elementOf D s) p k a)
@@ -375,7 +404,8 @@ text-r : (after w : Bytes) (h : Name textByte after w) → NodeR after w _ (a-te
 unfolding nodePlaced
 text-r after [] h s p at D k a = absurd (h .some-byte refl)
 text-r after (c ∷ w) h s p at D k a =
-    node-as s p D k a (c ∷ (w ++ after)) as-text _ _ at (omega arith) (kind-text c (w ++ after) (h .run .only .0)) (text-read s p k a (c ∷ w) after h at)
+    node-as s p D k a (c ∷ (w ++ after)) as-text _ _ at (omega arith) (kind-text c (w ++ after) (h .run .only .0))
+        (text-read s p k a (c ∷ w) after h at)
 
 section-r : (after d : Bytes) (e : EndsAtFirst `]]>` (d then `]]>`)) → NodeR after (`<![CDATA[` then d then `]]>`) _ (a-section {d = d} e)
 unfolding nodePlaced
@@ -385,16 +415,20 @@ last-r : (d : Bytes) (e : Lacks `]]>` d) → NodeR [] (`<![CDATA[` then d) _ (la
 unfolding nodePlaced
 last-r d e s p at D k a = node-as s p D k a _ as-section _ _ at (omega arith) refl (last-read s p k a d e at)
 
-element-r : (after w : Bytes) {t : Tree} (h : ¬ Begins `<!--` w) (k : ¬ Begins `<![CDATA[` w) (e : Element after w t) → ElementR after w t e → NodeR after w t (an-element h k e)
+element-r : (after w : Bytes) {t : Tree} (h : ¬ Begins `<!--` w) (k : ¬ Begins `<![CDATA[` w) (e : Element after w t) → ElementR after w t e
+    → NodeR after w t (an-element h k e)
 unfolding nodePlaced elementPlaced
 element-r after w h k e ih s p at D i a =
-    node-as s p D i a (w ++ after) as-element _ _ at (rw (tagged-append w after (element-tagged e) .is) (omega arith)) (element-kind h k e) (ih s p at D i a)
+    node-as s p D i a (w ++ after) as-element _ _ at (rw (tagged-append w after (element-tagged e) .is) (omega arith)) (element-kind h k e)
+        (ih s p at D i a)
 
-without-r : (after o b n : Bytes) {l : List Attr} (x : Opening (`/` then b then `>` then after) o n l) (y : Blanks b) → ElementR after (o then `/` then b then `>`) _ (without-content x y)
+without-r : (after o b n : Bytes) {l : List Attr} (x : Opening (`/` then b then `>` then after) o n l) (y : Blanks b)
+    → ElementR after (o then `/` then b then `>`) _ (without-content x y)
 unfolding elementPlaced
 without-r after o b n x y s p at D k a = without-read s p after o b n x y at D k a
 
-with-r : (after o c n : Bytes) {l : List Attr} {f : Forest} (x : Opening (`>` then c then after) o n l) (d : Content no-comment after c f) → ContentR no-comment after c f d
+with-r : (after o c n : Bytes) {l : List Attr} {f : Forest} (x : Opening (`>` then c then after) o n l) (d : Content no-comment after c f)
+    → ContentR no-comment after c f d
     → ElementR after (o then `>` then c) _ (with-content x d)
 unfolding elementPlaced contentPlaced join
 with-r after o c n x d ih s p at D k a = with-read s p after o c n x (contentPlaced length d) (λ q E j b h. ih s q h E (fresh j b)) at D k a
@@ -405,15 +439,18 @@ close-r after d o s p at D x = close-read s D p x d after o at
 
 end-r : (b : Before) → ContentR b [] [] _ Content.end-of-text
 unfolding contentPlaced rowOf
-end-r a-comment s p at D x = none-open s (elementOf D s) (innerTurn s (elementOf D s)) p x _ (end-here s D p x (elementOf D s) (omega (arith, at-length s at))) (omega arith)
+end-r a-comment s p at D x =
+    none-open s (elementOf D s) (innerTurn s (elementOf D s)) p x _ (end-here s D p x (elementOf D s) (omega (arith, at-length s at))) (omega arith)
 end-r no-comment s p at D x =
     rw (loop-out (length s) (innerTurn s (elementOf D s)) _ p x (omega (arith, at-length s at))) (sym (join-nil (x .forest)), omega arith)
 
 before-r : (after : Bytes) (h : Begins `</` after) → ContentR a-comment after [] _ (Content.before-close h)
 unfolding contentPlaced
-before-r after h s p at D x = none-open s (elementOf D s) (innerTurn s (elementOf D s)) p x _ (close-here s D p x (elementOf D s) after h at) (omega arith)
+before-r after h s p at D x =
+    none-open s (elementOf D s) (innerTurn s (elementOf D s)) p x _ (close-here s D p x (elementOf D s) after h at) (omega arith)
 
-comment-r : (b : Before) (after u w : Bytes) {f : Forest} (c : Comment (w then after) u) (d : Content a-comment after w f) → ContentR a-comment after w f d
+comment-r : (b : Before) (after u w : Bytes) {f : Forest} (c : Comment (w then after) u) (d : Content a-comment after w f)
+    → ContentR a-comment after w f d
     → ContentR b after (u then w) f (Content.comment {p = b} c d)
 unfolding contentPlaced
 comment-r b after u w c d ih s p at D x =
@@ -421,10 +458,12 @@ comment-r b after u w c d ih s p at D x =
     let z = comment-starts s D p x u (w ++ after) c i in
     let m : p + length u + length w ≡ p + length (u then w) = omega (arith, length-append u w) in
     rests s D p x b _ _ (z .0) (z .1)
-    (comment-open s (elementOf D s) (innerTurn s (elementOf D s)) p (p + length u) x _ _ (comment-here-out s D p x (elementOf D s) u (w ++ after) c i) (omega arith)
+    (comment-open s (elementOf D s) (innerTurn s (elementOf D s)) p (p + length u) x _ _
+        (comment-here-out s D p x (elementOf D s) u (w ++ after) c i) (omega arith)
     (rw (← m) (ih s (p + length u) (at-on s u (w ++ after) i) D x)))
 
-node-r : (b : Before) (after u w : Bytes) {t : Tree} {f : Forest} (n : Node (w then after) u t) → NodeR (w then after) u t n → (d : Content no-comment after w f)
+node-r : (b : Before) (after u w : Bytes) {t : Tree} {f : Forest} (n : Node (w then after) u t) → NodeR (w then after) u t n
+    → (d : Content no-comment after w f)
     → ContentR no-comment after w f d → ContentR b after (u then w) _ (Content.node {p = b} n d)
 unfolding contentPlaced nodePlaced
 node-r b after u w n hn d ih s p at D x =
@@ -432,8 +471,10 @@ node-r b after u w n hn d ih s p at D x =
     let z = node-starts s D p x u (w ++ after) n i in
     let m : p + length u + length w ≡ p + length (u then w) = omega (arith, length-append u w) in
     rests s D p x b _ _ (z .1) (z .2)
-    (rw (← m) (subst⁻¹ (λ g. Open s (elementOf D s) (innerTurn s (elementOf D s)) p x g (λ q. q ≡ p + length u + length w)) (node-joined n p (contentPlaced length d (p + length u)))
-    (node-open s (elementOf D s) (innerTurn s (elementOf D s)) p (p + length u) x (nodePlaced length n p placed.nil) (contentPlaced length d (p + length u)) _ (z .0) (hn s p i D (x .nodes) (x .attrs))
+    (rw (← m) (subst⁻¹ (λ g. Open s (elementOf D s) (innerTurn s (elementOf D s)) p x g (λ q. q ≡ p + length u + length w))
+        (node-joined n p (contentPlaced length d (p + length u)))
+    (node-open s (elementOf D s) (innerTurn s (elementOf D s)) p (p + length u) x (nodePlaced length n p placed.nil)
+        (contentPlaced length d (p + length u)) _ (z .0) (hn s p i D (x .nodes) (x .attrs))
     (λ y. ih s (p + length u) (at-on s u (w ++ after) i) D y))))
 
 pub node-read : {after w : Bytes} {t : Tree} (d : Node after w t) → NodeR after w t d
@@ -460,7 +501,8 @@ module _ (s : List ℕ) (D : ℕ) where
   abbrev anywhere : ℕ → Type 0
   anywhere q = Unit {0}
 
-  row-of : (p : ℕ) (x : State) (g : placed.Forest) → p ≤ length s → Open s (elementOf D s) outer p x g anywhere → Right (join (x .forest) g) anywhere (rowOf s outer p x)
+  row-of : (p : ℕ) (x : State) (g : placed.Forest) → p ≤ length s → Open s (elementOf D s) outer p x g anywhere
+      → Right (join (x .forest) g) anywhere (rowOf s outer p x)
   unfolding outerTurn rowOf nodeNext
   row-of p x g h o =
       by-test (ltb p (length s))
@@ -468,7 +510,8 @@ module _ (s : List ℕ) (D : ℕ) where
       (λ e. let l : length s ≤ p = ltb-false p (length s) e in
       rw (loop-out (length s) outer _ p x l) (rw (end-here s D p x (elementOf D s) l) at (o .1)))
 
-  nodes-open : {z : Bytes} {f : Forest} (d : Nodes z f) (p : ℕ) → At s p z → (x : State) → Open s (elementOf D s) outer p x (nodesPlaced length d p) anywhere
+  nodes-open : {z : Bytes} {f : Forest} (d : Nodes z f) (p : ℕ) → At s p z → (x : State)
+      → Open s (elementOf D s) outer p x (nodesPlaced length d p) anywhere
   unfolding nodesPlaced
   nodes-open Nodes.end-of-text p at x = none-open s (elementOf D s) outer p x _ (end-here s D p x (elementOf D s) (omega (arith, at-length s at))) tt
   nodes-open (Nodes.before-close {s = z} h) p at x = none-open s (elementOf D s) outer p x _ (close-here s D p x (elementOf D s) z h at) tt
@@ -478,14 +521,17 @@ module _ (s : List ℕ) (D : ℕ) where
   nodes-open (Nodes.node {u = u} {s = z} n d) p at x =
       let k : At s (p + length u) z = at-on s u z at in
       subst⁻¹ (λ g. Open s (elementOf D s) outer p x g anywhere) (node-joined n p (nodesPlaced length d (p + length u)))
-      (node-open s (elementOf D s) outer p (p + length u) x (nodePlaced length n p placed.nil) (nodesPlaced length d (p + length u)) _ (node-starts s D p x u z n at .0)
-      (node-read n s p at D (x .nodes) (x .attrs)) (λ y. row-of (p + length u) y (nodesPlaced length d (p + length u)) (k .within) (nodes-open d (p + length u) k y)))
+      (node-open s (elementOf D s) outer p (p + length u) x (nodePlaced length n p placed.nil) (nodesPlaced length d (p + length u)) _
+          (node-starts s D p x u z n at .0)
+      (node-read n s p at D (x .nodes) (x .attrs)) (λ y. row-of (p + length u) y (nodesPlaced length d (p + length u)) (k .within)
+          (nodes-open d (p + length u) k y)))
 
 -- ---- the whole text
 right-got : (g : placed.Forest) (P : ℕ → Type 0) (o : Out) (f : placed.Forest) (q k a : ℕ) → o ≡ got f q k a → Right g P o → f ≡ g
 right-got g P o f q k a e r = (rw e at r) .0
 
-pub placed-as-derived : {s : Bytes} {f : Forest} (d : Document s f) (n m : ℕ) → Fits s n m → (g : placed.Forest) (q k a : ℕ) → meaning s n m ≡ got g q k a → g ≡ documentPlaced length d
+pub placed-as-derived : {s : Bytes} {f : Forest} (d : Document s f) (n m : ℕ) → Fits s n m → (g : placed.Forest) (q k a : ℕ) → meaning s n m
+    ≡ got g q k a → g ≡ documentPlaced length d
 unfolding documentPlaced join
 placed-as-derived (document {p = p} {s = z} x y d) n m fits g q k a e =
     let s : Bytes = p then z in

@@ -5,15 +5,13 @@
 use Prim.Native.Nat.{ℕ, _+_, _-_, _≤_, _<_}
 use mathlib.Core.Path.{_≡_, refl, sym, ap, _∙_}
 use mathlib.Core.Logic.{_⊎_, inl, inr}
-use mathlib.Core.Bool.{Bool, true, false}
 use mathlib.Core.List.{List, [], _∷_, _++_}
 use native.Mathlib.Omega.{arith}
-use lib.ListN.{length, getD, take, drop}
+use lib.ListN.{length, getD, drop}
 use lib.Seq.{getD-take, getD-drop, ext-getD}
 use lib.Dec.{ltb}
 use borrow.Author.Tests.{ltb-true, ltb-false}
 use Rattle.scan.specs.Part.{stringAt}
-use Rattle.grammar.specs.Tree as tree
 use Rattle.grammar.specs.Tree.{Forest}
 use Rattle.grammar.specs.Demand.{Result}
 use Rattle.grammar.specs.Demand as demand
@@ -23,7 +21,7 @@ use Rattle.tree.specs.Trees.{Attr, nil, text, section, elem, Span, attrSpans, s
 use Rattle.tree.specs.declared.answers.Answer.{Answer}
 use Rattle.derivation.specs.Strings.{attrIn, attrsIn, treeIn}
 use Rattle.derivation.proofs.RunLaws.{string-is}
-use Rattle.xml.specs.Promise.{Says, Tables, tables, Takes, TurnsAway, Outside, HoldsTree, Parsed}
+use Rattle.xml.specs.Promise.{Tables, Takes, TurnsAway, Outside, HoldsTree, Parsed}
 use Rattle.xml.proofs.Promises.{readable-of, is-away, away-some, refused-as}
 use Rattle.xml.proofs.Theorem.{parsed, takes-exactly, taken-fits}
 
@@ -88,8 +86,11 @@ module _ (z y : List ℕ) where
       later o (inl r) = inl (o, r)
       later o (inr e) = inr e
 
-strings-same : {s : List ℕ} {lent a b : Tables} {f : Forest} {g : placed.Forest} → HoldsTree s lent a f g → HoldsTree s lent b f g → a .strings ≡ b .strings
-strings-same {a = a} {b = b} {g = g} h k = ext-getD 0 (a .strings) (b .strings) (h .as-long ∙ sym (k .as-long)) (λ i l. go i (byte-same _ _ (spans g) (tree-same _ _ g (h .shown ∙ sym (k .shown))) i))
+strings-same : {s : List ℕ} {lent a b : Tables} {f : Forest} {g : placed.Forest} → HoldsTree s lent a f g → HoldsTree s lent b f g → a .strings
+    ≡ b .strings
+strings-same {a = a} {b = b} {g = g} h k =
+    ext-getD 0 (a .strings) (b .strings) (h .as-long ∙ sym (k .as-long))
+    (λ i l. go i (byte-same _ _ (spans g) (tree-same _ _ g (h .shown ∙ sym (k .shown))) i))
   where
     go : (i : ℕ) → Outside i (spans g) ⊎ (getD (a .strings) i 0 ≡ getD (b .strings) i 0) → getD (a .strings) i 0 ≡ getD (b .strings) i 0
     go i (inl o) = h .elsewhere i o ∙ sym (k .elsewhere i o)
@@ -106,11 +107,13 @@ determined {s} {lent} {x} {y} {a} {b} p q = by (decided s lent)
     by (inl t) =
         let h = p .tree (t .0) (t .1) in
         let k = q .tree (t .0) (t .1) in
-        (p .counts (t .0) (t .1) ∙ sym (q .counts (t .0) (t .1)), tables-same (h .node-rows ∙ sym (k .node-rows)) (h .attr-rows ∙ sym (k .attr-rows)) (strings-same h k))
+        (p .counts (t .0) (t .1) ∙ sym (q .counts (t .0) (t .1)),
+            tables-same (h .node-rows ∙ sym (k .node-rows)) (h .attr-rows ∙ sym (k .attr-rows)) (strings-same h k))
     by (inr t) =
         let l : 0 < t .0 = away-some (t .2) in
         let u = p .refused (t .0) (t .1) l .1 (t .2) in
         let v = q .refused (t .0) (t .1) l .1 (t .2) in
         let h = p .cleared (omega (arith, u .0, l)) in
         let k = q .cleared (omega (arith, v .0, l)) in
-        (refused-as x (t .0) (t .1) l u ∙ sym (refused-as y (t .0) (t .1) l v), tables-same (h .of-nodes ∙ sym (k .of-nodes)) (h .of-attrs ∙ sym (k .of-attrs)) (h .of-strings ∙ sym (k .of-strings)))
+        (refused-as x (t .0) (t .1) l u ∙ sym (refused-as y (t .0) (t .1) l v),
+            tables-same (h .of-nodes ∙ sym (k .of-nodes)) (h .of-attrs ∙ sym (k .of-attrs)) (h .of-strings ∙ sym (k .of-strings)))

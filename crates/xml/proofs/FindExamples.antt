@@ -25,18 +25,21 @@ id = 105 ∷ 100 ∷ []
 
 -- ---- elements
 -- `x<tt:BODY>y</tt:BODY><body/>`: texts are passed, the prefix and the case do not count, and the first is taken
-pub first-body : findElement body (more (text (120 ∷ [])) (more (element tt-body [] (more (text (121 ∷ [])) none)) (more (element body [] none) none)))
+pub first-body : findElement body (more (text (120 ∷ [])) (more (element tt-body [] (more (text (121 ∷ [])) none))
+    (more (element body [] none) none)))
     ≡ found tt-body [] (more (text (121 ∷ [])) none)
 unfolding findElement named sameFolded lower hasColon afterLastColon
 first-body = refl
 
 -- `<![CDATA[body]]><a:b:body/>`: a section is passed, and a local name follows the last colon
-pub last-colon : findElement body (more (section body) (more (element (97 ∷ 58 ∷ 98 ∷ 58 ∷ body) [] none) none)) ≡ found (97 ∷ 58 ∷ 98 ∷ 58 ∷ body) [] none
+pub last-colon : findElement body (more (section body) (more (element (97 ∷ 58 ∷ 98 ∷ 58 ∷ body) [] none) none))
+    ≡ found (97 ∷ 58 ∷ 98 ∷ 58 ∷ body) [] none
 unfolding findElement named sameFolded lower hasColon afterLastColon
 last-colon = refl
 
 -- `<p><body/></p><bodys/>`: content is not searched, and a longer name is another
-pub not-inside : findElement body (more (element (112 ∷ []) [] (more (element body [] none) none)) (more (element (body ++ 115 ∷ []) [] none) none)) ≡ absent
+pub not-inside : findElement body (more (element (112 ∷ []) [] (more (element body [] none) none)) (more (element (body ++ 115 ∷ []) [] none) none))
+    ≡ absent
 unfolding findElement named sameFolded lower hasColon afterLastColon
 not-inside = refl
 
@@ -73,6 +76,6 @@ pub an-element : isElement nodes strings (112 ∷ []) 1 ≡ true
 unfolding isElement named stringAt sameFolded lower hasColon afterLastColon
 an-element = refl
 
-pub value-7 : findValue strings (65 ∷ []) owned ≡ At (record { place = 7; len = 1 })
+pub value-7 : findValue strings (65 ∷ []) owned ≡ At (record { at = 4; place = 7; len = 1 })
 unfolding findValue stringAt sameFolded lower
 value-7 = refl

@@ -4,7 +4,7 @@
 --     is-element-text, is-element-section, is-element-elem   what `isElement` says of a row
 --     find-nothing, find-found                        what `findRow` says of the tree
 --     many-shown                                      as many attributes are shown as there are
---     value-shown, value-absent, absent-value, value-at      what `findValue` says of the attributes
+--     value-shown, value-at                           what `findValue` says of the attributes
 use Prim.Native.Nat.{ℕ, suc, _+_, _≤_, _<_}
 use mathlib.Core.Path.{_≡_, refl, sym, ap, _∙_}
 use mathlib.Core.Bool.{true, false}
@@ -21,11 +21,11 @@ use Rattle.tree.proofs.Walks.{on-text, on-section, on-elem, on-attrs, room, pla
 use Rattle.scan.specs.Part.{stringAt}
 use Rattle.derivation.specs.Strings.{attrIn, attrsIn, treeIn}
 use Rattle.xml.specs.declared.find.Found.the-variants.{Row, Nothing}
-use Rattle.xml.specs.declared.find.Place.{Place}
-use Rattle.xml.specs.declared.find.Value.{Value}
-use Rattle.xml.specs.declared.find.Value.the-variants.{At, Absent}
-use Rattle.xml.specs.Find.{named, findElement, absent, FoundValue, value, no-value, attrValue}
-use Rattle.xml.specs.Find.{Holds, Siblings, findRow, findValue, WithinAttrs, Owned, isElement, HasRow, elementRow, TextAt, ElementAt, FoundAt}
+use Rattle.xml.specs.declared.find.Attribute.{Attribute}
+use Rattle.xml.specs.declared.find.Value.the-variants.{At}
+use Rattle.xml.specs.Find.{named, findElement, absent, value, attrValue}
+use Rattle.xml.specs.Find.{Holds, Siblings, findRow, findValue, shown, WithinAttrs, Owned, isElement, HasRow, elementRow, TextAt, ElementAt}
+use Rattle.xml.specs.Find.{FoundAt}
 
 -- ---- the rows of what the tables hold
 within-attrs : (l : List Attr) (lo hi : ℕ) → InOrder lo (attrSpans l) hi → WithinAttrs hi l
@@ -41,12 +41,14 @@ regroup a b c = simp append-assoc
 pub siblings-of : {t u z : List ℕ} {i a : ℕ} {f : Forest} → Holds t u z i a f → Siblings t z i (i + size f)
 siblings-of h = record { first = _; forest = _; stands = h .stands; lo = h .lo; placed = h .placed; end = refl }
 
-element-cells : {t : List ℕ} {i e p n b m : ℕ} → RowIs t i 2 e p n b m → elementRow t i ≡ record { place = p; «name_len» = n; end = e; first = b; many = m }
+element-cells : {t : List ℕ} {i e p n b m : ℕ} → RowIs t i 2 e p n b m → elementRow t i
+    ≡ record { place = p; «name_len» = n; end = e; first = b; many = m }
 unfolding elementRow
 element-cells r = rw (r .place-is, r .len-is, r .end-is, r .first-is, r .many-is)
 
 module _ {t u z : List ℕ} {i a p n : ℕ} where
-  text-row : (kind : ℕ) (f g : Forest) → Holds t u z i a f → RowIs t i kind (i + 1) p n 0 0 × Stands t (i + 1) a g → InOrder (p + n) (spans g) (length z)
+  text-row : (kind : ℕ) (f g : Forest) → Holds t u z i a f → RowIs t i kind (i + 1) p n 0 0 × Stands t (i + 1) a g
+      → InOrder (p + n) (spans g) (length z)
       → 0 < size f → attrsOf f ≡ attrsOf g → TextAt t u z kind i a p n g
   text-row kind f g h s o w e = record {
     row = s .0;
@@ -57,11 +59,13 @@ module _ {t u z : List ℕ} {i a p n : ℕ} where
 
   pub holds-text : {f : Forest} → Holds t u z i a (text p n f) → TextAt t u z 1 i a p n f
   unfolding attrsOf size
-  holds-text {f} h = text-row 1 (text p n f) f h (on-text t i a p n f (h .stands)) (placed-text (h .lo) (length z) p n f (h .placed) .1) (omega arith) refl
+  holds-text {f} h =
+      text-row 1 (text p n f) f h (on-text t i a p n f (h .stands)) (placed-text (h .lo) (length z) p n f (h .placed) .1) (omega arith) refl
 
   pub holds-section : {f : Forest} → Holds t u z i a (section p n f) → TextAt t u z 3 i a p n f
   unfolding attrsOf size
-  holds-section {f} h = text-row 3 (section p n f) f h (on-section t i a p n f (h .stands)) (placed-section (h .lo) (length z) p n f (h .placed) .1) (omega arith) refl
+  holds-section {f} h =
+      text-row 3 (section p n f) f h (on-section t i a p n f (h .stands)) (placed-section (h .lo) (length z) p n f (h .placed) .1) (omega arith) refl
 
   module _ {l : List Attr} {c f : Forest} where
     pub owned-of : Holds t u z i a (elem p n l c f) → Owned u z a (length l) l
@@ -77,14 +81,17 @@ module _ {t u z : List ℕ} {i a p n : ℕ} where
     pub holds-elem : Holds t u z i a (elem p n l c f) → ElementAt t u z i a p n l c f
     unfolding attrsOf size
     holds-elem h =
-        let s : RowIs t i 2 (i + 1 + size c) p n a (length l) × Stands t (i + 1) (a + length l) c × Stands t (i + 1 + size c) (a + length l + length (attrsOf c)) f
+        let s : RowIs t i 2 (i + 1 + size c) p n a (length l) × Stands t (i + 1) (a + length l) c
+            × Stands t (i + 1 + size c) (a + length l + length (attrsOf c)) f
         = on-elem t i a p n l c f (h .stands) in
         let g : Listed u (a + length l) (attrsOf c ++ attrsOf f) = on-attrs u a l (attrsOf c ++ attrsOf f) (h .listed) .1 in
-        let d : Listed u (a + length l) (attrsOf c) × Listed u (a + length l + length (attrsOf c)) (attrsOf f) = on-attrs u (a + length l) (attrsOf c) (attrsOf f) g in
+        let d : Listed u (a + length l) (attrsOf c) × Listed u (a + length l + length (attrsOf c)) (attrsOf f) =
+            on-attrs u (a + length l) (attrsOf c) (attrsOf f) g in
         let lo : ℕ = p + 1 + n in
         let o : InOrder lo (attrSpans l ++ (spans c ++ spans f)) (length z) = placed-elem (h .lo) (length z) p n l c f (h .placed) .1 in
         let r : InOrder lo (spans c ++ spans f) (length z) = in-rest (attrSpans l) (spans c ++ spans f) lo (length z) o in
-        let x : Holds t u z (i + 1) (a + length l) c = record { stands = s .1; listed = d .0; lo = lo; placed = in-first (spans c) (spans f) lo (length z) r } in
+        let x : Holds t u z (i + 1) (a + length l) c = record { stands = s .1; listed = d .0; lo = lo; placed =
+            in-first (spans c) (spans f) lo (length z) r } in
         record {
           row = s .0;
           cells = element-cells (s .0);
@@ -107,7 +114,9 @@ module _ {t u z : List ℕ} {i a p n : ℕ} where
           stands = record { tail = r ++ h .stands .tail; is = h .stands .is ∙ simp append-assoc };
           listed = record { tail = attrRows (attrsOf f) ++ h .listed .tail; is = h .listed .is ∙ simp (attrRows-append, append-assoc) };
           lo = h .lo;
-          placed = (h .placed .0, in-first (attrSpans l ++ (spans c ++ [])) (spans f) lo (length z) (rw (← (regroup (attrSpans l) (spans c) (spans f))) (h .placed .1)));
+          placed =
+              (h .placed .0, in-first (attrSpans l ++ (spans c ++ [])) (spans f) lo (length z)
+              (rw (← (regroup (attrSpans l) (spans c) (spans f))) (h .placed .1)));
         }
 
 -- ---- what the searches require
@@ -157,7 +166,8 @@ find-nothing z name i (elem p n l c f) e =
 
 -- what is found among the later siblings
 found-later : {t u z name : List ℕ} {i j : ℕ} {f g : Forest} {k : ℕ}
-    → i ≤ j → j + size g ≤ i + size f → findElement name (treeIn z f) ≡ findElement name (treeIn z g) → FoundAt t u z name j g k → FoundAt t u z name i f k
+    → i ≤ j → j + size g ≤ i + size f → findElement name (treeIn z f) ≡ findElement name (treeIn z g) → FoundAt t u z name j g k
+        → FoundAt t u z name i f k
 found-later h w e x = record {
   place = x .place;
   len = x .len;
@@ -206,11 +216,6 @@ many-shown z [] = refl
 many-shown z (x ∷ l) = ap suc (many-shown z l)
 
 -- ---- what `findValue` says of the attributes
--- a value as the strings have it
-unfoldable pub shown : List ℕ → Value → FoundValue
-shown z (At x) = value (stringAt z (x .place) (x .len))
-shown z Absent = no-value
-
 pub value-shown : (z name : List ℕ) (l : List Attr) → shown z (findValue z name l) ≡ attrValue name (attrsIn z l)
 unfolding shown findValue attrValue attrsIn attrIn
 value-shown z name [] = refl
@@ -218,19 +223,7 @@ value-shown z name (x ∷ l) =
     let r : shown z (findValue z name l) ≡ attrValue name (attrsIn z l) = value-shown z name l in
     by-test (sameFolded (stringAt z (x .name) (x .nameLen)) name) (λ w. rw w) (λ w. rw w r)
 
-pub value-absent : (z name : List ℕ) (l : List Attr) → findValue z name l ≡ Absent → attrValue name (attrsIn z l) ≡ no-value
-unfolding shown
-value-absent z name l e = sym (value-shown z name l) ∙ ap (shown z) e
-
-pub absent-value : (z name : List ℕ) (l : List Attr) → attrValue name (attrsIn z l) ≡ no-value → findValue z name l ≡ Absent
-unfolding shown
-absent-value z name l e = by (findValue z name l) (value-shown z name l ∙ e)
-  where
-    by : (v : Value) → shown z v ≡ no-value → v ≡ Absent
-    by (At x) w = absurd (let y : _≡_ {A = ℕ} 0 1 = cc in omega arith)
-    by Absent w = refl
-
-value-within : (z name : List ℕ) (l : List Attr) (x : Place) → WithinAttrs (length z) l → findValue z name l ≡ At x → x .place + x .len ≤ length z
+value-within : (z name : List ℕ) (l : List Attr) (x : Attribute) → WithinAttrs (length z) l → findValue z name l ≡ At x → x .place + x .len ≤ length z
 unfolding findValue
 value-within z name [] x w e = absurd (let y : _≡_ {A = ℕ} 0 1 = cc in omega arith)
 value-within z name (y ∷ l) x w e =
@@ -239,11 +232,11 @@ value-within z name (y ∷ l) x w e =
   where
     here : sameFolded (stringAt z (y .name) (y .nameLen)) name ≡ true → x .place + x .len ≤ length z
     here q =
-        let j : At (record { place = y .value; len = y .valueLen }) ≡ At x = rw q at e in
-        let v : record { place = y .value; len = y .valueLen } ≡ x = cc in
+        let j : At (record { at = y .name; place = y .value; len = y .valueLen }) ≡ At x = rw q at e in
+        let v : record { at = y .name; place = y .value; len = y .valueLen } ≡ x = cc in
         rw (← v) (w .1)
 
-pub value-at : (z name : List ℕ) (l : List Attr) (x : Place) → WithinAttrs (length z) l → findValue z name l ≡ At x
+pub value-at : (z name : List ℕ) (l : List Attr) (x : Attribute) → WithinAttrs (length z) l → findValue z name l ≡ At x
     → (attrValue name (attrsIn z l) ≡ value (stringAt z (x .place) (x .len))) × (x .place + x .len ≤ length z)
 unfolding shown
 value-at z name l x w e = (sym (value-shown z name l) ∙ ap (shown z) e, value-within z name l x w e)

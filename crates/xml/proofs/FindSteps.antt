@@ -2,26 +2,22 @@
 --     onward                                             the row after the first of some siblings
 --     Rest, rest-here, rest-next, rest-out               `find_element` goes on with the siblings from row k on
 --     local-within, local-part                           the part of a name that `is_element` compares
---     RestAttrs, attrs-start, attrs-here, attrs-next, attrs-out   `attr` goes on with the attributes from row k on
---     attr-row, end-fits                                 their rows are within the table
 use Prim.Native.Nat.{ℕ, zero, suc, _+_, _-_, _*_, _≤_, _<_}
-use mathlib.Core.Path.{_≡_, refl, sym, ap, _∙_}
+use mathlib.Core.Path.{_≡_, refl, sym, _∙_}
 use mathlib.Core.Bool.{true, false, true≢false}
 use mathlib.Core.List.{List, [], _∷_, _++_}
 use native.Mathlib.Omega.{arith}
 use native.Mathlib.Nat.{sub-zero}
-use lib.ListN.{length, getD, take, drop, length-append, length-take, length-drop}
+use lib.ListN.{length, getD, take, drop, length-take}
 use lib.Seq.{take-nil, drop-drop}
-use Rattle.scan.specs.Names.{sameFolded, PartFrom}
-use Rattle.tree.specs.Trees.{Attr, Forest, nil, text, section, elem, size, attrsOf, attrRows, attrSpans, spans, InOrder}
-use Rattle.tree.specs.Walks.{Stands, Listed, RowIs, AttrIs}
-use Rattle.tree.proofs.Tags.{length-attrRows}
+use Rattle.scan.specs.Names.{PartFrom}
+use Rattle.tree.specs.Trees.{Forest, nil, text, section, elem, size, attrsOf, attrSpans, spans, InOrder}
+use Rattle.tree.specs.Walks.{Stands, RowIs}
 use Rattle.tree.proofs.Places.{in-rest}
-use Rattle.tree.proofs.Walks.{on-text, on-section, on-elem, on-attr, placed-text, placed-section, placed-elem}
+use Rattle.tree.proofs.Walks.{on-text, on-section, on-elem, placed-text, placed-section, placed-elem}
 use Rattle.scan.specs.Part.{stringAt}
 use Rattle.xml.specs.declared.find.Found.the-variants.{Row, Nothing}
-use Rattle.xml.specs.declared.find.Value.the-variants.{At, Absent}
-use Rattle.xml.specs.Find.{named, Siblings, findRow, findValue, Owned, isElement}
+use Rattle.xml.specs.Find.{named, Siblings, findRow, isElement}
 use Rattle.xml.proofs.FindLaws.{is-element-text, is-element-section, is-element-elem}
 
 -- ---- siblings
@@ -64,7 +60,8 @@ module _ (t z name : List ℕ) (k b : ℕ) where
   later (elem p n l c g) s h =
       let d : ℕ = b + length l + length (attrsOf c) in
       let lo : ℕ = p + 1 + n in
-      let r : RowIs t k 2 (k + 1 + size c) p n b (length l) × Stands t (k + 1) (b + length l) c × Stands t (k + 1 + size c) d g = on-elem t k b p n l c g s in
+      let r : RowIs t k 2 (k + 1 + size c) p n b (length l) × Stands t (k + 1) (b + length l) c × Stands t (k + 1 + size c) d g =
+          on-elem t k b p n l c g s in
       let e : getD t (k * 6 + 1) 0 ≡ k + 1 + size c = r .0 .end-is in
       let j : isElement t z name k ≡ named name (stringAt z (p + 1) n) = is-element-elem z name s in
       record {
@@ -73,7 +70,8 @@ module _ (t z name : List ℕ) (k b : ℕ) where
         stands = rw e (r .2);
         after = omega arith;
         end = omega arith;
-        placed = λ at hi o. (lo, in-rest (spans c) (spans g) lo hi (in-rest (attrSpans l) (spans c ++ spans g) lo hi (placed-elem at hi p n l c g o .1)));
+        placed =
+            λ at hi o. (lo, in-rest (spans c) (spans g) lo hi (in-rest (attrSpans l) (spans c ++ spans g) lo hi (placed-elem at hi p n l c g o .1)));
         here = λ w. rw (sym j ∙ w);
         passed = λ w. rw (sym j ∙ w, e);
       }
@@ -139,75 +137,3 @@ module _ (z : List ℕ) (p n r : ℕ) (w : List ℕ) (x : PartFrom (stringAt z p
   local-part =
       let v : p + n - p - r ≡ p + n - (p + r) = omega arith in
       sym (rw (← (drop-drop r p z), ← v) (drop-take r (p + n - p) (drop p z) (omega (arith, local-within)))) ∙ x .is
-
--- ---- attributes
--- the first of n attributes from row k on
-record FirstOf (u z name : List ℕ) (k n : ℕ) (l : List Attr) : Type 0 where
-  pub others : List Attr
-  pub room : (k + n) * 4 ≤ length u
-  pub fits : getD u (k * 4) 0 + getD u (k * 4 + 1) 0 ≤ length z
-  pub owned : Owned u z (k + 1) (n - 1) others
-  pub here : sameFolded (stringAt z (getD u (k * 4) 0) (getD u (k * 4 + 1) 0)) name ≡ true
-      → findValue z name l ≡ At (record { place = getD u (k * 4 + 2) 0; len = getD u (k * 4 + 3) 0 })
-  pub passed : sameFolded (stringAt z (getD u (k * 4) 0) (getD u (k * 4 + 1) 0)) name ≡ false → findValue z name l ≡ findValue z name others
-
-first-of : (u z name : List ℕ) (k n : ℕ) (l : List Attr) → Owned u z k n l → 0 < n → FirstOf u z name k n l
-unfolding findValue
-first-of u z name k n [] y h = absurd (omega (arith, y .count))
-first-of u z name k n (x ∷ l) y h =
-    let a : AttrIs u k x × Listed u (k + 1) l = on-attr u k x l (y .listed) in
-    let e : length (drop (k * 4) u) ≡ length (attrRows (x ∷ l) ++ y .listed .tail) = ap length (y .listed .is) in
-    record {
-      others = l;
-      room = omega (arith, e, y .count, length-drop (k * 4) u, length-append (attrRows (x ∷ l)) (y .listed .tail), length-attrRows (x ∷ l));
-      fits = rw (a .0 .name-is, a .0 .name-len-is) (y .within .0);
-      owned = record { listed = a .1; count = omega (arith, y .count); within = y .within .2 };
-      here = λ w. let v : sameFolded (stringAt z (x .name) (x .nameLen)) name ≡ true = rw (a .0 .name-is, a .0 .name-len-is) at w in rw (v, a .0 .value-is, a .0 .value-len-is);
-      passed = λ w. let v : sameFolded (stringAt z (x .name) (x .nameLen)) name ≡ false = rw (a .0 .name-is, a .0 .name-len-is) at w in rw v;
-    }
-
--- the search of l goes on with the attributes from row k up to e
-pub record RestAttrs (u z name : List ℕ) (k e : ℕ) (l : List Attr) : Type 0 where
-  pub attrs : List Attr
-  pub owned : Owned u z k (e - k) attrs
-  pub is : findValue z name l ≡ findValue z name attrs
-
-pub attrs-start : {u z name : List ℕ} {i n : ℕ} {l : List Attr} → Owned u z i n l → RestAttrs u z name i (i + n) l
-attrs-start {n = n} {l = l} y = record { attrs = l; owned = record { listed = y .listed; count = omega (arith, y .count); within = y .within }; is = refl }
-
-module _ {u z name : List ℕ} {k e : ℕ} {l : List Attr} (x : RestAttrs u z name k e l) where
-  attrs-first : k < e → FirstOf u z name k (e - k) (x .attrs)
-  attrs-first h = first-of u z name k (e - k) (x .attrs) (x .owned) (omega arith)
-
-  pub attrs-here : k < e → sameFolded (stringAt z (getD u (k * 4) 0) (getD u (k * 4 + 1) 0)) name ≡ true
-      → At (record { place = getD u (k * 4 + 2) 0; len = getD u (k * 4 + 3) 0 }) ≡ findValue z name l
-  attrs-here h w = sym (x .is ∙ attrs-first h .here w)
-
-  pub attrs-next : k < e → sameFolded (stringAt z (getD u (k * 4) 0) (getD u (k * 4 + 1) 0)) name ≡ false → RestAttrs u z name (k + 1) e l
-  attrs-next h w =
-      let y : FirstOf u z name k (e - k) (x .attrs) = attrs-first h in
-      let v : e - k - 1 ≡ e - (k + 1) = omega arith in
-      record { attrs = y .others; owned = rw v at (y .owned); is = x .is ∙ y .passed w }
-
-  pub attrs-out : e ≤ k → Absent ≡ findValue z name l
-  unfolding findValue
-  attrs-out h = by (x .attrs) (x .is) (omega (arith, x .owned .count))
-    where
-      by : (g : List Attr) → findValue z name l ≡ findValue z name g → length g ≡ 0 → Absent ≡ findValue z name l
-      by [] w j = sym w
-      by (y ∷ g) w j = absurd (omega arith)
-
--- ---- their rows
-module _ {u z : List ℕ} {i n : ℕ} (own : (l : List Attr) × Owned u z i n l) where
-  -- row k, while attributes are left
-  pub attr-row : {name : List ℕ} {k e : ℕ} → ((l : List Attr) → Owned u z i n l → RestAttrs u z name k e l) → k < e
-      → (k * 4 + 4 ≤ length u) × (getD u (k * 4) 0 + getD u (k * 4 + 1) 0 ≤ length z)
-  attr-row x h = let y = attrs-first (x (own .0) (own .1)) h in (omega (arith, y .room), y .fits)
-
-  -- the end of the attributes is a place too
-  pub end-fits : (hi : ℕ) → i < hi → length u < hi → i + n < hi
-  end-fits hi h w = by (own .0) (own .1)
-    where
-      by : (l : List Attr) → Owned u z i n l → i + n < hi
-      by [] y = omega (arith, y .count)
-      by (x ∷ l) y = omega (arith, y .count, first-of u z [] i n (x ∷ l) y (omega (arith, y .count)) .room)

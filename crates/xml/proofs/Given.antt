@@ -13,6 +13,7 @@ use Rattle.grammar.specs.Tree.{Forest}
 use Rattle.grammar.specs.Limits as count
 use Rattle.entities.specs.Decode.{decoded}
 use Rattle.grammar.specs.Demand.{decodeTree, decodeForest}
+use Rattle.tree.specs.Answers.{numberOf, placeOf}
 use Rattle.tree.specs.Trees as placed
 use Rattle.tree.specs.Trees.{size, spans}
 use Rattle.tree.proofs.Places.{in-higher}
@@ -20,7 +21,7 @@ use Rattle.tree.specs.declared.answers.Answer.{Answer}
 use Rattle.tree.specs.declared.answers.Answer.the-variants.{Tree, Refused}
 use Rattle.tree.specs.declared.answers.Refusal.{Refusal}
 use Rattle.xml.specs.Find.{Holds, Siblings}
-use Rattle.xml.specs.Promise.{numberOf, placeOf, Tables, Takes, placesOf, HoldsTree, Parsed}
+use Rattle.xml.specs.Promise.{Tables, Takes, placesOf, HoldsTree, Parsed}
 use Rattle.xml.proofs.FindLaws.{siblings-of}
 use Rattle.xml.proofs.Promises.{nodes-counted}
 
@@ -63,7 +64,8 @@ module _ {s : List ℕ} {lent left : Tables} {r : Answer} (p : Parsed s lent r l
           listed = record { tail = _; is = h .attr-rows };
           lo = 0;
           placed =
-              in-higher (spans given-forest) 0 (length s) (length (left .strings)) (omega (arith, h .as-long, d .short, d .long-enough .of-strings)) (h .in-order);
+              in-higher (spans given-forest) 0 (length s) (length (left .strings)) (omega (arith, h .as-long, d .short, d .long-enough .of-strings))
+                  (h .in-order);
         }
 
     pub given-count : 0 + size given-forest ≡ i

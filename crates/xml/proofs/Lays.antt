@@ -52,7 +52,8 @@ ordered-whole [] lo hi o = o
 ordered-whole (x ∷ l) lo hi o = omega (arith, o .0, ordered-whole l (x .place + length (x .bytes)) hi (o .1))
 
 -- a string, and those after it
-ordered-one : (p n lo hi : ℕ) (w : List ℕ) (l : List Placed) → lo ≤ p → length w ≤ n → Ordered (p + n) l hi → Ordered lo (record { place = p; bytes = w } ∷ l) hi
+ordered-one : (p n lo hi : ℕ) (w : List ℕ) (l : List Placed) → lo ≤ p → length w ≤ n → Ordered (p + n) l hi
+    → Ordered lo (record { place = p; bytes = w } ∷ l) hi
 ordered-one p n lo hi w l h g o = (h, ordered-lower l (p + length w) (p + n) hi (omega arith) o)
 
 module _ (s : List ℕ) where
@@ -69,14 +70,17 @@ module _ (s : List ℕ) where
   pub strings-ordered : (f : Forest) (lo hi : ℕ) → InOrder lo (spans f) hi → Ordered lo (strings s f) hi
   unfolding spans strings
   strings-ordered nil lo hi i = i
-  strings-ordered (text p n f) lo hi i = ordered-one p n lo hi (decoded (stringAt s p n)) (strings s f) (i .0) (read-short s p n) (strings-ordered f (p + n) hi (i .1))
-  strings-ordered (section p n f) lo hi i = ordered-one p n lo hi (stringAt s p n) (strings s f) (i .0) (string-short s p n) (strings-ordered f (p + n) hi (i .1))
+  strings-ordered (text p n f) lo hi i =
+      ordered-one p n lo hi (decoded (stringAt s p n)) (strings s f) (i .0) (read-short s p n) (strings-ordered f (p + n) hi (i .1))
+  strings-ordered (section p n f) lo hi i =
+      ordered-one p n lo hi (stringAt s p n) (strings s f) (i .0) (string-short s p n) (strings-ordered f (p + n) hi (i .1))
   strings-ordered (elem p n l c f) lo hi i =
       let a : Split (p + 1 + n) (attrSpans l) (spans c ++ spans f) hi = in-split (attrSpans l) (spans c ++ spans f) (p + 1 + n) hi (i .1) in
       let b : Split (a .mid) (spans c) (spans f) hi = in-split (spans c) (spans f) (a .mid) hi (a .rest) in
       ordered-one (p + 1) n lo hi (stringAt s (p + 1) n) (attrStrings s l ++ (strings s c ++ strings s f)) (i .0) (string-short s (p + 1) n)
       (ordered-append (attrStrings s l) (strings s c ++ strings s f) (p + 1 + n) (a .mid) hi (attrs-ordered l (p + 1 + n) (a .mid) (a .first))
-      (ordered-append (strings s c) (strings s f) (a .mid) (b .mid) hi (strings-ordered c (a .mid) (b .mid) (b .first)) (strings-ordered f (b .mid) hi (b .rest))))
+      (ordered-append (strings s c) (strings s f) (a .mid) (b .mid) hi (strings-ordered c (a .mid) (b .mid) (b .first))
+          (strings-ordered f (b .mid) hi (b .rest))))
 
 -- ---- one before the other
 pub lay-length : (l : List Placed) (z : List ℕ) → length (lay z l) ≡ length z
@@ -91,7 +95,8 @@ lay-append (x ∷ a) b z = lay-append a b (sets z (x .place) (x .bytes))
 
 sets-swap : (v w z : List ℕ) (p q : ℕ) → q + length v ≤ p → sets (sets z p w) q v ≡ sets (sets z q v) p w
 sets-swap [] w z p q h = refl
-sets-swap (y ∷ v) w z p q h = ap (λ (l : List ℕ). sets l (suc q) v) (set-sets w z q p y (omega arith)) ∙ sets-swap v w (set z q y) p (suc q) (omega arith)
+sets-swap (y ∷ v) w z p q h =
+    ap (λ (l : List ℕ). sets l (suc q) v) (set-sets w z q p y (omega arith)) ∙ sets-swap v w (set z q y) p (suc q) (omega arith)
 
 lay-past : (l : List Placed) (z w : List ℕ) (q m hi : ℕ) → q + length w ≤ m → Ordered m l hi → sets (lay z l) q w ≡ lay (sets z q w) l
 unfolding lay
@@ -123,13 +128,17 @@ module _ (s : List ℕ) where
   nodes-ordered : (f : Forest) (lo hi : ℕ) → InOrder lo (spans f) hi → Ordered lo (nodeStrings s f) hi
   unfolding spans nodeStrings
   nodes-ordered nil lo hi i = i
-  nodes-ordered (text p n f) lo hi i = ordered-one p n lo hi (decoded (stringAt s p n)) (nodeStrings s f) (i .0) (read-short s p n) (nodes-ordered f (p + n) hi (i .1))
-  nodes-ordered (section p n f) lo hi i = ordered-one p n lo hi (stringAt s p n) (nodeStrings s f) (i .0) (string-short s p n) (nodes-ordered f (p + n) hi (i .1))
+  nodes-ordered (text p n f) lo hi i =
+      ordered-one p n lo hi (decoded (stringAt s p n)) (nodeStrings s f) (i .0) (read-short s p n) (nodes-ordered f (p + n) hi (i .1))
+  nodes-ordered (section p n f) lo hi i =
+      ordered-one p n lo hi (stringAt s p n) (nodeStrings s f) (i .0) (string-short s p n) (nodes-ordered f (p + n) hi (i .1))
   nodes-ordered (elem p n l c f) lo hi i =
       let a : Split (p + 1 + n) (attrSpans l) (spans c ++ spans f) hi = in-split (attrSpans l) (spans c ++ spans f) (p + 1 + n) hi (i .1) in
       let b : Split (a .mid) (spans c) (spans f) hi = in-split (spans c) (spans f) (a .mid) hi (a .rest) in
       let r : Ordered (a .mid) (nodeStrings s c ++ nodeStrings s f) hi
-      = ordered-append (nodeStrings s c) (nodeStrings s f) (a .mid) (b .mid) hi (nodes-ordered c (a .mid) (b .mid) (b .first)) (nodes-ordered f (b .mid) hi (b .rest)) in
+      =
+          ordered-append (nodeStrings s c) (nodeStrings s f) (a .mid) (b .mid) hi (nodes-ordered c (a .mid) (b .mid) (b .first))
+          (nodes-ordered f (b .mid) hi (b .rest)) in
       ordered-one (p + 1) n lo hi (stringAt s (p + 1) n) (nodeStrings s c ++ nodeStrings s f) (i .0) (string-short s (p + 1) n)
       (ordered-lower (nodeStrings s c ++ nodeStrings s f) (p + 1 + n) (a .mid) hi (in-whole (attrSpans l) (p + 1 + n) (a .mid) (a .first)) r)
 
@@ -137,7 +146,8 @@ module _ (s : List ℕ) where
   unfolding spans attrsOf attrStrings
   own-ordered nil lo hi i = i
   own-ordered (text p n f) lo hi i = ordered-lower (attrStrings s (attrsOf f)) lo (p + n) hi (omega (arith, i .0)) (own-ordered f (p + n) hi (i .1))
-  own-ordered (section p n f) lo hi i = ordered-lower (attrStrings s (attrsOf f)) lo (p + n) hi (omega (arith, i .0)) (own-ordered f (p + n) hi (i .1))
+  own-ordered (section p n f) lo hi i =
+      ordered-lower (attrStrings s (attrsOf f)) lo (p + n) hi (omega (arith, i .0)) (own-ordered f (p + n) hi (i .1))
   own-ordered (elem p n l c f) lo hi i =
       let a : Split (p + 1 + n) (attrSpans l) (spans c ++ spans f) hi = in-split (attrSpans l) (spans c ++ spans f) (p + 1 + n) hi (i .1) in
       let b : Split (a .mid) (spans c) (spans f) hi = in-split (spans c) (spans f) (a .mid) hi (a .rest) in
@@ -150,7 +160,8 @@ module _ (s : List ℕ) where
 
   -- ---- all nodes' strings and then all attributes', or in document order
   -- of an element: its attributes come before its content and the rest, and the content's attributes before the rest
-  regroup : (z : List ℕ) (nc nf al ac af sc sf : List Placed) (lo m m′ hi : ℕ) → Ordered m nc m′ → Ordered m′ nf hi → Ordered lo al m → Ordered m ac m′
+  regroup : (z : List ℕ) (nc nf al ac af sc sf : List Placed) (lo m m′ hi : ℕ) → Ordered m nc m′ → Ordered m′ nf hi → Ordered lo al m
+      → Ordered m ac m′
       → ((y : List ℕ) → lay (lay y nc) ac ≡ lay y sc) → ((y : List ℕ) → lay (lay y nf) af ≡ lay y sf)
       → lay (lay z (nc ++ nf)) (al ++ (ac ++ af)) ≡ lay z (al ++ (sc ++ sf))
   regroup z nc nf al ac af sc sf lo m m′ hi hn hf ha hc c f =
@@ -162,7 +173,8 @@ module _ (s : List ℕ) where
       ∙ (f (lay y sc)
       ∙ (sym (lay-append sc sf y) ∙ sym (lay-append al (sc ++ sf) z))))))
 
-  pub gathered : (f : Forest) (lo hi : ℕ) → InOrder lo (spans f) hi → (z : List ℕ) → lay (lay z (nodeStrings s f)) (attrStrings s (attrsOf f)) ≡ lay z (strings s f)
+  pub gathered : (f : Forest) (lo hi : ℕ) → InOrder lo (spans f) hi → (z : List ℕ) → lay (lay z (nodeStrings s f)) (attrStrings s (attrsOf f))
+      ≡ lay z (strings s f)
   unfolding spans nodeStrings attrStrings attrsOf strings lay
   gathered nil lo hi i z = refl
   gathered (text p n f) lo hi i z = gathered f (p + n) hi (i .1) (sets z p (decoded (stringAt s p n)))
@@ -171,7 +183,8 @@ module _ (s : List ℕ) where
       let a : Split (p + 1 + n) (attrSpans l) (spans c ++ spans f) hi = in-split (attrSpans l) (spans c ++ spans f) (p + 1 + n) hi (i .1) in
       let b : Split (a .mid) (spans c) (spans f) hi = in-split (spans c) (spans f) (a .mid) hi (a .rest) in
       rw (attr-strings-append l (attrsOf c ++ attrsOf f), attr-strings-append (attrsOf c) (attrsOf f))
-      (regroup (sets z (p + 1) (stringAt s (p + 1) n)) (nodeStrings s c) (nodeStrings s f) (attrStrings s l) (attrStrings s (attrsOf c)) (attrStrings s (attrsOf f))
+      (regroup (sets z (p + 1) (stringAt s (p + 1) n)) (nodeStrings s c) (nodeStrings s f) (attrStrings s l) (attrStrings s (attrsOf c))
+          (attrStrings s (attrsOf f))
       (strings s c) (strings s f) (p + 1 + n) (a .mid) (b .mid) hi
       (nodes-ordered c (a .mid) (b .mid) (b .first)) (nodes-ordered f (b .mid) hi (b .rest))
       (attrs-ordered s l (p + 1 + n) (a .mid) (a .first)) (own-ordered c (a .mid) (b .mid) (b .first))

@@ -1,11 +1,11 @@
 -- The forest of a derivation with entities read: the same places, and each text and value as long as it is then. Assumes nothing.
 --     string-at           a string that stands at a place
 --     read-placed         the whole text
-use Prim.Native.Nat.{ℕ, suc, _+_, _≤_}
-use mathlib.Core.Path.{_≡_, refl, sym, ap, ap₂, _∙_}
+use Prim.Native.Nat.{ℕ, _+_}
+use mathlib.Core.Path.{_≡_, refl, ap, ap₂, _∙_}
 use mathlib.Core.List.{List, [], _∷_, _++_, append-assoc}
 use native.Mathlib.Omega.{arith}
-use lib.ListN.{length, drop, take, length-append}
+use lib.ListN.{length, take}
 use lib.Seq.{take-append-seam}
 use Rattle.scan.specs.Bytes.{textByte, other}
 use Rattle.scan.specs.Part.{stringAt}
@@ -14,7 +14,9 @@ use Rattle.entities.proofs.Decoding.{decoded-short}
 use Rattle.grammar.specs.Words.{Bytes, _then_, Only, Begins, Lacks, EndsAtFirst}
 use Rattle.grammar.specs.Tree.{Tree, Forest, Attr}
 use Rattle.grammar.specs.Tree.{`>`, `/`, `=`, `</`, `<!--`, `<![CDATA[`, `]]>`}
-use Rattle.grammar.specs.Grammar.{Blanks, Name, Value, quoted, unquoted, Attribute, alone, named, nameless, Attributes, no-attribute, attribute, Opening, opening, Comment, Before, a-comment, no-comment, Node, a-text, a-section, last-section, an-element, Element, without-content, with-content, Content, Nodes, Document, document}
+use Rattle.grammar.specs.Grammar.{Blanks, Name, Value, quoted, unquoted, Attribute, alone, named, nameless, Attributes, no-attribute, attribute}
+use Rattle.grammar.specs.Grammar.{Opening, opening, Comment, Before, a-comment, no-comment, Node, a-text, a-section, last-section, an-element}
+use Rattle.grammar.specs.Grammar.{Element, without-content, with-content, Content, Nodes, Document, document}
 use Rattle.derivation.proofs.RunLaws.{string-is}
 use Rattle.tree.specs.Trees as placed
 use Rattle.xml.specs.Reading.{readAttrs, readForest}
@@ -55,7 +57,8 @@ module _ (s : List ℕ) where
       let i : At s p (n ++ y) = at-same s refl (simp append-assoc) at in
       let j : At s (p + length n + length b) (`=` then c then w then z) = at-on s b (`=` then c then w then z) (at-on s n y i) in
       let k : At s (p + length n + length b + 1 + length c) (w ++ z) = at-on s c (w ++ z) (at-on s `=` (c ++ (w ++ z)) j) in
-      ap (λ (y : Bytes). made p (length n) (valuePlace x (p + length n + length b + 1 + length c)) (length (decoded y))) (value-read x (p + length n + length b + 1 + length c) k)
+      ap (λ (y : Bytes). made p (length n) (valuePlace x (p + length n + length b + 1 + length c)) (length (decoded y)))
+          (value-read x (p + length n + length b + 1 + length c) k)
   attr-read {z} (nameless {c = c} {w = w} {v = v} cc x) p at =
       let i : At s p (`=` then c then w then z) = at-same s refl (simp append-assoc) at in
       let k : At s (p + 1 + length c) (w ++ z) = at-on s c (w ++ z) (at-on s `=` (c ++ (w ++ z)) i) in
@@ -102,22 +105,27 @@ last-l : (d : Bytes) (e : Lacks `]]>` d) → NodeL [] (`<![CDATA[` then d) _ (la
 unfolding nodePlaced readForest
 last-l d e s p at later = refl
 
-element-l : (after w : Bytes) {t : Tree} (h : ¬ Begins `<!--` w) (k : ¬ Begins `<![CDATA[` w) (e : Element after w t) → ElementL after w t e → NodeL after w t (an-element h k e)
+element-l : (after w : Bytes) {t : Tree} (h : ¬ Begins `<!--` w) (k : ¬ Begins `<![CDATA[` w) (e : Element after w t) → ElementL after w t e
+    → NodeL after w t (an-element h k e)
 unfolding nodePlaced elementPlaced
 element-l after w h k e ih s p at later = ih s p at later
 
-without-l : (after o b n : Bytes) {l : List Attr} (x : Opening (`/` then b then `>` then after) o n l) (y : Blanks b) → ElementL after (o then `/` then b then `>`) _ (without-content x y)
+without-l : (after o b n : Bytes) {l : List Attr} (x : Opening (`/` then b then `>` then after) o n l) (y : Blanks b)
+    → ElementL after (o then `/` then b then `>`) _ (without-content x y)
 unfolding elementPlaced readForest
 without-l after o b n x y s p at later =
-    ap (λ (l : List placed.Attr). placed.elem p (length n) l placed.nil (readForest s later)) (opening-read s x p (at-same s refl (simp append-assoc) at))
+    ap (λ (l : List placed.Attr). placed.elem p (length n) l placed.nil (readForest s later))
+        (opening-read s x p (at-same s refl (simp append-assoc) at))
 
-with-l : (after o c n : Bytes) {l : List Attr} {f : Forest} (x : Opening (`>` then c then after) o n l) (d : Content no-comment after c f) → ContentL no-comment after c f d
+with-l : (after o c n : Bytes) {l : List Attr} {f : Forest} (x : Opening (`>` then c then after) o n l) (d : Content no-comment after c f)
+    → ContentL no-comment after c f d
     → ElementL after (o then `>` then c) _ (with-content x d)
 unfolding elementPlaced contentPlaced readForest
 with-l after o c n x d ih s p at later =
     let i : At s p (o ++ (62 ∷ (c ++ after))) = at-same s refl (simp append-assoc) at in
     let j : At s (p + length o + 1) (c ++ after) = at-on s (62 ∷ []) (c ++ after) (at-on s o (62 ∷ (c ++ after)) i) in
-    ap₂ (λ (l : List placed.Attr) (f : placed.Forest). placed.elem p (length n) l f (readForest s later)) (opening-read s x p i) (ih s (p + length o + 1) j)
+    ap₂ (λ (l : List placed.Attr) (f : placed.Forest). placed.elem p (length n) l f (readForest s later)) (opening-read s x p i)
+        (ih s (p + length o + 1) j)
 
 none-l : (s : List ℕ) → readForest s placed.nil ≡ placed.nil
 unfolding readForest
@@ -135,12 +143,14 @@ before-l : (after : Bytes) (h : Begins `</` after) → ContentL a-comment after 
 unfolding contentPlaced
 before-l after h s p at = none-l s
 
-comment-l : (b : Before) (after u w : Bytes) {f : Forest} (c : Comment (w then after) u) (d : Content a-comment after w f) → ContentL a-comment after w f d
+comment-l : (b : Before) (after u w : Bytes) {f : Forest} (c : Comment (w then after) u) (d : Content a-comment after w f)
+    → ContentL a-comment after w f d
     → ContentL b after (u then w) f (Content.comment {p = b} c d)
 unfolding contentPlaced
 comment-l b after u w c d ih s p at = ih s (p + length u) (at-on s u (w ++ after) (at-same s refl (append-assoc u w after) at))
 
-node-l : (b : Before) (after u w : Bytes) {t : Tree} {f : Forest} (n : Node (w then after) u t) → NodeL (w then after) u t n → (d : Content no-comment after w f)
+node-l : (b : Before) (after u w : Bytes) {t : Tree} {f : Forest} (n : Node (w then after) u t) → NodeL (w then after) u t n
+    → (d : Content no-comment after w f)
     → ContentL no-comment after w f d → ContentL b after (u then w) _ (Content.node {p = b} n d)
 unfolding contentPlaced nodePlaced
 node-l b after u w n hn d ih s p at =
@@ -163,7 +173,8 @@ node-lengths d = elim d as NodeL ElementL ContentL [
 ]
 
 -- ---- the whole text
-nodes-lengths : (s : List ℕ) {z : Bytes} {f : Forest} (d : Nodes z f) (p : ℕ) → At s p z → readForest s (nodesPlaced length d p) ≡ nodesPlaced readLength d p
+nodes-lengths : (s : List ℕ) {z : Bytes} {f : Forest} (d : Nodes z f) (p : ℕ) → At s p z → readForest s (nodesPlaced length d p)
+    ≡ nodesPlaced readLength d p
 unfolding nodesPlaced
 nodes-lengths s Nodes.end-of-text p at = none-l s
 nodes-lengths s (Nodes.before-close h) p at = none-l s

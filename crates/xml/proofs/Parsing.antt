@@ -22,7 +22,8 @@ use Rattle.tree.proofs.Places.{in-whole, in-first, in-rest, meaning-placed}
 use Rattle.tree.proofs.Walks.{on-text, on-section, on-elem, root, root-placed, root-room, root-attrs, attrs-room, attr-at, attr-fits}
 use Rattle.xml.specs.Reading.{raw, readOut, stringsOf}
 use Rattle.xml.specs.Passes.{nodePlace, nodesRead, nodeStringsRead, NodeReady, attrsRead, attrStringsRead, AttrReady}
-use Rattle.xml.proofs.PassForests.{text-bytes, section-bytes, element-bytes, size-read, attrs-read, length-attrs-read, nodes-pass, attrs-pass, strings-pass}
+use Rattle.xml.proofs.PassForests.{text-bytes, section-bytes, element-bytes, size-read, attrs-read, length-attrs-read, nodes-pass}
+use Rattle.xml.proofs.PassForests.{attrs-pass, strings-pass}
 
 -- ---- which case
 module _ (s : List ℕ) (n m z : ℕ) where
@@ -50,7 +51,8 @@ short-text s n m i j e = by (ltb n 49152) (ltb m 32768) (ltb 65536 (length s)) r
     by a b false u v w = ltb-false 65536 (length s) w
     by true b true u v w = absurd (tree-bad (meaning s n m) i j 1 0 e (no-nodes s n m (ltb-true n 49152 u)))
     by false true true u v w = absurd (tree-bad (meaning s n m) i j 1 0 e (no-attrs s n m (ltb-false n 49152 u) (ltb-true m 32768 v)))
-    by false false true u v w = absurd (tree-bad (meaning s n m) i j 2 0 e (too-long s n m (ltb-false n 49152 u) (ltb-false m 32768 v) (ltb-true 65536 (length s) w)))
+    by false false true u v w =
+        absurd (tree-bad (meaning s n m) i j 2 0 e (too-long s n m (ltb-false n 49152 u) (ltb-false m 32768 v) (ltb-true 65536 (length s) w)))
 
 -- the counts that are answered
 counted : (o : Out) (i j : ℕ) → Tree i j ≡ answerOf o → (i ≡ size (treeOf o)) × (j ≡ length (attrsOf (treeOf o)))
@@ -86,15 +88,18 @@ module _ (t : List ℕ) (hi : ℕ) where
   node-fits (elem p n l c f) k a lo st o zero h =
       let r = on-elem t k a p n l c f st .0 in
       let z : k + 0 ≡ k = omega arith in
-      rw (z, element-bytes [] t k (k + 1 + size c) p n a (length l) r .0, r .len-is) (in-whole (attrSpans l ++ (spans c ++ spans f)) (p + 1 + n) hi (o .1))
+      rw (z, element-bytes [] t k (k + 1 + size c) p n a (length l) r .0,
+          r .len-is) (in-whole (attrSpans l ++ (spans c ++ spans f)) (p + 1 + n) hi (o .1))
   node-fits (elem p n l c f) k a lo st o (suc i) h =
       let x = on-elem t k a p n l c f st in
       let g : InOrder (p + 1 + n) (spans c ++ spans f) hi = in-rest (attrSpans l) (spans c ++ spans f) (p + 1 + n) hi (o .1) in
       inner (ltb i (size c)) refl
       (λ b. node-fits c (k + 1) (a + length l) (p + 1 + n) (x .1) (in-first (spans c) (spans f) (p + 1 + n) hi g) i b)
-      (λ b. node-fits f (k + 1 + size c) (a + length l + length (attrsOf c)) (p + 1 + n) (x .2) (in-rest (spans c) (spans f) (p + 1 + n) hi g) (i - size c) (omega arith))
+      (λ b. node-fits f (k + 1 + size c) (a + length l + length (attrsOf c)) (p + 1 + n) (x .2) (in-rest (spans c) (spans f) (p + 1 + n) hi g)
+          (i - size c) (omega arith))
     where
-      inner : (b : Bool) → ltb i (size c) ≡ b → (i < size c → Fitted (k + 1 + i)) → (size c ≤ i → Fitted (k + 1 + size c + (i - size c))) → Fitted (k + suc i)
+      inner : (b : Bool) → ltb i (size c) ≡ b → (i < size c → Fitted (k + 1 + i)) → (size c ≤ i → Fitted (k + 1 + size c + (i - size c)))
+          → Fitted (k + suc i)
       inner true e u v = let z : k + suc i ≡ k + 1 + i = omega arith in rw z (u (ltb-true i (size c) e))
       inner false e u v =
           let w : size c ≤ i = ltb-false i (size c) e in
@@ -142,19 +147,23 @@ module _ (s : List ℕ) (n m z : ℕ) where
   unfolding answerOf nodesOf attrCells readOut stringsOf
   left-small t u w h a b c = rw (raw-small s n m z h) (refl, (a, (b, c)))
 
-  refused-out : (o : Out) (r : Refusal) (t u w : List ℕ) → Refused r ≡ answerOf o → t ≡ nodesOf n o → u ≡ attrCells m o → w ≡ replicate z 0 → Left s n m z o (Refused r) t u w
+  refused-out : (o : Out) (r : Refusal) (t u w : List ℕ) → Refused r ≡ answerOf o → t ≡ nodesOf n o → u ≡ attrCells m o → w ≡ replicate z 0
+      → Left s n m z o (Refused r) t u w
   unfolding answerOf nodesOf attrCells readOut stringsOf
   refused-out (got f q k a) r t u w e x y v = let d : _≡_ {A = ℕ} 0 1 = cc in absurd (omega arith)
   refused-out (nothing q) r t u w e x y v = let d : _≡_ {A = ℕ} 0 1 = cc in absurd (omega arith)
   refused-out (bad i q) r t u w e x y v = (e, (x, (y, v)))
 
-  pub left-refused : (r : Refusal) (t u w : List ℕ) → 65536 ≤ z → Refused r ≡ answerOf (meaning s n m) → t ≡ nodesOf n (meaning s n m) → u ≡ attrCells m (meaning s n m)
+  pub left-refused : (r : Refusal) (t u w : List ℕ) → 65536 ≤ z → Refused r ≡ answerOf (meaning s n m) → t ≡ nodesOf n (meaning s n m) → u
+      ≡ attrCells m (meaning s n m)
       → w ≡ replicate z 0 → Left s n m z (raw s n m z) (Refused r) t u w
   left-refused r t u w h e x y v = rw (raw-enough s n m z h) (refused-out (meaning s n m) r t u w e x y v)
 
   module _ (i j : ℕ) (t t′ u u′ y w : List ℕ) where
-    tree-out : (o : Out) → ((f : Forest) (q k a : ℕ) → o ≡ got f q k a → InOrder 0 (spans f) (length s)) → Tree i j ≡ answerOf o → t ≡ nodesOf n o → u ≡ attrCells m o
-        → t′ ≡ nodesRead s t i → y ≡ nodeStringsRead s t (replicate z 0) i → u′ ≡ attrsRead s u j → w ≡ attrStringsRead s u y j → Left s n m z o (Tree i j) t′ u′ w
+    tree-out : (o : Out) → ((f : Forest) (q k a : ℕ) → o ≡ got f q k a → InOrder 0 (spans f) (length s)) → Tree i j ≡ answerOf o → t ≡ nodesOf n o
+        → u ≡ attrCells m o
+        → t′ ≡ nodesRead s t i → y ≡ nodeStringsRead s t (replicate z 0) i → u′ ≡ attrsRead s u j → w ≡ attrStringsRead s u y j
+            → Left s n m z o (Tree i j) t′ u′ w
     unfolding answerOf nodesOf attrCells readOut stringsOf nodesRead nodeStringsRead attrsRead attrStringsRead
     tree-out (got f q k a) placed e et eu et′ ey eu′ ew =
         let ei : i ≡ size f = cc in
@@ -175,7 +184,9 @@ module _ (s : List ℕ) (n m z : ℕ) where
         (e, (et′ ∙ rw ei et, (eu′ ∙ rw ej eu, ew ∙ rw (ej, ey, ei))))
     tree-out (bad x q) placed e et eu et′ ey eu′ ew = absurd (tree-bad (bad x q) i j x q e refl)
 
-    pub left-tree : (b : List ℕ) → 65536 ≤ z → Tree i j ≡ answerOf (meaning s n m) → t ≡ nodesOf n (meaning s n m) → u ≡ attrCells m (meaning s n m) → b ≡ replicate z 0
-        → t′ ≡ nodesRead s t i → y ≡ nodeStringsRead s t b i → u′ ≡ attrsRead s u j → w ≡ attrStringsRead s u y j → Left s n m z (raw s n m z) (Tree i j) t′ u′ w
+    pub left-tree : (b : List ℕ) → 65536 ≤ z → Tree i j ≡ answerOf (meaning s n m) → t ≡ nodesOf n (meaning s n m) → u ≡ attrCells m (meaning s n m)
+        → b ≡ replicate z 0
+        → t′ ≡ nodesRead s t i → y ≡ nodeStringsRead s t b i → u′ ≡ attrsRead s u j → w ≡ attrStringsRead s u y j
+            → Left s n m z (raw s n m z) (Tree i j) t′ u′ w
     left-tree b h e et eu eb et′ ey eu′ ew =
         rw (raw-enough s n m z h) (tree-out (meaning s n m) (λ f q k a. meaning-placed s n m f q k a) e et eu et′ (ey ∙ rw eb) eu′ ew)

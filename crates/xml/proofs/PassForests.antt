@@ -43,7 +43,8 @@ module _ (s : List ℕ) where
   attrs-read nil = refl
   attrs-read (text p n f) = attrs-read f
   attrs-read (section p n f) = attrs-read f
-  attrs-read (elem p n l c f) = rw (attrs-read-append l (attrsOf c ++ attrsOf f), attrs-read-append (attrsOf c) (attrsOf f), attrs-read c, attrs-read f)
+  attrs-read (elem p n l c f) =
+      rw (attrs-read-append l (attrsOf c ++ attrsOf f), attrs-read-append (attrsOf c) (attrsOf f), attrs-read c, attrs-read f)
 
   pub size-read : (f : Forest) → size (readForest s f) ≡ size f
   unfolding size readForest
@@ -67,7 +68,8 @@ same-set t j v e = rw (← e) (set-getD t j 0)
 after-set : (t : List ℕ) (i j x v : ℕ) → i < j → getD t j 0 ≡ v → set (set t i x) j v ≡ set t i x
 after-set t i j x v h e = same-set (set t i x) j v (getD-set-other t i j x 0 (λ w. omega arith) ∙ e)
 
-row-set : (t : List ℕ) (j a b c x d e : ℕ) → getD t j 0 ≡ a → getD t (j + 1) 0 ≡ b → getD t (j + 2) 0 ≡ c → getD t (j + 4) 0 ≡ d → getD t (j + 5) 0 ≡ e
+row-set : (t : List ℕ) (j a b c x d e : ℕ) → getD t j 0 ≡ a → getD t (j + 1) 0 ≡ b → getD t (j + 2) 0 ≡ c → getD t (j + 4) 0 ≡ d → getD t (j + 5) 0
+    ≡ e
     → set t (j + 3) x ≡ sets t j (row a b c x d e)
 unfolding row
 row-set t j a b c x d e ea eb ec ed ee =
@@ -84,7 +86,8 @@ row-set t j a b c x d e ea eb ec ed ee =
       after-set t (suc (suc (suc j))) (suc (suc (suc (suc (suc j))))) x e (omega arith) ee′,
     )
 
-attr-row-set : (u : List ℕ) (j a b c x : ℕ) → getD u j 0 ≡ a → getD u (j + 1) 0 ≡ b → getD u (j + 2) 0 ≡ c → set u (j + 3) x ≡ sets u j (a ∷ b ∷ c ∷ x ∷ [])
+attr-row-set : (u : List ℕ) (j a b c x : ℕ) → getD u j 0 ≡ a → getD u (j + 1) 0 ≡ b → getD u (j + 2) 0 ≡ c → set u (j + 3) x
+    ≡ sets u j (a ∷ b ∷ c ∷ x ∷ [])
 attr-row-set u j a b c x ea eb ec =
     let eb′ : getD u (suc j) 0 ≡ b = rw (add-one j) at eb in
     let ec′ : getD u (suc (suc j)) 0 ≡ c = rw (add-two j) at ec in
@@ -112,10 +115,12 @@ module _ (s t : List ℕ) where
     row-read kind w r e =
         let old : (i : ℕ) → k * 6 ≤ i → getD (nodesRead s t k) i 0 ≡ getD t i 0 = nodes-after s t k in
         rw (add-one k, e)
-        (row-set (nodesRead s t k) (k * 6) kind end p (length w) first many (old (k * 6) (omega arith) ∙ r .kind-is) (old (k * 6 + 1) (omega arith) ∙ r .end-is)
+        (row-set (nodesRead s t k) (k * 6) kind end p (length w) first many (old (k * 6) (omega arith) ∙ r .kind-is) (old (k * 6 + 1) (omega arith)
+            ∙ r .end-is)
         (old (k * 6 + 2) (omega arith) ∙ r .place-is) (old (k * 6 + 4) (omega arith) ∙ r .first-is) (old (k * 6 + 5) (omega arith) ∙ r .many-is))
 
-    string-read : (z : List ℕ) (q : ℕ) (w : List ℕ) → (nodePlace t k ≡ q) × (nodeBytes s t k ≡ w) → nodeStringsRead s t z (k + 1) ≡ sets (nodeStringsRead s t z k) q w
+    string-read : (z : List ℕ) (q : ℕ) (w : List ℕ) → (nodePlace t k ≡ q) × (nodeBytes s t k ≡ w) → nodeStringsRead s t z (k + 1)
+        ≡ sets (nodeStringsRead s t z k) q w
     unfolding nodeStringsRead
     string-read z q w e = rw (add-one k, e .0, e .1)
 
@@ -124,7 +129,8 @@ module _ (s t : List ℕ) where
       → nodesRead s t m ≡ sets (nodesRead s t (k + 1)) ((k + 1) * 6) w
       → nodesRead s t m ≡ sets (nodesRead s t k) (k * 6) (row kind end p n first many ++ w)
   unfolding row
-  rows-on k m kind end p n first many w e f = sets-on (row kind end p n first many) w (nodesRead s t k) (nodesRead s t (k + 1)) (nodesRead s t m) (k * 6) ((k + 1) * 6) e f (omega arith)
+  rows-on k m kind end p n first many w e f =
+      sets-on (row kind end p n first many) w (nodesRead s t k) (nodesRead s t (k + 1)) (nodesRead s t m) (k * 6) ((k + 1) * 6) e f (omega arith)
 
   pub pass-forest : (f : Forest) (k a lo : ℕ) → Stands t k a f → InOrder lo (spans f) (length s)
       → nodesRead s t (k + size f) ≡ sets (nodesRead s t k) (k * 6) (rows k a (readForest s f))
@@ -134,13 +140,15 @@ module _ (s t : List ℕ) where
       let o = on-text t k a p n f st in
       let z : k + (1 + size f) ≡ k + 1 + size f = omega arith in
       rw z (rows-on k (k + 1 + size f) 1 (k + 1) p (length (decoded (stringAt s p n))) 0 0 (rows (k + 1) a (readForest s f))
-      (row-read k (k + 1) p n 0 0 1 (decoded (stringAt s p n)) (o .0) (text-bytes k (k + 1) p n 0 0 (o .0) .1)) (pass-forest f (k + 1) a (p + n) (o .1) (i .1)))
+      (row-read k (k + 1) p n 0 0 1 (decoded (stringAt s p n)) (o .0) (text-bytes k (k + 1) p n 0 0 (o .0) .1))
+          (pass-forest f (k + 1) a (p + n) (o .1) (i .1)))
   pass-forest (section p n f) k a lo st i =
       let o = on-section t k a p n f st in
       let z : k + (1 + size f) ≡ k + 1 + size f = omega arith in
       let l : length (stringAt s p n) ≡ n = string-long s p n (in-whole (spans f) (p + n) (length s) (i .1)) in
       rw z (rows-on k (k + 1 + size f) 3 (k + 1) p n 0 0 (rows (k + 1) a (readForest s f))
-      (rw l at (row-read k (k + 1) p n 0 0 3 (stringAt s p n) (o .0) (section-bytes k (k + 1) p n 0 0 (o .0) .1))) (pass-forest f (k + 1) a (p + n) (o .1) (i .1)))
+      (rw l at (row-read k (k + 1) p n 0 0 3 (stringAt s p n) (o .0) (section-bytes k (k + 1) p n 0 0 (o .0) .1)))
+          (pass-forest f (k + 1) a (p + n) (o .1) (i .1)))
   pass-forest (elem p n l c f) k a lo st i =
       let b : ℕ = a + length l in
       let d : ℕ = a + length l + length (attrsOf c) in
@@ -151,21 +159,25 @@ module _ (s t : List ℕ) where
       let w : length (stringAt s (p + 1) n) ≡ n = string-long s (p + 1) n (in-whole (spans c ++ spans f) (p + 1 + n) (length s) g) in
       let q : List ℕ = rows (k + 1) b (readForest s c) in
       let r : List ℕ = rows e d (readForest s f) in
-      let x : nodesRead s t e ≡ sets (nodesRead s t (k + 1)) ((k + 1) * 6) q = pass-forest c (k + 1) b (p + 1 + n) (o .1) (in-first (spans c) (spans f) (p + 1 + n) (length s) g) in
-      let y : nodesRead s t (e + size f) ≡ sets (nodesRead s t e) (e * 6) r = pass-forest f e d (p + 1 + n) (o .2) (in-rest (spans c) (spans f) (p + 1 + n) (length s) g) in
+      let x : nodesRead s t e ≡ sets (nodesRead s t (k + 1)) ((k + 1) * 6) q =
+          pass-forest c (k + 1) b (p + 1 + n) (o .1) (in-first (spans c) (spans f) (p + 1 + n) (length s) g) in
+      let y : nodesRead s t (e + size f) ≡ sets (nodesRead s t e) (e * 6) r =
+          pass-forest f e d (p + 1 + n) (o .2) (in-rest (spans c) (spans f) (p + 1 + n) (length s) g) in
       let v : nodesRead s t (e + size f) ≡ sets (nodesRead s t (k + 1)) ((k + 1) * 6) (q ++ r)
       = sets-on q r (nodesRead s t (k + 1)) (nodesRead s t e) (nodesRead s t (e + size f)) ((k + 1) * 6) (e * 6) x y
       (omega (arith, length-rows (readForest s c) (k + 1) b, size-read s c)) in
       rw (z, size-read s c, length-attrs-read s l, many-read s c) (rows-on k (e + size f) 2 e p n a (length l) (q ++ r)
       (rw w at (row-read k e p n a (length l) 2 (stringAt s (p + 1) n) (o .0) (element-bytes k e p n a (length l) (o .0) .1))) v)
 
-  pub pass-strings : (z : List ℕ) (f : Forest) (k a : ℕ) → Stands t k a f → nodeStringsRead s t z (k + size f) ≡ lay (nodeStringsRead s t z k) (nodeStrings s f)
+  pub pass-strings : (z : List ℕ) (f : Forest) (k a : ℕ) → Stands t k a f → nodeStringsRead s t z (k + size f)
+      ≡ lay (nodeStringsRead s t z k) (nodeStrings s f)
   unfolding size nodeStrings lay
   pass-strings z nil k a st = let e : k + 0 ≡ k = omega arith in rw e
   pass-strings z (text p n f) k a st =
       let o = on-text t k a p n f st in
       let e : k + (1 + size f) ≡ k + 1 + size f = omega arith in
-      rw e (pass-strings z f (k + 1) a (o .1) ∙ rw (string-read k (k + 1) p n 0 0 z p (decoded (stringAt s p n)) (text-bytes k (k + 1) p n 0 0 (o .0))))
+      rw e (pass-strings z f (k + 1) a (o .1) ∙ rw (string-read k (k + 1) p n 0 0 z p (decoded (stringAt s p n))
+          (text-bytes k (k + 1) p n 0 0 (o .0))))
   pass-strings z (section p n f) k a st =
       let o = on-section t k a p n f st in
       let e : k + (1 + size f) ≡ k + 1 + size f = omega arith in
@@ -177,7 +189,8 @@ module _ (s t : List ℕ) where
       let w : nodeStringsRead s t z (k + 1) ≡ y
       = string-read k (k + 1 + size c) p n a (length l) z (p + 1) (stringAt s (p + 1) n) (element-bytes k (k + 1 + size c) p n a (length l) (o .0)) in
       rw e (pass-strings z f (k + 1 + size c) (a + length l + length (attrsOf c)) (o .2)
-      ∙ (ap (λ (x : List ℕ). lay x (nodeStrings s f)) (pass-strings z c (k + 1) (a + length l) (o .1) ∙ ap (λ (x : List ℕ). lay x (nodeStrings s c)) w)
+      ∙ (ap (λ (x : List ℕ). lay x (nodeStrings s f)) (pass-strings z c (k + 1) (a + length l) (o .1)
+          ∙ ap (λ (x : List ℕ). lay x (nodeStrings s c)) w)
       ∙ sym (lay-append (nodeStrings s c) (nodeStrings s f) y)))
 
 -- ---- attributes
@@ -187,12 +200,14 @@ module _ (s u : List ℕ) where
   value-of j x r = rw (r .value-is, r .value-len-is)
 
   attr-read : (j : ℕ) (x : Attr) → AttrIs u j x
-      → attrsRead s u (j + 1) ≡ sets (attrsRead s u j) (j * 4) (x .name ∷ x .nameLen ∷ x .value ∷ length (decoded (stringAt s (x .value) (x .valueLen))) ∷ [])
+      → attrsRead s u (j + 1) ≡ sets (attrsRead s u j) (j * 4) (x .name ∷ x .nameLen ∷ x .value
+          ∷ length (decoded (stringAt s (x .value) (x .valueLen))) ∷ [])
   unfolding attrsRead
   attr-read j x r =
       let old : (i : ℕ) → j * 4 ≤ i → getD (attrsRead s u j) i 0 ≡ getD u i 0 = attrs-after s u j in
       rw (add-one j, value-of j x r)
-      (attr-row-set (attrsRead s u j) (j * 4) (x .name) (x .nameLen) (x .value) (length (decoded (stringAt s (x .value) (x .valueLen)))) (old (j * 4) (omega arith) ∙ r .name-is)
+      (attr-row-set (attrsRead s u j) (j * 4) (x .name) (x .nameLen) (x .value) (length (decoded (stringAt s (x .value) (x .valueLen))))
+          (old (j * 4) (omega arith) ∙ r .name-is)
       (old (j * 4 + 1) (omega arith) ∙ r .name-len-is) (old (j * 4 + 2) (omega arith) ∙ r .value-is))
 
   pub pass-attrs : (l : List Attr) (j : ℕ) → Listed u j l → attrsRead s u (j + length l) ≡ sets (attrsRead s u j) (j * 4) (attrRows (readAttrs s l))
@@ -206,11 +221,13 @@ module _ (s u : List ℕ) where
       (attr-read j x (o .0)) (pass-attrs l (j + 1) (o .1)) (omega arith))
 
   attr-string-read : (z : List ℕ) (j : ℕ) (x : Attr) → AttrIs u j x
-      → attrStringsRead s u z (j + 1) ≡ sets (sets (attrStringsRead s u z j) (x .name) (stringAt s (x .name) (x .nameLen))) (x .value) (decoded (stringAt s (x .value) (x .valueLen)))
+      → attrStringsRead s u z (j + 1) ≡ sets (sets (attrStringsRead s u z j) (x .name) (stringAt s (x .name) (x .nameLen))) (x .value)
+          (decoded (stringAt s (x .value) (x .valueLen)))
   unfolding attrStringsRead attrWritten
   attr-string-read z j x r = rw (add-one j, value-of j x r, r .name-is, r .name-len-is, r .value-is)
 
-  pub pass-attr-strings : (z : List ℕ) (l : List Attr) (j : ℕ) → Listed u j l → attrStringsRead s u z (j + length l) ≡ lay (attrStringsRead s u z j) (attrStrings s l)
+  pub pass-attr-strings : (z : List ℕ) (l : List Attr) (j : ℕ) → Listed u j l → attrStringsRead s u z (j + length l)
+      ≡ lay (attrStringsRead s u z j) (attrStrings s l)
   unfolding lay attrStrings
   pass-attr-strings z [] j y = let e : j + 0 ≡ j = omega arith in rw e
   pass-attr-strings z (x ∷ l) j y =
@@ -226,7 +243,8 @@ sets-first w v tail t e l =
     let h : length t ≡ length v + length tail = ap length e ∙ length-append v tail in
     sets-eq w t 0 (omega arith) ∙ rw (z, e) (ap (λ (x : List ℕ). w ++ x) (drop-at v tail (length v) refl))
 
-pub nodes-pass : (s t tail : List ℕ) (f : Forest) (lo : ℕ) → t ≡ rows 0 0 f ++ tail → InOrder lo (spans f) (length s) → nodesRead s t (size f) ≡ rows 0 0 (readForest s f) ++ tail
+pub nodes-pass : (s t tail : List ℕ) (f : Forest) (lo : ℕ) → t ≡ rows 0 0 f ++ tail → InOrder lo (spans f) (length s) → nodesRead s t (size f)
+    ≡ rows 0 0 (readForest s f) ++ tail
 unfolding nodesRead
 nodes-pass s t tail f lo e i =
     let z : 0 + size f ≡ size f = omega arith in
@@ -242,7 +260,8 @@ attrs-pass s u tail l e =
     (rw z at (pass-attrs s u l 0 (record { tail = tail; is = e })))
     ∙ sets-first w (attrRows l) tail u e (omega (arith, length-attrRows (readAttrs s l), length-attrRows l, length-attrs-read s l))
 
-pub strings-pass : (s t u z tail tail′ : List ℕ) (f : Forest) (lo hi : ℕ) → t ≡ rows 0 0 f ++ tail → u ≡ attrRows (attrsOf f) ++ tail′ → InOrder lo (spans f) hi
+pub strings-pass : (s t u z tail tail′ : List ℕ) (f : Forest) (lo hi : ℕ) → t ≡ rows 0 0 f ++ tail → u ≡ attrRows (attrsOf f) ++ tail′
+    → InOrder lo (spans f) hi
     → attrStringsRead s u (nodeStringsRead s t z (size f)) (length (attrsOf f)) ≡ lay z (strings s f)
 unfolding nodeStringsRead attrStringsRead
 strings-pass s t u z tail tail′ f lo hi e w i =

@@ -2,7 +2,8 @@
 --     place-element, place-other, wrote-text, wrote-other   a node's row, as the program reads it
 --     string-short, node-short, value-short                 what is written is no longer than what stands in the text
 --     nodes-room, node-strings-room, nodes-after, nodes-ready, nodes-next, node-strings-next           the pass over nodes
---     value-long, attr-wrote, attrs-room, attr-strings-room, attrs-after, attrs-ready, attrs-next, attr-strings-next           the pass over attributes
+--     value-long, attr-wrote, attrs-room, attr-strings-room, attrs-after, attrs-ready, attrs-next, attr-strings-next           the pass over
+-- attributes
 use Prim.Native.Nat.{ℕ, zero, suc, _+_, _-_, _*_, _≤_}
 use mathlib.Core.Path.{_≡_, refl, ap, _∙_}
 use mathlib.Core.Bool.{Bool, true, false}
@@ -19,7 +20,8 @@ use Rattle.scan.proofs.Stores.{sets-other}
 use Rattle.entities.specs.Decode.{decoded}
 use Rattle.entities.proofs.Decoding.{decoded-short}
 use Rattle.scan.specs.Part.{stringAt}
-use Rattle.xml.specs.Passes.{nodePlace, nodeBytes, nodesRead, nodeStringsRead, NodeReady, valueBytes, attrsRead, attrWritten, attrStringsRead, AttrReady}
+use Rattle.xml.specs.Passes.{nodePlace, nodeBytes, nodesRead, nodeStringsRead, NodeReady, valueBytes, attrsRead, attrWritten}
+use Rattle.xml.specs.Passes.{attrStringsRead, AttrReady}
 
 -- ---- one row
 module _ (t : List ℕ) (k : ℕ) where
@@ -32,7 +34,8 @@ module _ (t : List ℕ) (k : ℕ) where
   place-other a r e w z = rw (z, w, ne-eqb (getD t (k * 6) 0) 2 e)
 
   module _ (s z z′ : List ℕ) (p n q : ℕ) (at : p ≡ nodePlace t k) (long : n ≡ getD t (k * 6 + 3) 0) where
-    pub wrote-text : getD t (k * 6) 0 ≡ 1 → Appended (decoded (take (p + n - p) (drop p s))) p z z′ q → Appended (nodeBytes s t k) (nodePlace t k) z z′ q
+    pub wrote-text : getD t (k * 6) 0 ≡ 1 → Appended (decoded (take (p + n - p) (drop p s))) p z z′ q
+        → Appended (nodeBytes s t k) (nodePlace t k) z z′ q
     unfolding nodeBytes stringAt
     wrote-text e w = rw (e, ← at, ← long) w
 
@@ -73,7 +76,8 @@ module _ (s t : List ℕ) where
   pub nodes-after : (k i : ℕ) → k * 6 ≤ i → getD (nodesRead s t k) i 0 ≡ getD t i 0
   unfolding nodesRead
   nodes-after zero i h = refl
-  nodes-after (suc k) i h = sets-other (length (nodeBytes s t k) ∷ []) (nodesRead s t k) (k * 6 + 3) i (inr (omega arith)) ∙ nodes-after k i (omega arith)
+  nodes-after (suc k) i h =
+      sets-other (length (nodeBytes s t k) ∷ []) (nodesRead s t k) (k * 6 + 3) i (inr (omega arith)) ∙ nodes-after k i (omega arith)
 
   node-place-after : (k : ℕ) → nodePlace (nodesRead s t k) k ≡ nodePlace t k
   unfolding nodePlace
@@ -83,7 +87,8 @@ module _ (s t : List ℕ) where
   unfolding nodeBytes
   node-bytes-after k = rw (node-place-after k, nodes-after k (k * 6) (omega arith), nodes-after k (k * 6 + 3) (omega arith))
 
-  pub nodes-next : (k : ℕ) (t′ t″ : List ℕ) → t′ ≡ nodesRead s t k → t″ ≡ sets t′ (k * 6 + 3) (length (nodeBytes s t′ k) ∷ []) → t″ ≡ nodesRead s t (k + 1)
+  pub nodes-next : (k : ℕ) (t′ t″ : List ℕ) → t′ ≡ nodesRead s t k → t″ ≡ sets t′ (k * 6 + 3) (length (nodeBytes s t′ k) ∷ []) → t″
+      ≡ nodesRead s t (k + 1)
   unfolding nodesRead
   nodes-next k t′ t″ e w = w ∙ rw (e, node-bytes-after k, add-one k)
 
@@ -102,7 +107,8 @@ module _ (s t : List ℕ) where
           fits = rw (e, node-place-after k, nodes-after k (k * 6 + 3) (omega arith)) (r .fits);
         }
 
-    pub node-strings-next : (k : ℕ) (t′ z′ z″ : List ℕ) → t′ ≡ nodesRead s t k → z′ ≡ nodeStringsRead s t z k → z″ ≡ sets z′ (nodePlace t′ k) (nodeBytes s t′ k)
+    pub node-strings-next : (k : ℕ) (t′ z′ z″ : List ℕ) → t′ ≡ nodesRead s t k → z′ ≡ nodeStringsRead s t z k → z″
+        ≡ sets z′ (nodePlace t′ k) (nodeBytes s t′ k)
         → z″ ≡ nodeStringsRead s t z (k + 1)
     unfolding nodeStringsRead
     node-strings-next k t′ z′ z″ e w x = x ∙ rw (e, w, node-place-after k, node-bytes-after k, add-one k)
@@ -112,11 +118,14 @@ value-is : (s u : List ℕ) (k p n : ℕ) → p ≡ getD u (k * 4 + 2) 0 → n �
 unfolding valueBytes stringAt
 value-is s u k p n e w = rw (e, w)
 
-pub value-long : (s u : List ℕ) (k p n q : ℕ) → p ≡ getD u (k * 4 + 2) 0 → n ≡ getD u (k * 4 + 3) 0 → q ≡ p + length (decoded (take (p + n - p) (drop p s)))
+pub value-long : (s u : List ℕ) (k p n q : ℕ) → p ≡ getD u (k * 4 + 2) 0 → n ≡ getD u (k * 4 + 3) 0 → q
+    ≡ p + length (decoded (take (p + n - p) (drop p s)))
     → q - p ≡ length (valueBytes s u k)
-value-long s u k p n q e w x = let y : length (decoded (take (p + n - p) (drop p s))) ≡ length (valueBytes s u k) = ap length (value-is s u k p n e w) in omega arith
+value-long s u k p n q e w x =
+    let y : length (decoded (take (p + n - p) (drop p s))) ≡ length (valueBytes s u k) = ap length (value-is s u k p n e w) in omega arith
 
-pub attr-wrote : (s u z z′ z″ : List ℕ) (k a n p m : ℕ) → a ≡ getD u (k * 4) 0 → n ≡ getD u (k * 4 + 1) 0 → p ≡ getD u (k * 4 + 2) 0 → m ≡ getD u (k * 4 + 3) 0
+pub attr-wrote : (s u z z′ z″ : List ℕ) (k a n p m : ℕ) → a ≡ getD u (k * 4) 0 → n ≡ getD u (k * 4 + 1) 0 → p ≡ getD u (k * 4 + 2) 0 → m
+    ≡ getD u (k * 4 + 3) 0
     → z′ ≡ sets z a (take (a + n - a) (drop a s)) → z″ ≡ sets z′ p (decoded (take (p + m - p) (drop p s))) → z″ ≡ attrWritten s u z k
 unfolding attrWritten stringAt
 attr-wrote s u z z′ z″ k a n p m ea en ep em w x = x ∙ rw (w, value-is s u k p m ep em, ← ea, ← en, ← ep)
@@ -130,13 +139,15 @@ module _ (s u : List ℕ) where
   pub attrs-after : (k i : ℕ) → k * 4 ≤ i → getD (attrsRead s u k) i 0 ≡ getD u i 0
   unfolding attrsRead
   attrs-after zero i h = refl
-  attrs-after (suc k) i h = sets-other (length (valueBytes s u k) ∷ []) (attrsRead s u k) (k * 4 + 3) i (inr (omega arith)) ∙ attrs-after k i (omega arith)
+  attrs-after (suc k) i h =
+      sets-other (length (valueBytes s u k) ∷ []) (attrsRead s u k) (k * 4 + 3) i (inr (omega arith)) ∙ attrs-after k i (omega arith)
 
   value-bytes-after : (k : ℕ) → valueBytes s (attrsRead s u k) k ≡ valueBytes s u k
   unfolding valueBytes
   value-bytes-after k = rw (attrs-after k (k * 4 + 2) (omega arith), attrs-after k (k * 4 + 3) (omega arith))
 
-  pub attrs-next : (k : ℕ) (u′ u″ : List ℕ) → u′ ≡ attrsRead s u k → u″ ≡ sets u′ (k * 4 + 3) (length (valueBytes s u′ k) ∷ []) → u″ ≡ attrsRead s u (k + 1)
+  pub attrs-next : (k : ℕ) (u′ u″ : List ℕ) → u′ ≡ attrsRead s u k → u″ ≡ sets u′ (k * 4 + 3) (length (valueBytes s u′ k) ∷ []) → u″
+      ≡ attrsRead s u (k + 1)
   unfolding attrsRead
   attrs-next k u′ u″ e w = w ∙ rw (e, value-bytes-after k, add-one k)
 
@@ -160,7 +171,9 @@ module _ (s u : List ℕ) where
           value-fits = rw (e, attrs-after k (k * 4 + 2) (omega arith), attrs-after k (k * 4 + 3) (omega arith)) (r .value-fits);
         }
 
-    pub attr-strings-next : (k : ℕ) (u′ z′ z″ : List ℕ) → u′ ≡ attrsRead s u k → z′ ≡ attrStringsRead s u z k → z″ ≡ attrWritten s u′ z′ k → z″ ≡ attrStringsRead s u z (k + 1)
+    pub attr-strings-next : (k : ℕ) (u′ z′ z″ : List ℕ) → u′ ≡ attrsRead s u k → z′ ≡ attrStringsRead s u z k → z″ ≡ attrWritten s u′ z′ k → z″
+        ≡ attrStringsRead s u z (k + 1)
     unfolding attrStringsRead attrWritten
     attr-strings-next k u′ z′ z″ e w x =
-        x ∙ rw (e, w, value-bytes-after k, attrs-after k (k * 4) (omega arith), attrs-after k (k * 4 + 1) (omega arith), attrs-after k (k * 4 + 2) (omega arith), add-one k)
+        x ∙ rw (e, w, value-bytes-after k, attrs-after k (k * 4) (omega arith), attrs-after k (k * 4 + 1) (omega arith),
+            attrs-after k (k * 4 + 2) (omega arith), add-one k)

@@ -4,40 +4,40 @@
 --     nodes-counted, attrs-counted   a placed forest has as many nodes and attributes as the tree that it shows
 --     laid-outside              a byte outside of all strings is as it was
 --     parsed-of                 the promise
-use Prim.Native.Nat.{ℕ, zero, suc, _+_, _-_, _*_, _≤_, _<_}
+use Prim.Native.Nat.{ℕ, zero, suc, _+_, _-_, _≤_, _<_}
 use mathlib.Core.Path.{_≡_, refl, sym, ap, ap₂, subst, _∙_}
 use mathlib.Core.Bool.{Bool, true, false}
 use mathlib.Core.Logic.{_⊎_, inl, inr}
 use mathlib.Core.List.{List, [], _∷_, _++_}
 use native.Mathlib.Omega.{arith}
-use lib.ListN.{length, getD, replicate, length-append, length-replicate, getD-replicate}
+use lib.ListN.{length, getD, replicate, length-append, length-replicate}
 use lib.Seq.{sets}
 use lib.Dec.{ltb}
 use borrow.Author.Tests.{ltb-true, ltb-false}
 use Rattle.scan.specs.Part.{stringAt}
 use Rattle.scan.proofs.Stores.{sets-other}
-use Rattle.unicode.specs.Utf8.{Utf8, utf8End}
+use Rattle.unicode.specs.Utf8.{utf8End}
 use Rattle.unicode.proofs.Utf8Laws.{end-within, end-valid, end-longest, utf8-end, end-utf8}
 use Rattle.entities.specs.Decode.{decoded}
-use Rattle.grammar.specs.Tree as tree
 use Rattle.grammar.specs.Tree.{Forest}
 use Rattle.grammar.specs.Limits as count
-use Rattle.grammar.specs.Demand.{Result, refused, Derives, decodeForest}
-use Rattle.grammar.specs.Refusals.{Meets, too-deep, too-many-nodes, no-tag-name, too-many-attributes, slash, no-value, end-in-tag, open-close-tag, FirstMet}
+use Rattle.grammar.specs.Demand.{Result, refused, decodeForest}
+use Rattle.grammar.specs.Refusals.{Meets, too-deep, too-many-nodes, no-tag-name, too-many-attributes, slash, no-value, end-in-tag, open-close-tag}
+use Rattle.tree.specs.Answers.{numberOf, placeOf, Says}
 use Rattle.tree.specs.Trees as placed
 use Rattle.tree.specs.Trees.{Attr, nil, text, section, elem, size, attrsOf, rows, attrRows, Span, attrSpans, spans, InOrder}
-use Rattle.tree.specs.Read.{Out, got, nothing, bad, meaning, answerOf, nodesOf, attrCells}
+use Rattle.tree.specs.Read.{Out, got, nothing, bad, answerOf, nodesOf, attrCells}
 use Rattle.tree.specs.Posts.{Fits}
 use Rattle.tree.specs.declared.answers.Answer.{Answer}
 use Rattle.tree.specs.declared.answers.Answer.the-variants.{Tree, Refused}
-use Rattle.tree.specs.declared.answers.Refusal.{Refusal}
 use Rattle.tree.proofs.Forests.{length-rows}
 use Rattle.tree.proofs.Tags.{length-attrRows}
 use Rattle.tree.proofs.Places.{meaning-placed}
-use Rattle.derivation.specs.Strings.{attrIn, attrsIn, treeIn}
+use Rattle.derivation.specs.Strings.{attrsIn, treeIn}
 use Rattle.derivation.proofs.Theorem.{Gives, gives-exactly}
 use Rattle.xml.specs.Reading.{Placed, attrStrings, strings, lay, readAttrs, readForest, raw, readOut, stringsOf}
-use Rattle.xml.specs.Promise.{numberOf, placeOf, Says, Tables, tables, LongEnough, AllZero, Readable, Takes, ValidUpTo, TurnsAway, short-table, long-text, not-utf8, first-met, placesOf, Outside, HoldsTree, Parsed}
+use Rattle.xml.specs.Promise.{Tables, tables, LongEnough, AllZero, Readable, Takes, TurnsAway, short-table, long-text, not-utf8, first-met}
+use Rattle.xml.specs.Promise.{placesOf, Outside, HoldsTree, Parsed}
 use Rattle.xml.proofs.PassLaws.{string-short}
 use Rattle.xml.proofs.Lays.{lay-length}
 use Rattle.xml.proofs.Parsing.{raw-enough, Left}
@@ -113,7 +113,8 @@ module _ (s : List ℕ) (i : ℕ) where
   unfolding attrSpans attrStrings readAttrs
   attrs-apart [] h = tt
   attrs-apart (x ∷ l) h =
-      (shorter i (x .name) (length (stringAt s (x .name) (x .nameLen))) (x .nameLen) (string-short s (x .name) (x .nameLen)) (h .0), (h .1 .0, attrs-apart l (h .1 .1)))
+      (shorter i (x .name) (length (stringAt s (x .name) (x .nameLen))) (x .nameLen) (string-short s (x .name) (x .nameLen)) (h .0),
+          (h .1 .0, attrs-apart l (h .1 .1)))
 
   forest-apart : (f : placed.Forest) → Outside i (spans (readForest s f)) → Apart i (strings s f)
   unfolding spans strings readForest
@@ -174,7 +175,8 @@ module _ (s T U Z : List ℕ) where
 
   pub is-away : (i p : ℕ) → result ≡ refused i p → TurnsAway s (tables T U Z) i p
   is-away i p e =
-      by (ltb (length Z) 65536) (ltb (length T) 49152) (ltb (length U) 32768) (ltb 65536 (length s)) (ltb (utf8End s) (length s)) refl refl refl refl refl
+      by (ltb (length Z) 65536) (ltb (length T) 49152) (ltb (length U) 32768) (ltb 65536 (length s)) (ltb (utf8End s) (length s)) refl refl refl
+          refl refl
     where
       answered : (a b : ℕ) → result ≡ refused a b → TurnsAway s (tables T U Z) a b → TurnsAway s (tables T U Z) i p
       answered a b x = moved a b i p (sym x ∙ e)
@@ -189,7 +191,8 @@ module _ (s T U Z : List ℕ) where
           answered 1 0 (theorem.small-strings s (length T) (length U) (length Z) h) (short-table (λ l. omega (arith, l .of-strings)))
       by false true c d k v w x y g =
           let h = ltb-true (length T) 49152 w in
-          answered 1 0 (theorem.small-nodes s (length T) (length U) (length Z) (ltb-false (length Z) 65536 v) h) (short-table (λ l. omega (arith, l .of-nodes)))
+          answered 1 0 (theorem.small-nodes s (length T) (length U) (length Z) (ltb-false (length Z) 65536 v) h)
+              (short-table (λ l. omega (arith, l .of-nodes)))
       by false false true d k v w x y g =
           let h = ltb-true (length U) 32768 x in
           answered 1 0 (theorem.small-attrs s (length T) (length U) (length Z) (ltb-false (length Z) 65536 v) (ltb-false (length T) 49152 w) h)
@@ -221,13 +224,16 @@ module _ (s T U Z : List ℕ) where
       by true b c v w x = theorem.small-strings s (length T) (length U) (length Z) (ltb-true (length Z) 65536 v)
       by false true c v w x = theorem.small-nodes s (length T) (length U) (length Z) (ltb-false (length Z) 65536 v) (ltb-true (length T) 49152 w)
       by false false true v w x =
-          theorem.small-attrs s (length T) (length U) (length Z) (ltb-false (length Z) 65536 v) (ltb-false (length T) 49152 w) (ltb-true (length U) 32768 x)
+          theorem.small-attrs s (length T) (length U) (length Z) (ltb-false (length Z) 65536 v) (ltb-false (length T) 49152 w)
+              (ltb-true (length U) 32768 x)
       by false false false v w x =
-          absurd (h (record { of-nodes = ltb-false (length T) 49152 w; of-attrs = ltb-false (length U) 32768 x; of-strings = ltb-false (length Z) 65536 v }))
+          absurd (h (record { of-nodes = ltb-false (length T) 49152 w; of-attrs = ltb-false (length U) 32768 x; of-strings =
+              ltb-false (length Z) 65536 v }))
   away-is (long-text l h) = theorem.too-long s (length T) (length U) (length Z) (l .of-strings) (l .of-nodes) (l .of-attrs) h
   away-is (not-utf8 {p} l h bad-text v) =
       let e : p ≡ utf8End s = omega (arith, end-longest s p (v .within) (v .valid), v .longest (utf8End s) (end-within s) (end-valid s)) in
-      rw e (theorem.not-utf8 s (length T) (length U) (length Z) (l .of-strings) (l .of-nodes) (l .of-attrs) h (broken (ltb (utf8End s) (length s)) refl))
+      rw e (theorem.not-utf8 s (length T) (length U) (length Z) (l .of-strings) (l .of-nodes) (l .of-attrs) h
+          (broken (ltb (utf8End s) (length s)) refl))
     where
       broken : (k : Bool) → ltb (utf8End s) (length s) ≡ k → utf8End s < length s
       broken true g = ltb-true (utf8End s) (length s) g
@@ -274,7 +280,9 @@ module _ (s T U Z : List ℕ) where
                 ∙ ap (λ k. attrRows (attrsOf (readForest s g)) ++ replicate (length U - k) 0) (sym (length-attrRows (attrsOf (readForest s g))));
             shown = ap (λ y. treeIn y (readForest s g)) laid ∙ tree-shown s g 0 (length Z) order room ∙ ap (decodeForest decoded) (read .5);
             in-order = order-read s g 0 (length s) order;
-            elsewhere = λ i h. ap (λ y. getD y i 0) laid ∙ laid-outside i (strings s g) (replicate (length Z) 0) (forest-apart s i g h) ∙ zero-at (length Z) i;
+            elsewhere =
+                λ i h. ap (λ y. getD y i 0) laid ∙ laid-outside i (strings s g) (replicate (length Z) 0) (forest-apart s i g h)
+                ∙ zero-at (length Z) i;
             as-long = ap length laid ∙ lay-length (strings s g) (replicate (length Z) 0) ∙ length-replicate {A = ℕ} (length Z) 0;
           }
 

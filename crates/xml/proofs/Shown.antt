@@ -1,18 +1,17 @@
 -- The table of strings shows the text's tree with its entities read. Assumes nothing.
 --     order-read                    the strings stay in order: with entities read none is longer
---     AtPlaces, strings-stand, string-stands   every string stands at its place in the table
+--     AtPlaces, lay-stands, strings-stand   every string stands at its place in the table
 --     tree-shown                    the tree that the table shows is the text's tree with its entities read
-use Prim.Native.Nat.{ℕ, zero, suc, _+_, _-_, _≤_, _<_}
+use Prim.Native.Nat.{ℕ, suc, _+_, _-_, _≤_}
 use mathlib.Core.Path.{_≡_, refl, sym, ap, _∙_}
 use mathlib.Core.List.{List, [], _∷_, _++_}
 use native.Mathlib.Omega.{arith}
-use lib.ListN.{length, getD, set, take, drop, replicate, length-replicate}
+use lib.ListN.{length, set, take, drop, replicate, length-replicate}
 use lib.Seq.{sets, length-sets, take-set-le, take-add, drop-at, length-take-le}
 use Rattle.scan.proofs.Stores.{sets-part}
 use Rattle.entities.specs.Decode.{decoded}
 use Rattle.tree.specs.Trees.{Attr, Forest, nil, text, section, elem, attrSpans, spans, InOrder}
 use Rattle.tree.proofs.Places.{in-lower, in-append, in-whole, in-first, in-rest}
-use Rattle.grammar.specs.Tree as tree
 use Rattle.grammar.specs.Demand.{decodeAttrs, decodeTree, decodeForest}
 use Rattle.scan.specs.Part.{stringAt}
 use Rattle.derivation.specs.Strings.{attrIn, attrsIn, treeIn}
@@ -39,14 +38,17 @@ module _ (s : List ℕ) where
   unfolding spans readForest
   order-read nil lo hi i = i
   order-read (text p n f) lo hi i =
-      (i .0, in-lower (spans (readForest s f)) (p + length (decoded (stringAt s p n))) (p + n) hi (omega (arith, read-short s p n)) (order-read f (p + n) hi (i .1)))
+      (i .0, in-lower (spans (readForest s f)) (p + length (decoded (stringAt s p n))) (p + n) hi (omega (arith, read-short s p n))
+          (order-read f (p + n) hi (i .1)))
   order-read (section p n f) lo hi i = (i .0, order-read f (p + n) hi (i .1))
   order-read (elem p n l c f) lo hi i =
       let a : Split (p + 1 + n) (attrSpans l) (spans c ++ spans f) hi = in-split (attrSpans l) (spans c ++ spans f) (p + 1 + n) hi (i .1) in
       let b : Split (a .mid) (spans c) (spans f) hi = in-split (spans c) (spans f) (a .mid) hi (a .rest) in (
         i .0,
-        in-append (attrSpans (readAttrs s l)) (spans (readForest s c) ++ spans (readForest s f)) (p + 1 + n) (a .mid) hi (order-attrs l (p + 1 + n) (a .mid) (a .first))
-            (in-append (spans (readForest s c)) (spans (readForest s f)) (a .mid) (b .mid) hi (order-read c (a .mid) (b .mid) (b .first)) (order-read f (b .mid) hi (b .rest))),
+        in-append (attrSpans (readAttrs s l)) (spans (readForest s c) ++ spans (readForest s f)) (p + 1 + n) (a .mid) hi
+            (order-attrs l (p + 1 + n) (a .mid) (a .first))
+            (in-append (spans (readForest s c)) (spans (readForest s f)) (a .mid) (b .mid) hi (order-read c (a .mid) (b .mid) (b .first))
+                (order-read f (b .mid) hi (b .rest))),
       )
 
 -- ---- every string stands at its place
@@ -70,7 +72,8 @@ unfolding lay
 lay-below [] z p n lo hi o h g = refl
 lay-below (x ∷ l) z p n lo hi o h g =
     let k : p ≤ length (sets z (x .place) (x .bytes)) = rw (length-sets z (x .place) (x .bytes)) g in
-    lay-below l (sets z (x .place) (x .bytes)) p n (x .place + length (x .bytes)) hi (o .1) (omega (arith, o .0)) k ∙ string-below z (x .bytes) p n (x .place) (omega (arith, o .0)) g
+    lay-below l (sets z (x .place) (x .bytes)) p n (x .place + length (x .bytes)) hi (o .1) (omega (arith, o .0)) k
+        ∙ string-below z (x .bytes) p n (x .place) (omega (arith, o .0)) g
 
 string-laid : (z w : List ℕ) (p : ℕ) → p + length w ≤ length z → stringAt (sets z p w) p (length w) ≡ w
 unfolding stringAt
@@ -87,15 +90,10 @@ lay-stands (x ∷ l) z lo hi o h =
     let y : List ℕ = sets z (x .place) (x .bytes) in
     let k : length y ≡ length z = length-sets z (x .place) (x .bytes) in
     let r : x .place + length (x .bytes) ≤ hi = ordered-whole l (x .place + length (x .bytes)) hi (o .1) in (
-      lay-below l y (x .place) (length (x .bytes)) (x .place + length (x .bytes)) hi (o .1) (omega arith) (omega arith) ∙ string-laid z (x .bytes) (x .place) (omega arith),
+      lay-below l y (x .place) (length (x .bytes)) (x .place + length (x .bytes)) hi (o .1) (omega arith) (omega arith)
+          ∙ string-laid z (x .bytes) (x .place) (omega arith),
       lay-stands l y (x .place + length (x .bytes)) hi (o .1) (omega arith),
     )
-
-at-places-at : (none : Placed) (z : List ℕ) (l : List Placed) (i : ℕ) → AtPlaces z l → i < length l
-    → stringAt z (getD l i none .place) (length (getD l i none .bytes)) ≡ getD l i none .bytes
-at-places-at none z [] i a h = absurd (omega arith)
-at-places-at none z (x ∷ l) zero a h = a .0
-at-places-at none z (x ∷ l) (suc i) a h = at-places-at none z l i (a .1) (omega arith)
 
 pub at-places-split : (z : List ℕ) (a b : List Placed) → AtPlaces z (a ++ b) → AtPlaces z a × AtPlaces z b
 at-places-split z [] b h = (tt, h)
@@ -107,14 +105,16 @@ module _ (s y : List ℕ) where
   same-string : (p n : ℕ) → p + n ≤ length s → stringAt y p (length (stringAt s p n)) ≡ stringAt s p n → stringAt y p n ≡ stringAt s p n
   same-string p n h e = rw (string-long s p n h) at e
 
-  attrs-shown : (l : List Attr) (lo : ℕ) → InOrder lo (attrSpans l) (length s) → AtPlaces y (attrStrings s l) → attrsIn y (readAttrs s l) ≡ decodeAttrs decoded (attrsIn s l)
+  attrs-shown : (l : List Attr) (lo : ℕ) → InOrder lo (attrSpans l) (length s) → AtPlaces y (attrStrings s l) → attrsIn y (readAttrs s l)
+      ≡ decodeAttrs decoded (attrsIn s l)
   unfolding attrSpans attrStrings attrsIn attrIn readAttrs decodeAttrs
   attrs-shown [] lo i a = refl
   attrs-shown (x ∷ l) lo i a =
       let v : x .value + x .valueLen ≤ length s = in-whole (attrSpans l) (x .value + x .valueLen) (length s) (i .1 .1) in
       rw (same-string (x .name) (x .nameLen) (omega (arith, i .1 .0)) (a .0), a .1 .0, attrs-shown l (x .value + x .valueLen) (i .1 .1) (a .1 .1))
 
-  shown : (f : Forest) (lo : ℕ) → InOrder lo (spans f) (length s) → AtPlaces y (strings s f) → treeIn y (readForest s f) ≡ decodeForest decoded (treeIn s f)
+  shown : (f : Forest) (lo : ℕ) → InOrder lo (spans f) (length s) → AtPlaces y (strings s f) → treeIn y (readForest s f)
+      ≡ decodeForest decoded (treeIn s f)
   unfolding spans strings treeIn readForest decodeTree decodeForest
   shown nil lo i a = refl
   shown (text p n f) lo i a = rw (a .0, shown f (p + n) (i .1) (a .1))
@@ -135,10 +135,6 @@ module _ (s : List ℕ) (f : Forest) (lo m : ℕ) (placed : InOrder lo (spans f)
   pub strings-stand : AtPlaces (lay (replicate m 0) (strings s f)) (strings s f)
   strings-stand =
       lay-stands (strings s f) (replicate m 0) lo (length s) (strings-ordered s f lo (length s) placed) (rw (length-replicate {A = ℕ} m 0) room)
-
-  pub string-stands : (none : Placed) (i : ℕ) → i < length (strings s f)
-      → stringAt (lay (replicate m 0) (strings s f)) (getD (strings s f) i none .place) (length (getD (strings s f) i none .bytes)) ≡ getD (strings s f) i none .bytes
-  string-stands none i h = at-places-at none (lay (replicate m 0) (strings s f)) (strings s f) i strings-stand h
 
   pub tree-shown : treeIn (lay (replicate m 0) (strings s f)) (readForest s f) ≡ decodeForest decoded (treeIn s f)
   tree-shown = shown s (lay (replicate m 0) (strings s f)) f lo placed strings-stand

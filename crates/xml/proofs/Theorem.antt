@@ -4,7 +4,6 @@
 --     takes-exactly, gives-that-tree, refuses-exactly   the demand; parsed-derived: of a text that derives a tree, it shows that tree
 --     small-strings, small-nodes, small-attrs, too-long, not-utf8   the numbers 1 to 3, in this order; taken-fits: a text that is taken meets none
 --     answers-tree, answers-refused  the program's answer tells which it is
---     left-shows                     the tree that the tables show is that of `parsed`
 use Prim.Native.Nat.{ℕ, _≤_, _<_}
 use mathlib.Core.Path.{_≡_, refl, sym, ap, ap₂, _∙_}
 use mathlib.Core.Bool.{Bool, true, false}
@@ -20,7 +19,6 @@ use Rattle.tree.specs.Trees.{spans, InOrder}
 use Rattle.tree.specs.Read.{Out, got, nothing, bad, meaning, answerOf}
 use Rattle.tree.specs.declared.answers.Answer.the-variants.{Tree, Refused}
 use Rattle.tree.specs.declared.answers.Refusal.{Refusal}
-use Rattle.tree.specs.Walks.{treeOf}
 use Rattle.unicode.specs.Utf8.{utf8End}
 use Rattle.tree.specs.Posts.{Fits}
 use Rattle.tree.proofs.Places.{meaning-placed}
@@ -28,9 +26,9 @@ use Rattle.tree.proofs.Whole as whole
 use Rattle.grammar.specs.Tree.{Forest}
 use Rattle.grammar.specs.Demand.{Result, tree, refused, Derives, decodeForest}
 use Rattle.grammar.specs.Refusals.{FirstMet}
-use Rattle.grammar.specs.Counted.{decodeResult, treeReader}
+use Rattle.grammar.proofs.Counted.{decodeResult, treeReader}
 use Rattle.grammar.proofs.Theorem as grammar
-use Rattle.derivation.specs.Strings.{treeIn, resultIn}
+use Rattle.derivation.specs.Strings.{resultIn}
 use Rattle.derivation.proofs.Agree.{agree}
 use Rattle.xml.specs.Reading.{raw, readOut, stringsOf}
 use Rattle.xml.proofs.Parsing.{raw-small, raw-enough}
@@ -62,7 +60,8 @@ module _ (s : List ℕ) (z : ℕ) where
   back (nothing q) g e = (_, _, refl)
   back (bad n p) g e = let d : _≡_ {A = ℕ} 0 1 = cc in absurd (omega arith)
 
-  refused-there : (o : Out) (i p : ℕ) → answerOf o ≡ Refused (record { number = i; place = p }) → resultIn (stringsOf z s o) (readOut s o) ≡ refused i p
+  refused-there : (o : Out) (i p : ℕ) → answerOf o ≡ Refused (record { number = i; place = p }) → resultIn (stringsOf z s o) (readOut s o)
+      ≡ refused i p
   unfolding answerOf resultIn readOut
   refused-there (got f q k a) i p e = let d : _≡_ {A = ℕ} 0 1 = cc in absurd (omega arith)
   refused-there (nothing q) i p e = let d : _≡_ {A = ℕ} 0 1 = cc in absurd (omega arith)
@@ -70,7 +69,8 @@ module _ (s : List ℕ) (z : ℕ) where
       let w : _≡_ {A = Refusal} (record { number = n; place = r }) (record { number = i; place = p }) = cc in
       ap₂ refused (ap (λ (x : Refusal). x .number) w) (ap (λ (x : Refusal). x .place) w)
 
-  refused-back : (o : Out) (i p : ℕ) → resultIn (stringsOf z s o) (readOut s o) ≡ refused i p → answerOf o ≡ Refused (record { number = i; place = p })
+  refused-back : (o : Out) (i p : ℕ) → resultIn (stringsOf z s o) (readOut s o) ≡ refused i p → answerOf o
+      ≡ Refused (record { number = i; place = p })
   unfolding answerOf resultIn readOut
   refused-back (got f q k a) i p e = let d : _≡_ {A = ℕ} 0 1 = cc in absurd (omega arith)
   refused-back (nothing q) i p e = let d : _≡_ {A = ℕ} 0 1 = cc in absurd (omega arith)
@@ -79,12 +79,6 @@ module _ (s : List ℕ) (z : ℕ) where
       let b : r ≡ p = cc in
       rw (a, b)
 
-tree-of : (w : List ℕ) (o : Out) (g : Forest) → resultIn w o ≡ tree g → treeIn w (treeOf o) ≡ g
-unfolding resultIn treeOf treeIn
-tree-of w (got f q k a) g e = cc
-tree-of w (nothing q) g e = cc
-tree-of w (bad n p) g e = let d : _≡_ {A = ℕ} 0 1 = cc in absurd (omega arith)
-
 module _ (s : List ℕ) (n m z : ℕ) where
   -- ---- within the limits 1 to 3
   module _ (fits : Fits s n m) (enough : 65536 ≤ z) where
@@ -92,7 +86,8 @@ module _ (s : List ℕ) (n m z : ℕ) where
     unfolding treeReader
     parsed-is =
         rw (raw-enough s n m z enough)
-        (shows s z (omega (arith, fits .short)) (meaning s n m) (λ f q k a. meaning-placed s n m f q k a) ∙ ap (decodeResult decoded) (agree s n m fits))
+        (shows s z (omega (arith, fits .short)) (meaning s n m) (λ f q k a. meaning-placed s n m f q k a)
+            ∙ ap (decodeResult decoded) (agree s n m fits))
 
     -- it is taken exactly when the grammar derives a tree for it within the limits
     pub takes-exactly : ((g : Forest) × (parsed s n m z ≡ tree g)) ↔ ((f : Forest) × Derives s f)
@@ -141,13 +136,16 @@ module _ (s : List ℕ) (n m z : ℕ) where
       no : {A : Type 0} (i p : ℕ) → parsed s n m z ≡ refused i p → A
       no i p x = let d : _≡_ {A = ℕ} 0 1 = cc in absurd (omega arith)
 
-      by : (a b c d k : Bool) → ltb z 65536 ≡ a → ltb n 49152 ≡ b → ltb m 32768 ≡ c → ltb 65536 (length s) ≡ d → ltb (utf8End s) (length s) ≡ k → Fits s n m × (65536 ≤ z)
+      by : (a b c d k : Bool) → ltb z 65536 ≡ a → ltb n 49152 ≡ b → ltb m 32768 ≡ c → ltb 65536 (length s) ≡ d → ltb (utf8End s) (length s) ≡ k
+          → Fits s n m × (65536 ≤ z)
       by true b c d k v w x y u = no 1 0 (small-strings (ltb-true z 65536 v))
       by false true c d k v w x y u = no 1 0 (small-nodes (ltb-false z 65536 v) (ltb-true n 49152 w))
       by false false true d k v w x y u = no 1 0 (small-attrs (ltb-false z 65536 v) (ltb-false n 49152 w) (ltb-true m 32768 x))
-      by false false false true k v w x y u = no 2 0 (too-long (ltb-false z 65536 v) (ltb-false n 49152 w) (ltb-false m 32768 x) (ltb-true 65536 (length s) y))
+      by false false false true k v w x y u =
+          no 2 0 (too-long (ltb-false z 65536 v) (ltb-false n 49152 w) (ltb-false m 32768 x) (ltb-true 65536 (length s) y))
       by false false false false true v w x y u =
-          no 3 (utf8End s) (not-utf8 (ltb-false z 65536 v) (ltb-false n 49152 w) (ltb-false m 32768 x) (ltb-false 65536 (length s) y) (ltb-true (utf8End s) (length s) u))
+          no 3 (utf8End s) (not-utf8 (ltb-false z 65536 v) (ltb-false n 49152 w) (ltb-false m 32768 x) (ltb-false 65536 (length s) y)
+              (ltb-true (utf8End s) (length s) u))
       by false false false false false v w x y u = (
         record {
           long = ltb-false n 49152 w;
@@ -164,6 +162,3 @@ module _ (s : List ℕ) (n m z : ℕ) where
 
   pub answers-refused : (i p : ℕ) → (answerOf (raw s n m z) ≡ Refused (record { number = i; place = p })) ↔ (parsed s n m z ≡ refused i p)
   answers-refused i p = (refused-there s z (raw s n m z) i p, refused-back s z (raw s n m z) i p)
-
-  pub left-shows : (w : List ℕ) (g : Forest) → w ≡ stringsOf z s (raw s n m z) → parsed s n m z ≡ tree g → treeIn w (treeOf (readOut s (raw s n m z))) ≡ g
-  left-shows w g e x = rw e (tree-of (stringsOf z s (raw s n m z)) (readOut s (raw s n m z)) g x)

@@ -4,6 +4,7 @@ use Prim.Native.Nat.{ℕ, _+_, _*_, _≤_}
 use mathlib.Core.Path.{_≡_}
 use mathlib.Core.Bool.{Bool, true, false, cond}
 use mathlib.Core.List.{List, [], _∷_}
+use mathlib.Core.Option.{Option, none, some}
 use lib.ListN.{length, getD}
 use lib.Dec.{eqb}
 use Rattle.scan.specs.Names.{sameFolded, afterLastColon}
@@ -15,6 +16,7 @@ use Rattle.derivation.specs.Strings.{attrsIn, treeIn}
 use Rattle.xml.specs.declared.find.Found.{Found}
 use Rattle.xml.specs.declared.find.Found.the-variants.{Row, Nothing}
 use Rattle.xml.specs.declared.find.Element.{Element}
+use Rattle.xml.specs.declared.find.Attribute.{Attribute}
 use Rattle.xml.specs.declared.find.Value.{Value}
 use Rattle.xml.specs.declared.find.Value.the-variants.{At, Absent}
 
@@ -60,6 +62,10 @@ pub record Siblings (t z : List ℕ) (i e : ℕ) : Type 0 where
   pub placed : InOrder lo (spans forest) (length z)
   pub end : i + size forest ≡ e
 
+-- it holds of the siblings that stand there
+abbrev pub OfSiblings : (t : List ℕ) (i e : ℕ) → (Forest → Type 0) → Type 0
+OfSiblings t i e holds = (a : ℕ) (f : Forest) → Stands t i a f → i + size f ≡ e → holds f
+
 -- the row of the first element of that name, where the forest stands from row i on
 unfoldable pub findRow : List ℕ → List ℕ → ℕ → Forest → Found
 findRow z name i nil = Nothing
@@ -67,10 +73,22 @@ findRow z name i (text p n f) = findRow z name (i + 1) f
 findRow z name i (section p n f) = findRow z name (i + 1) f
 findRow z name i (elem p n l c f) = cond (named name (stringAt z (p + 1) n)) (Row i) (findRow z name (i + 1 + size c) f)
 
--- place and length of the value of the first attribute of that name
+-- the first attribute of that name: its place, and place and length of its value
 unfoldable pub findValue : List ℕ → List ℕ → List Attr → Value
 findValue z name [] = Absent
-findValue z name (x ∷ l) = cond (sameFolded (stringAt z (x .name) (x .nameLen)) name) (At (record { place = x .value; len = x .valueLen })) (findValue z name l)
+findValue z name (x ∷ l) =
+    cond (sameFolded (stringAt z (x .name) (x .nameLen)) name) (At (record { at = x .name; place = x .value; len = x .valueLen }))
+    (findValue z name l)
+
+-- what the answers say; neither has a number of document 01's list, since nothing is turned away here. A row: its number, or none.
+abbrev pub foundRow : Found → Option ℕ
+foundRow (Row k) = some k
+foundRow Nothing = none
+
+-- an attribute: its value's bytes, or none
+unfoldable pub shown : List ℕ → Value → FoundValue
+shown z (At x) = value (stringAt z (x .place) (x .len))
+shown z Absent = no-value
 
 -- the attributes l are those from row j on, n of them, with their strings within z
 abbrev pub WithinAttrs : ℕ → List Attr → Type 0
@@ -81,6 +99,23 @@ pub record Owned (u z : List ℕ) (j n : ℕ) (l : List Attr) : Type 0 where
   pub listed : Listed u j l
   pub count : length l ≡ n
   pub within : WithinAttrs (length z) l
+
+-- attributes stand in those rows; and it holds of those that do
+abbrev pub HasRows : (u z : List ℕ) (first many : ℕ) → Type 0
+HasRows u z first many = (l : List Attr) × Owned u z first many l
+
+abbrev pub OfRows : (u z : List ℕ) (first many : ℕ) → (List Attr → Type 0) → Type 0
+OfRows u z first many holds = (l : List Attr) → Owned u z first many l → holds l
+
+-- row k stands in the table, and its name within the strings; that name; the cells of its place and its value
+abbrev pub NameFits : (u z : List ℕ) (k : ℕ) → Type 0
+NameFits u z k = (k * 4 + 4 ≤ length u) × (getD u (k * 4) 0 + getD u (k * 4 + 1) 0 ≤ length z)
+
+abbrev pub nameAt : (u z : List ℕ) (k : ℕ) → List ℕ
+nameAt u z k = stringAt z (getD u (k * 4) 0) (getD u (k * 4 + 1) 0)
+
+unfoldable pub attributeRow : (u : List ℕ) (k : ℕ) → Attribute
+attributeRow u k = record { at = getD u (k * 4) 0; place = getD u (k * 4 + 2) 0; len = getD u (k * 4 + 3) 0 }
 
 -- node k is an element of that name
 unfoldable pub isElement : List ℕ → List ℕ → List ℕ → ℕ → Bool

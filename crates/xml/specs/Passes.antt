@@ -1,6 +1,6 @@
 -- What the two passes over the rows do, row by row: what the program ensures, not what one must believe (`proofs` shows that it is
 -- `Reading`). s is the text, t the table of nodes, u that of attributes, z that of strings.
-use Prim.Native.Nat.{ℕ, zero, suc, _+_, _*_, _≤_, _<_}
+use Prim.Native.Nat.{ℕ, zero, suc, _+_, _*_, _≤_}
 use mathlib.Core.Bool.{cond}
 use mathlib.Core.List.{List, [], _∷_}
 use lib.ListN.{length, getD}
@@ -45,7 +45,8 @@ attrsRead s u zero = u
 attrsRead s u (suc k) = sets (attrsRead s u k) (k * 4 + 3) (length (valueBytes s u k) ∷ [])
 
 unfoldable pub attrWritten : List ℕ → List ℕ → List ℕ → ℕ → List ℕ
-attrWritten s u z k = sets (sets z (getD u (k * 4) 0) (stringAt s (getD u (k * 4) 0) (getD u (k * 4 + 1) 0))) (getD u (k * 4 + 2) 0) (valueBytes s u k)
+attrWritten s u z k =
+    sets (sets z (getD u (k * 4) 0) (stringAt s (getD u (k * 4) 0) (getD u (k * 4 + 1) 0))) (getD u (k * 4 + 2) 0) (valueBytes s u k)
 
 unfoldable pub attrStringsRead : List ℕ → List ℕ → List ℕ → ℕ → List ℕ
 attrStringsRead s u z zero = z

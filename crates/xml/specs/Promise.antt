@@ -9,28 +9,17 @@ use Rattle.unicode.specs.Utf8.{Utf8}
 use Rattle.entities.specs.Decode.{decoded}
 use Rattle.grammar.specs.Tree.{Forest}
 use Rattle.grammar.specs.Limits as count
+use Rattle.grammar.specs.Limits.{mostBytes, mostDepth, mostNodes, mostAttrs}
 use Rattle.grammar.specs.Grammar.{Document}
 use Rattle.grammar.specs.Demand.{Derives, decodeForest}
 use Rattle.grammar.specs.Refusals.{FirstMet}
+use Rattle.tree.specs.Answers.{numberOf, Says}
 use Rattle.tree.specs.Trees as placed
-use Rattle.tree.specs.Trees.{rows, attrsOf, attrRows, Span, spans, InOrder}
+use Rattle.tree.specs.Trees.{nodeTable, attrTable, rows, attrsOf, attrRows, Span, spans, InOrder}
 use Rattle.tree.specs.declared.answers.Answer.{Answer}
-use Rattle.tree.specs.declared.answers.Answer.the-variants.{Tree, Refused}
+use Rattle.tree.specs.declared.answers.Answer.the-variants.{Tree}
 use Rattle.derivation.specs.Strings.{treeIn}
 use Rattle.xml.specs.Where.{documentPlaced}
-
--- ---- the answer
--- "An answer has number and byte place (0 if none is named […])": a tree has no number, here 0
-unfoldable pub numberOf : Answer → ℕ
-numberOf (Tree nodes attrs) = 0
-numberOf (Refused r) = r .number
-
-unfoldable pub placeOf : Answer → ℕ
-placeOf (Tree nodes attrs) = 0
-placeOf (Refused r) = r .place
-
-abbrev pub Says : Answer → (number place : ℕ) → Type 0
-Says answer n p = (numberOf answer ≡ n) × (placeOf answer ≡ p)
 
 -- ---- the tables
 pub record Tables : Type 0 where
@@ -41,11 +30,11 @@ pub record Tables : Type 0 where
 abbrev pub tables : List ℕ → List ℕ → List ℕ → Tables
 tables t u z = record { nodes = t; attrs = u; strings = z }
 
--- the fixed lengths: 8,192 nodes of 6 numbers, 8,192 attributes of 4, and a byte for each byte of a text
+-- the fixed lengths: of nodes and of attributes, and a byte for each byte of a text
 pub record LongEnough (lent : Tables) : Type 0 where
-  pub of-nodes : 49152 ≤ length (lent .nodes)
-  pub of-attrs : 32768 ≤ length (lent .attrs)
-  pub of-strings : 65536 ≤ length (lent .strings)
+  pub of-nodes : nodeTable ≤ length (lent .nodes)
+  pub of-attrs : attrTable ≤ length (lent .attrs)
+  pub of-strings : mostBytes ≤ length (lent .strings)
 
 -- the cells w, then zeros up to n cells
 abbrev pub thenZeros : List ℕ → ℕ → List ℕ
@@ -61,7 +50,7 @@ pub record AllZero (lent left : Tables) : Type 0 where
 -- none of the numbers 1 to 3 is met
 pub record Readable (text : List ℕ) (lent : Tables) : Type 0 where
   pub long-enough : LongEnough lent
-  pub short : length text ≤ 65536
+  pub short : length text ≤ mostBytes
   pub valid : Utf8 text
 
 -- and the grammar derives f within the limits
@@ -81,11 +70,11 @@ pub data TurnsAway (text : List ℕ) (lent : Tables) : (number place : ℕ) → 
   -- "1. A lent table is shorter than its fixed length."
   short-table : ¬ LongEnough lent → TurnsAway text lent 1 0
   -- "2. The text is longer than 65,536 bytes."
-  long-text : LongEnough lent → 65536 < length text → TurnsAway text lent 2 0
+  long-text : LongEnough lent → mostBytes < length text → TurnsAway text lent 2 0
   -- "3. It is not UTF-8 (where its longest valid beginning ends)."
-  not-utf8 : {p : ℕ} → LongEnough lent → length text ≤ 65536 → ¬ Utf8 text → ValidUpTo text p → TurnsAway text lent 3 p
+  not-utf8 : {p : ℕ} → LongEnough lent → length text ≤ mostBytes → ¬ Utf8 text → ValidUpTo text p → TurnsAway text lent 3 p
   -- "Of 4 to 11 the earliest place wins, then the lower number."
-  first-met : {n p : ℕ} → Readable text lent → FirstMet 64 8192 8192 text n p → TurnsAway text lent n p
+  first-met : {n p : ℕ} → Readable text lent → FirstMet mostDepth mostNodes mostAttrs text n p → TurnsAway text lent n p
 
 -- ---- what the tables hold
 -- the derived tree by places: a text, an element and an attribute at its first byte, a section and a value where its bytes begin; texts and

@@ -43,7 +43,8 @@ lay z (x ∷ l) = lay (sets z (x .place) (x .bytes)) l
 unfoldable pub readAttrs : List ℕ → List Attr → List Attr
 readAttrs s [] = []
 readAttrs s (x ∷ l) =
-    record { name = x .name; nameLen = x .nameLen; value = x .value; valueLen = length (decoded (stringAt s (x .value) (x .valueLen))) } ∷ readAttrs s l
+    record { name = x .name; nameLen = x .nameLen; value = x .value; valueLen = length (decoded (stringAt s (x .value) (x .valueLen))) }
+        ∷ readAttrs s l
 
 unfoldable pub readForest : List ℕ → Forest → Forest
 readForest s nil = nil

@@ -1,13 +1,10 @@
 // What is asked of a tree in its tables.
 ghost use mathlib.Core.Path.{_≡_};
-ghost use mathlib.Core.List.{List};
-ghost use Prim.Native.Nat.{ℕ, _+_, _*_, _≤_};
-ghost use lib.ListN.{length, getD};
+ghost use Prim.Native.Nat.{_+_, _*_, _≤_};
+ghost use lib.ListN.{length};
 ghost use Rattle.scan.specs.Names.{sameFolded};
-ghost use Rattle.scan.specs.Part.{stringAt};
-ghost use Rattle.tree.specs.Walks.{Stands};
-ghost use Rattle.tree.specs.Trees.{Attr, Forest, size};
-ghost use Rattle.xml.specs.Find.{Siblings, findRow, findValue, Owned, isElement, HasRow, elementRow};
+ghost use Rattle.xml.specs.Find.{Siblings, OfSiblings, findRow, isElement, HasRow, elementRow};
+ghost use Rattle.xml.specs.Find.{HasRows, OfRows, NameFits, nameAt, attributeRow, findValue};
 
 // The row of a node, or there is none.
 pub enum Found {
@@ -15,15 +12,16 @@ pub enum Found {
     Nothing,
 }
 
-// Place and length of a string.
-pub struct Place {
+// An attribute: its place in the text, and the place and length of its value in the strings.
+pub struct Attribute {
+    pub at: usize,
     pub place: usize,
     pub len: usize,
 }
 
-// An attribute's value, or there is no such attribute.
+// An attribute with its value, or there is no such attribute.
 pub enum Value {
-    At(Place),
+    At(Attribute),
     Absent,
 }
 
@@ -71,7 +69,7 @@ pub fn is_element(nodes: &[u32], strings: &[u8], k: usize, name: &[u8]) -> bool
 // The first element of this local name among the siblings in the rows from `from` up to `end`.
 pub fn find_element(nodes: &[u32], strings: &[u8], from: usize, end: usize, name: &[u8]) -> Found
     requires { ⌜ Siblings (now nodes) (now strings) from end ⌝ }
-    ensures { λ r. ⌜ ((a : ℕ) (f : Forest) → Stands (now (nodes .entry)) from a f → from + size f ≡ end → r ≡ findRow (now (strings .entry)) (now (name .entry)) from f) ⌝ }
+    ensures { λ r. ⌜ OfSiblings (now (nodes .entry)) from end (λ f. r ≡ findRow (now (strings .entry)) (now (name .entry)) from f) ⌝ }
 {
     let mut k = from;
     while k < end {
@@ -85,27 +83,38 @@ pub fn find_element(nodes: &[u32], strings: &[u8], from: usize, end: usize, name
 
 // Is this the name of attribute k?
 fn is_attr(attrs: &[u32], strings: &[u8], k: usize, name: &[u8]) -> bool
-    requires { ⌜ (k * 4 + 4 ≤ length (now attrs)) × (getD (now attrs) (k * 4) 0 + getD (now attrs) (k * 4 + 1) 0 ≤ length (now strings)) ⌝ }
-    ensures { λ r. ⌜ r ≡ sameFolded (stringAt (now (strings .entry)) (getD (now (attrs .entry)) (k * 4) 0) (getD (now (attrs .entry)) (k * 4 + 1) 0)) (now (name .entry)) ⌝ }
+    requires { ⌜ NameFits (now attrs) (now strings) k ⌝ }
+    ensures { λ r. ⌜ r ≡ sameFolded (nameAt (now (attrs .entry)) (now (strings .entry)) k) (now (name .entry)) ⌝ }
 {
     let start = scan::get(attrs, k * 4);
     let stop = start + scan::get(attrs, k * 4 + 1);
     scan::eq_ignore_ascii_case(&strings[start..stop], name)
 }
 
-// The value of the first attribute of this name among the `many` from row `first` on.
+// The row of an attribute.
+pub fn attr_at(attrs: &[u32], k: usize) -> Attribute
+    requires { ⌜ k * 4 + 4 ≤ length (now attrs) ⌝ }
+    ensures { λ r. ⌜ r ≡ attributeRow (now (attrs .entry)) k ⌝ }
+{
+    let at = k * 4;
+    Attribute {
+        at: scan::get(attrs, at),
+        place: scan::get(attrs, at + 2),
+        len: scan::get(attrs, at + 3),
+    }
+}
+
+// The first attribute of this name among the `many` from row `first` on.
 pub fn attr(attrs: &[u32], strings: &[u8], first: usize, many: usize, name: &[u8]) -> Value
-    requires { ⌜ ((l : List Attr) × Owned (now attrs) (now strings) first many l) ⌝ }
-    ensures { λ r. ⌜ ((l : List Attr) → Owned (now (attrs .entry)) (now (strings .entry)) first many l → r ≡ findValue (now (strings .entry)) (now (name .entry)) l) ⌝ }
+    requires { ⌜ HasRows (now attrs) (now strings) first many ⌝ }
+    ensures { λ r. ⌜ OfRows (now (attrs .entry)) (now (strings .entry)) first many (λ l.
+        r ≡ findValue (now (strings .entry)) (now (name .entry)) l) ⌝ }
 {
     let end = first + many;
     let mut k = first;
     while k < end {
         if is_attr(attrs, strings, k, name) {
-            return Value::At(Place {
-                place: scan::get(attrs, k * 4 + 2),
-                len: scan::get(attrs, k * 4 + 3),
-            });
+            return Value::At(attr_at(attrs, k));
         }
         k += 1;
     }

@@ -3,11 +3,12 @@ mod find;
 mod read;
 mod strings;
 
+pub use find::Attribute;
 pub use find::Element;
 pub use find::Found;
-pub use find::Place;
 pub use find::Value;
 pub use find::attr;
+pub use find::attr_at;
 pub use find::element_at;
 pub use find::find_element;
 pub use find::is_element;

@@ -5,7 +5,8 @@ ghost use mathlib.Core.List.{[], _∷_};
 ghost use Prim.Native.Nat.{ℕ, _+_, _*_, _<_};
 ghost use lib.ListN.{length};
 ghost use lib.Seq.{sets};
-ghost use Rattle.xml.specs.Passes.{NodeReady, nodePlace, nodeBytes, nodesRead, nodeStringsRead, AttrReady, valueBytes, attrsRead, attrWritten, attrStringsRead};
+ghost use Rattle.xml.specs.Passes.{NodeReady, nodePlace, nodeBytes, nodesRead, nodeStringsRead, AttrReady, valueBytes, attrsRead};
+ghost use Rattle.xml.specs.Passes.{attrWritten, attrStringsRead};
 
 const TEXT: u32 = 1;
 
@@ -15,7 +16,8 @@ const ELEMENT: u32 = 2;
 fn read_node(src: &[u8], nodes: &mut [u32], strings: &mut [u8], k: usize)
     requires { ⌜ NodeReady (now src) (now nodes) (now strings) k ⌝ }
     ensures { λ _. ⌜ now (nodes .exit) ≡ sets (now (nodes .entry)) (k * 6 + 3) (length (nodeBytes (now (src .entry)) (now (nodes .entry)) k) ∷ []) ⌝ }
-    ensures { λ _. ⌜ now (strings .exit) ≡ sets (now (strings .entry)) (nodePlace (now (nodes .entry)) k) (nodeBytes (now (src .entry)) (now (nodes .entry)) k) ⌝ }
+    ensures { λ _. ⌜ now (strings .exit) ≡ sets (now (strings .entry)) (nodePlace (now (nodes .entry)) k)
+        (nodeBytes (now (src .entry)) (now (nodes .entry)) k) ⌝ }
 {
     let at = k * 6;
     let kind = nodes[at];
@@ -50,7 +52,8 @@ pub fn read_nodes(src: &[u8], nodes: &mut [u32], strings: &mut [u8], count: usiz
 // The name of attribute k, and its value with its entities read.
 fn read_attr(src: &[u8], attrs: &mut [u32], strings: &mut [u8], k: usize)
     requires { ⌜ AttrReady (now src) (now attrs) (now strings) k ⌝ }
-    ensures { λ _. ⌜ now (attrs .exit) ≡ sets (now (attrs .entry)) (k * 4 + 3) (length (valueBytes (now (src .entry)) (now (attrs .entry)) k) ∷ []) ⌝ }
+    ensures { λ _. ⌜ now (attrs .exit) ≡ sets (now (attrs .entry)) (k * 4 + 3)
+        (length (valueBytes (now (src .entry)) (now (attrs .entry)) k) ∷ []) ⌝ }
     ensures { λ _. ⌜ now (strings .exit) ≡ attrWritten (now (src .entry)) (now (attrs .entry)) (now (strings .entry)) k ⌝ }
 {
     let at = k * 4;

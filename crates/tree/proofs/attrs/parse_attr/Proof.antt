@@ -19,15 +19,25 @@ starts-with-requires : tie.Need-starts-with-requires
 starts-with-requires c κs = search needs
 
 parse-value-requires : tie.Need-parse-value-requires
-parse-value-requires c κs = omega (arith, c .before .before .starts-with .ensures .whole (c .before .if1 .taken), c .before .before .before .before .before .over .ensures, c .before .before .before .before .over2 .ensures, c .before .before .before .before .before .before .before .before .pre)
+parse-value-requires c κs =
+    let c4 = c .before .before .before .before in
+    let c5 = c4 .before in
+    let c8 = c5 .before .before .before in
+    omega (arith, c .before .before .starts-with .ensures .whole (c .before .if1 .taken), c5 .over .ensures, c4 .over2 .ensures, c8 .pre)
 
 same-length : tie.Need-same-length
 same-length c = search needs
 
 returns : tie.Need-returns
 returns c =
-    let a = c .before .before .before .before .before .before .before .before .before .before .before .args in
-    rw (attr-value (a .src .now) (a .pos) (c .before .before .before .before .before .before .before .before .over .result) (c .before .before .before .before .before .before .before .over2 .result) (c .before .before .before .before .before .before .before .before .over .ensures) (c .before .before .before .before .before .before .before .over2 .ensures) (sym (c .before .before .before .before .before .starts-with .ensures .is) ∙ c .before .before .before .before .if1 .taken)) (c .before .before .parse-value .ensures)
+    let c4 = c .before .before .before .before in
+    let c5 = c4 .before in
+    let c7 = c5 .before .before in
+    let c8 = c7 .before in
+    let c11 = c8 .before .before .before in
+    let a = c11 .args in
+    rw (attr-value (a .src .now) (a .pos) (c8 .over .result) (c7 .over2 .result) (c8 .over .ensures) (c7 .over2 .ensures)
+        (sym (c5 .starts-with .ensures .is) ∙ c4 .if1 .taken)) (c .before .before .parse-value .ensures)
 
 sub-put-attr : tie.Need-sub-put-attr
 sub-put-attr c = search needs
@@ -40,14 +50,21 @@ same-length-2 c = search needs
 
 returns-2 : tie.Need-returns-2
 returns-2 c =
-    let a = c .before .before .before .before .before .before .before .before .before .before .before .args in
-    let no = sym (c .before .before .before .before .before .starts-with .ensures .is) ∙ c .before .before .before .before .if1 .left in
+    let c4 = c .before .before .before .before in
+    let c5 = c4 .before in
+    let c7 = c5 .before .before in
+    let c8 = c7 .before in
+    let c11 = c8 .before .before .before in
+    let a = c11 .args in
+    let no = sym (c5 .starts-with .ensures .is) ∙ c4 .if1 .left in
     record {
       one = _;
-      is = attr-bare (a .src .now) (a .pos) (c .before .before .before .before .before .before .before .before .over .result) (c .before .before .before .before .before .before .before .over2 .result) (c .before .before .before .before .before .before .before .before .over .ensures) (c .before .before .before .before .before .before .before .over2 .ensures) no;
-      after = attr-beyond (a .src .now) (a .pos) (c .before .before .before .before .before .before .before .before .over .result) (c .before .before .before .before .before .before .before .over2 .result) (c .before .before .before .before .before .before .before .before .before .before .before .pre .2) (c .before .before .before .before .before .before .before .before .before .before .before .pre .3) (c .before .before .before .before .before .before .before .before .over .ensures) (c .before .before .before .before .before .before .before .over2 .ensures) no;
-      within = c .before .before .before .before .before .before .before .over2 .ensures .within;
-      solid = c .before .before .before .before .before .before .before .over2 .ensures .stops;
+      is = attr-bare (a .src .now) (a .pos) (c8 .over .result) (c7 .over2 .result) (c8 .over .ensures) (c7 .over2 .ensures) no;
+      after =
+          attr-beyond (a .src .now) (a .pos) (c8 .over .result) (c7 .over2 .result) (c11 .pre .2) (c11 .pre .3) (c8 .over .ensures)
+          (c7 .over2 .ensures) no;
+      within = c7 .over2 .ensures .within;
+      solid = c7 .over2 .ensures .stops;
       laid = c .before .before .put-attr .ensures;
     }
 

@@ -21,10 +21,16 @@ add-t11 : tie.Need-add-t11
 add-t11 c = search needs
 
 returns : tie.Need-returns
-returns c = sym (shut-yes (c .before .before .before .before .before .args .src .now) (c .before .before .before .before .before .args .at) (c .before .before .before .before .before .args .n) _ (c .before .before .before .over .ensures) (sym (c .before .starts-with .ensures .is) ∙ c .if1 .taken))
+returns c =
+    let c3 = c .before .before .before in
+    let c5 = c3 .before .before in
+    sym (shut-yes (c5 .args .src .now) (c5 .args .at) (c5 .args .n) _ (c3 .over .ensures) (sym (c .before .starts-with .ensures .is) ∙ c .if1 .taken))
 
 returns-2 : tie.Need-returns-2
-returns-2 c = sym (shut-no (c .before .before .before .before .before .args .src .now) (c .before .before .before .before .before .args .at) (c .before .before .before .before .before .args .n) _ (c .before .before .before .over .ensures) (sym (c .before .starts-with .ensures .is) ∙ c .if1 .left))
+returns-2 c =
+    let c3 = c .before .before .before in
+    let c5 = c3 .before .before in
+    sym (shut-no (c5 .args .src .now) (c5 .args .at) (c5 .args .n) _ (c3 .over .ensures) (sym (c .before .starts-with .ensures .is) ∙ c .if1 .left))
 
 pub parse-shut-spec : {M : Type 1} → statement M
 parse-shut-spec =

@@ -55,14 +55,23 @@ same-length c = search needs
 
 returns-2 : tie.Need-returns-2
 returns-2 c =
-    let a = c .before .before .before .before .before .before .before .before .before .before .before .before .before .before .args in
+    let c4 = c .before .before .before .before in
+    let c6 = c4 .before .before in
+    let c7 = c6 .before in
+    let c8 = c7 .before in
+    let c10 = c8 .before .before in
+    let c11 = c10 .before in
+    let c14 = c11 .before .before .before in
+    let a = c14 .args in
     record {
       one = _;
-      is = value-quoted (a .src .now) (a .pos) (a .e) (a .eq) (c .before .before .before .before .before .before .before .before .before .before .before .over .result) (c .before .before .before .before .before .before .before .before .before .before .before .over .ensures) (c .before .before .before .before .before .before .find-byte .result) (c .before .before .before .before .before .before .before .before .before .before .if1 .left) (sym (c .before .before .before .before .before .before .before .before .is-quote .ensures) ∙ c .before .before .before .before .before .before .before .if2 .taken) (c .before .before .before .before .before .before .find-byte .ensures) _ (c .before .if3 .taken) (c .over2 .ensures);
-      after = omega (arith, c .over2 .ensures .after, c .before .before .before .before .before .before .find-byte .ensures .after, c .before .before .before .before .before .before .before .before .before .before .before .over .ensures .after, c .before .before .before .before .before .before .before .before .before .before .before .before .before .before .pre);
+      is =
+          value-quoted (a .src .now) (a .pos) (a .e) (a .eq) (c11 .over .result) (c11 .over .ensures) (c6 .find-byte .result) (c10 .if1 .left)
+          (sym (c8 .is-quote .ensures) ∙ c7 .if2 .taken) (c6 .find-byte .ensures) _ (c .before .if3 .taken) (c .over2 .ensures);
+      after = omega (arith, c .over2 .ensures .after, c6 .find-byte .ensures .after, c11 .over .ensures .after, c14 .pre);
       within = c .over2 .ensures .within;
       solid = c .over2 .ensures .stops;
-      laid = c .before .before .before .before .put-attr .ensures;
+      laid = c4 .put-attr .ensures;
     }
 
 same-length-2 : tie.Need-same-length-2
@@ -70,14 +79,23 @@ same-length-2 c = search needs
 
 returns-3 : tie.Need-returns-3
 returns-3 c =
-    let a = c .before .before .before .before .before .before .before .before .before .before .before .before .before .args in
+    let c3 = c .before .before .before in
+    let c5 = c3 .before .before in
+    let c6 = c5 .before in
+    let c7 = c6 .before in
+    let c9 = c7 .before .before in
+    let c10 = c9 .before in
+    let c13 = c10 .before .before .before in
+    let a = c13 .args in
     record {
       one = _;
-      is = value-unclosed (a .src .now) (a .pos) (a .e) (a .eq) (c .before .before .before .before .before .before .before .before .before .before .over .result) (c .before .before .before .before .before .before .before .before .before .before .over .ensures) (c .before .before .before .before .before .find-byte .result) (c .before .before .before .before .before .before .before .before .before .if1 .left) (sym (c .before .before .before .before .before .before .before .is-quote .ensures) ∙ c .before .before .before .before .before .before .if2 .taken) (c .before .before .before .before .before .find-byte .ensures) (c .if3 .left);
-      after = omega (arith, c .before .before .before .before .before .find-byte .ensures .after, c .before .before .before .before .before .before .before .before .before .before .over .ensures .after, c .before .before .before .before .before .before .before .before .before .before .before .before .before .pre);
-      within = c .before .before .before .before .before .find-byte .ensures .within;
+      is =
+          value-unclosed (a .src .now) (a .pos) (a .e) (a .eq) (c10 .over .result) (c10 .over .ensures) (c5 .find-byte .result) (c9 .if1 .left)
+          (sym (c7 .is-quote .ensures) ∙ c6 .if2 .taken) (c5 .find-byte .ensures) (c .if3 .left);
+      after = omega (arith, c5 .find-byte .ensures .after, c10 .over .ensures .after, c13 .pre);
+      within = c5 .find-byte .ensures .within;
       solid = λ l. absurd (omega (arith, l, c .if3 .left));
-      laid = c .before .before .before .put-attr .ensures;
+      laid = c3 .put-attr .ensures;
     }
 
 over-requires-3 : tie.Need-over-requires-3
@@ -100,14 +118,23 @@ same-length-3 c = search needs
 
 returns-4 : tie.Need-returns-4
 returns-4 c =
-    let a = c .before .before .before .before .before .before .before .before .before .before .before .before .before .args in
+    let c3 = c .before .before .before in
+    let c5 = c3 .before .before in
+    let c6 = c5 .before in
+    let c7 = c6 .before in
+    let c9 = c7 .before .before in
+    let c10 = c9 .before in
+    let c13 = c10 .before .before .before in
+    let a = c13 .args in
     record {
       one = _;
-      is = value-bare (a .src .now) (a .pos) (a .e) (a .eq) (c .before .before .before .before .before .before .before .before .before .before .over .result) (c .before .before .before .before .before .before .before .before .before .before .over .ensures) (c .before .before .before .before .before .over3 .result) _ (c .before .before .before .before .before .before .before .before .before .if1 .left) (sym (c .before .before .before .before .before .before .before .is-quote .ensures) ∙ c .before .before .before .before .before .before .if2 .left) (c .before .before .before .before .before .over3 .ensures) (c .over4 .ensures);
-      after = omega (arith, c .over4 .ensures .after, c .before .before .before .before .before .over3 .ensures .after, c .before .before .before .before .before .before .before .before .before .before .over .ensures .after, c .before .before .before .before .before .before .before .before .before .before .before .before .before .pre);
+      is =
+          value-bare (a .src .now) (a .pos) (a .e) (a .eq) (c10 .over .result) (c10 .over .ensures) (c5 .over3 .result) _ (c9 .if1 .left)
+          (sym (c7 .is-quote .ensures) ∙ c6 .if2 .left) (c5 .over3 .ensures) (c .over4 .ensures);
+      after = omega (arith, c .over4 .ensures .after, c5 .over3 .ensures .after, c10 .over .ensures .after, c13 .pre);
       within = c .over4 .ensures .within;
       solid = c .over4 .ensures .stops;
-      laid = c .before .before .before .put-attr2 .ensures;
+      laid = c3 .put-attr2 .ensures;
     }
 
 pub parse-value-spec : {M : Type 1} → statement M

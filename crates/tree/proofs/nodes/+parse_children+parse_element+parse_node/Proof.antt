@@ -1,11 +1,13 @@
--- The cycle of `parse_node`, `parse_element` and `parse_children` meets its contracts. The measure is three times what is left of the text, and 1 more for a node, 2 more for content. The invariant of the loop over content is `Going`. Assumes nothing.
+-- The cycle of `parse_node`, `parse_element` and `parse_children` meets its contracts. The measure is three times what is left of the text, and 1
+-- more for a node, 2 more for content. The invariant of the loop over content is `Going`. Assumes nothing.
 use Prim.Native.Nat.{ℕ, _+_, _-_, _*_, _<_}
 use mathlib.Core.Path.{refl, sym, _∙_}
 use native.Mathlib.Omega.{arith}
 use lib.ListN.{length}
 use borrow.Author.Needs.{needs}
 use Rattle.tree.specs.Read.{innerTurn, elementOf, textAt, sectionAt}
-use Rattle.tree.proofs.NodeLaws.{node-end, node-text, node-section, node-close, node-element, el-deep, el-full, el-tag, tagged-torn, tagged-open, enclose-bad, built-shut, built-elem, lower}
+use Rattle.tree.proofs.NodeLaws.{node-end, node-text, node-section, node-close, node-element, el-deep, el-full, el-tag, tagged-torn}
+use Rattle.tree.proofs.NodeLaws.{tagged-open, enclose-bad, built-shut, built-elem, lower}
 use Rattle.tree.proofs.Going.{Going, start, out, fail-node, idle, step, inner-node, closed}
 use Prim.Native.Nat.{ℕ, _<_}
 use borrow.Fn.Kinds.{In}
@@ -79,19 +81,27 @@ abbrev kids : ℕ → parse-children-lts.Claims
 kids t = (starts-with-reads.Asked, starts-with-reads.Learnt, parse-close-reads.Asked, parse-close-reads.Learnt, parse-node-below t, parse-node.Post)
 
 abbrev elems : ℕ → parse-element-lts.Claims
-elems t = (over-reads.Asked, over-reads.Learnt, parse-start-reads.Asked, parse-start-reads.Learnt, put-node-reads.Asked, put-node-reads.Learnt, parse-children-below t, parse-children.Post)
+elems t =
+    (over-reads.Asked, over-reads.Learnt, parse-start-reads.Asked, parse-start-reads.Learnt, put-node-reads.Asked, put-node-reads.Learnt,
+    parse-children-below t, parse-children.Post)
 
 abbrev nods : ℕ → parse-node-lts.Claims
-nods t = (skip-comments-reads.Asked, skip-comments-reads.Learnt, parse-text-reads.Asked, parse-text-reads.Learnt, starts-with-reads.Asked, starts-with-reads.Learnt, parse-section-reads.Asked, parse-section-reads.Learnt, parse-element-below t, parse-element.Post)
+nods t =
+    (skip-comments-reads.Asked, skip-comments-reads.Learnt, parse-text-reads.Asked, parse-text-reads.Learnt, starts-with-reads.Asked,
+    starts-with-reads.Learnt, parse-section-reads.Asked, parse-section-reads.Learnt, parse-element-below t, parse-element.Post)
 
 abbrev parse-children-Inv-loop : parse-children-lts.InvT-loop
-parse-children-Inv-loop src nodes₀ attrs₀ from k0 a0 room pos₀ k₀ a₀ t14 nodes attrs pos k a = Going src (innerTurn src (elementOf room src)) nodes₀ attrs₀ from k0 a0 nodes attrs pos k a
+parse-children-Inv-loop src nodes₀ attrs₀ from k0 a0 room pos₀ k₀ a₀ t14 nodes attrs pos k a =
+    Going src (innerTurn src (elementOf room src)) nodes₀ attrs₀ from k0 a0 nodes attrs pos k a
 
 abbrev parse-children-μ-loop : parse-children-lts.MeasureT-loop
 parse-children-μ-loop src nodes₀ attrs₀ from k0 a0 room pos₀ k₀ a₀ t14 nodes attrs pos k a = length src - pos
 
-parse-children-loop-holds : (t : ℕ) → parse-children-lts.Need-loop-holds (kids t) (parse-children-at t) parse-children.Post parse-children-Inv-loop parse-children-μ-loop
-parse-children-loop-holds t c = start _ _ _ _ _ _ _ (c .before .before .before .pre .1)
+parse-children-loop-holds : (t : ℕ) → parse-children-lts.Need-loop-holds (kids t) (parse-children-at t) parse-children.Post parse-children-Inv-loop
+    parse-children-μ-loop
+parse-children-loop-holds t c =
+    let c3 = c .before .before .before in
+    start _ _ _ _ _ _ _ (c3 .pre .1)
 
 parse-children-slice-aggregate-starts-with :
     (t : ℕ) → parse-children-lts.Need-slice-aggregate-starts-with (
@@ -104,69 +114,117 @@ parse-children-slice-aggregate-starts-with :
     ) (parse-children-at t) parse-children.Post parse-children-Inv-loop parse-children-μ-loop
 parse-children-slice-aggregate-starts-with t c = search needs
 
-parse-children-starts-with-requires : (t : ℕ) → parse-children-lts.Need-starts-with-requires (kids t) (parse-children-at t) parse-children.Post parse-children-Inv-loop parse-children-μ-loop
+parse-children-starts-with-requires : (t : ℕ) → parse-children-lts.Need-starts-with-requires (kids t) (parse-children-at t) parse-children.Post
+    parse-children-Inv-loop parse-children-μ-loop
 parse-children-starts-with-requires t c κs = search needs
 
-parse-children-parse-close-requires : (t : ℕ) → parse-children-lts.Need-parse-close-requires (kids t) (parse-children-at t) parse-children.Post parse-children-Inv-loop parse-children-μ-loop
+parse-children-parse-close-requires : (t : ℕ) → parse-children-lts.Need-parse-close-requires (kids t) (parse-children-at t) parse-children.Post
+    parse-children-Inv-loop parse-children-μ-loop
 parse-children-parse-close-requires t c κs = search needs
 
-parse-children-same-length : (t : ℕ) → parse-children-lts.Need-same-length (kids t) (parse-children-at t) parse-children.Post parse-children-Inv-loop parse-children-μ-loop
+parse-children-same-length : (t : ℕ) → parse-children-lts.Need-same-length (kids t) (parse-children-at t) parse-children.Post
+    parse-children-Inv-loop parse-children-μ-loop
 parse-children-same-length t c = search needs
 
-parse-children-same-length-2 : (t : ℕ) → parse-children-lts.Need-same-length-2 (kids t) (parse-children-at t) parse-children.Post parse-children-Inv-loop parse-children-μ-loop
+parse-children-same-length-2 : (t : ℕ) → parse-children-lts.Need-same-length-2 (kids t) (parse-children-at t) parse-children.Post
+    parse-children-Inv-loop parse-children-μ-loop
 parse-children-same-length-2 t c = search needs
 
-parse-children-returns : (t : ℕ) → parse-children-lts.Need-returns (kids t) (parse-children-at t) parse-children.Post parse-children-Inv-loop parse-children-μ-loop
-parse-children-returns t c = rw (c .parse-close .ensures) (closed (elementOf (c .before .before .before .before .before .before .before .before .before .args .room) (c .before .before .before .before .before .before .before .before .before .args .src .now)) (c .before .before .before .before .before .loop .inv) (c .before .before .before .before .loop-test .taken) (sym (c .before .before .starts-with .ensures .is) ∙ c .before .if1 .taken))
+parse-children-returns : (t : ℕ) → parse-children-lts.Need-returns (kids t) (parse-children-at t) parse-children.Post parse-children-Inv-loop
+    parse-children-μ-loop
+parse-children-returns t c =
+    let c4 = c .before .before .before .before in
+    let c5 = c4 .before in
+    let c9 = c5 .before .before .before .before in
+    rw (c .parse-close .ensures) (closed (elementOf (c9 .args .room) (c9 .args .src .now)) (c5 .loop .inv) (c4 .loop-test .taken)
+        (sym (c .before .before .starts-with .ensures .is) ∙ c .before .if1 .taken))
 
-parse-children-parse-node-requires : (t : ℕ) → parse-children-lts.Need-parse-node-requires (kids t) (parse-children-at t) parse-children.Post parse-children-Inv-loop parse-children-μ-loop
+parse-children-parse-node-requires : (t : ℕ) → parse-children-lts.Need-parse-node-requires (kids t) (parse-children-at t) parse-children.Post
+    parse-children-Inv-loop parse-children-μ-loop
 parse-children-parse-node-requires t c κs = search needs
 
-parse-children-enum-known-c : (t : ℕ) → parse-children-lts.Need-enum-known-c (kids t) (parse-children-at t) parse-children.Post parse-children-Inv-loop parse-children-μ-loop
+parse-children-enum-known-c : (t : ℕ) → parse-children-lts.Need-enum-known-c (kids t) (parse-children-at t) parse-children.Post
+    parse-children-Inv-loop parse-children-μ-loop
 parse-children-enum-known-c t c = search needs
 
-parse-children-loop-less : (t : ℕ) → parse-children-lts.Need-loop-less (kids t) (parse-children-at t) parse-children.Post parse-children-Inv-loop parse-children-μ-loop
+parse-children-loop-less : (t : ℕ) → parse-children-lts.Need-loop-less (kids t) (parse-children-at t) parse-children.Post parse-children-Inv-loop
+    parse-children-μ-loop
 parse-children-loop-less t c =
-    let l = rw (c .before .c .given .1) at (c .before .before .before .before .before .before .before .parse-node .ensures) in
-    omega (arith, l .after, c .before .before .before .before .before .before .before .before .before .before .before .before .before .loop-test .taken)
+    let c7 = c .before .before .before .before .before .before .before in
+    let c13 = c7 .before .before .before .before .before .before in
+    let l = rw (c .before .c .given .1) at (c7 .parse-node .ensures) in
+    omega (arith, l .after, c13 .loop-test .taken)
 
-parse-children-loop-again : (t : ℕ) → parse-children-lts.Need-loop-again (kids t) (parse-children-at t) parse-children.Post parse-children-Inv-loop parse-children-μ-loop
+parse-children-loop-again : (t : ℕ) → parse-children-lts.Need-loop-again (kids t) (parse-children-at t) parse-children.Post parse-children-Inv-loop
+    parse-children-μ-loop
 parse-children-loop-again t c =
-    step (c .before .before .before .before .before .before .before .before .before .before .before .before .before .before .loop .inv) _ (c .before .before .before .before .before .before .before .before .before .before .before .before .before .loop-test .taken) (inner-node (c .before .before .before .before .before .before .before .before .before .before .before .before .before .before .before .before .before .before .args .src .now) _ (c .before .before .before .before .before .before .before .before .before .before .before .before .before .before .loop .pos) _ (sym (c .before .before .before .before .before .before .before .before .before .before .before .starts-with .ensures .is) ∙ c .before .before .before .before .before .before .before .before .before .before .if1 .left)) _ (rw (c .before .c .given .1) at (c .before .before .before .before .before .before .before .parse-node .ensures))
+    let c7 = c .before .before .before .before .before .before .before in
+    let c10 = c7 .before .before .before in
+    let c11 = c10 .before in
+    let c13 = c11 .before .before in
+    let c14 = c13 .before in
+    let c18 = c14 .before .before .before .before in
+    step (c14 .loop .inv) _ (c13 .loop-test .taken) (inner-node (c18 .args .src .now) _ (c14 .loop .pos) _ (sym (c11 .starts-with .ensures .is)
+        ∙ c10 .if1 .left)) _ (rw (c .before .c .given .1) at (c7 .parse-node .ensures))
 
-parse-children-enum-known-q : (t : ℕ) → parse-children-lts.Need-enum-known-q (kids t) (parse-children-at t) parse-children.Post parse-children-Inv-loop parse-children-μ-loop
+parse-children-enum-known-q : (t : ℕ) → parse-children-lts.Need-enum-known-q (kids t) (parse-children-at t) parse-children.Post
+    parse-children-Inv-loop parse-children-μ-loop
 parse-children-enum-known-q t c = search needs
 
-parse-children-same-length-3 : (t : ℕ) → parse-children-lts.Need-same-length-3 (kids t) (parse-children-at t) parse-children.Post parse-children-Inv-loop parse-children-μ-loop
+parse-children-same-length-3 : (t : ℕ) → parse-children-lts.Need-same-length-3 (kids t) (parse-children-at t) parse-children.Post
+    parse-children-Inv-loop parse-children-μ-loop
 parse-children-same-length-3 t c = search needs
 
-parse-children-same-length-4 : (t : ℕ) → parse-children-lts.Need-same-length-4 (kids t) (parse-children-at t) parse-children.Post parse-children-Inv-loop parse-children-μ-loop
+parse-children-same-length-4 : (t : ℕ) → parse-children-lts.Need-same-length-4 (kids t) (parse-children-at t) parse-children.Post
+    parse-children-Inv-loop parse-children-μ-loop
 parse-children-same-length-4 t c = search needs
 
-parse-children-returns-2 : (t : ℕ) → parse-children-lts.Need-returns-2 (kids t) (parse-children-at t) parse-children.Post parse-children-Inv-loop parse-children-μ-loop
+parse-children-returns-2 : (t : ℕ) → parse-children-lts.Need-returns-2 (kids t) (parse-children-at t) parse-children.Post parse-children-Inv-loop
+    parse-children-μ-loop
 parse-children-returns-2 t c =
-    idle (c .before .before .before .before .before .before .before .before .before .before .before .before .before .before .loop .inv) _ (c .before .before .before .before .before .before .before .before .before .before .before .before .before .loop-test .taken) (inner-node (c .before .before .before .before .before .before .before .before .before .before .before .before .before .before .before .before .before .before .args .src .now) _ (c .before .before .before .before .before .before .before .before .before .before .before .before .before .before .loop .pos) _ (sym (c .before .before .before .before .before .before .before .before .before .before .before .starts-with .ensures .is) ∙ c .before .before .before .before .before .before .before .before .before .before .if1 .left)) _ (rw (c .before .q .given .1) at (c .before .before .before .before .before .before .before .parse-node .ensures))
+    let c7 = c .before .before .before .before .before .before .before in
+    let c10 = c7 .before .before .before in
+    let c11 = c10 .before in
+    let c13 = c11 .before .before in
+    let c14 = c13 .before in
+    let c18 = c14 .before .before .before .before in
+    idle (c14 .loop .inv) _ (c13 .loop-test .taken) (inner-node (c18 .args .src .now) _ (c14 .loop .pos) _ (sym (c11 .starts-with .ensures .is)
+        ∙ c10 .if1 .left)) _ (rw (c .before .q .given .1) at (c7 .parse-node .ensures))
 
-parse-children-enum-known-r : (t : ℕ) → parse-children-lts.Need-enum-known-r (kids t) (parse-children-at t) parse-children.Post parse-children-Inv-loop parse-children-μ-loop
+parse-children-enum-known-r : (t : ℕ) → parse-children-lts.Need-enum-known-r (kids t) (parse-children-at t) parse-children.Post
+    parse-children-Inv-loop parse-children-μ-loop
 parse-children-enum-known-r t c = search needs
 
-parse-children-same-length-5 : (t : ℕ) → parse-children-lts.Need-same-length-5 (kids t) (parse-children-at t) parse-children.Post parse-children-Inv-loop parse-children-μ-loop
+parse-children-same-length-5 : (t : ℕ) → parse-children-lts.Need-same-length-5 (kids t) (parse-children-at t) parse-children.Post
+    parse-children-Inv-loop parse-children-μ-loop
 parse-children-same-length-5 t c = search needs
 
-parse-children-same-length-6 : (t : ℕ) → parse-children-lts.Need-same-length-6 (kids t) (parse-children-at t) parse-children.Post parse-children-Inv-loop parse-children-μ-loop
+parse-children-same-length-6 : (t : ℕ) → parse-children-lts.Need-same-length-6 (kids t) (parse-children-at t) parse-children.Post
+    parse-children-Inv-loop parse-children-μ-loop
 parse-children-same-length-6 t c = search needs
 
-parse-children-returns-3 : (t : ℕ) → parse-children-lts.Need-returns-3 (kids t) (parse-children-at t) parse-children.Post parse-children-Inv-loop parse-children-μ-loop
+parse-children-returns-3 : (t : ℕ) → parse-children-lts.Need-returns-3 (kids t) (parse-children-at t) parse-children.Post parse-children-Inv-loop
+    parse-children-μ-loop
 parse-children-returns-3 t c =
-    fail-node (c .before .before .before .before .before .before .before .before .before .before .before .before .before .before .loop .inv) _ (c .before .before .before .before .before .before .before .before .before .before .before .before .before .loop-test .taken) (inner-node (c .before .before .before .before .before .before .before .before .before .before .before .before .before .before .before .before .before .before .args .src .now) _ (c .before .before .before .before .before .before .before .before .before .before .before .before .before .before .loop .pos) _ (sym (c .before .before .before .before .before .before .before .before .before .before .before .starts-with .ensures .is) ∙ c .before .before .before .before .before .before .before .before .before .before .if1 .left)) _ _ (rw (c .before .r .given .1) at (c .before .before .before .before .before .before .before .parse-node .ensures))
+    let c7 = c .before .before .before .before .before .before .before in
+    let c10 = c7 .before .before .before in
+    let c11 = c10 .before in
+    let c13 = c11 .before .before in
+    let c14 = c13 .before in
+    let c18 = c14 .before .before .before .before in
+    fail-node (c14 .loop .inv) _ (c13 .loop-test .taken) (inner-node (c18 .args .src .now) _ (c14 .loop .pos) _ (sym (c11 .starts-with .ensures .is)
+        ∙ c10 .if1 .left)) _ _ (rw (c .before .r .given .1) at (c7 .parse-node .ensures))
 
-parse-children-same-length-7 : (t : ℕ) → parse-children-lts.Need-same-length-7 (kids t) (parse-children-at t) parse-children.Post parse-children-Inv-loop parse-children-μ-loop
+parse-children-same-length-7 : (t : ℕ) → parse-children-lts.Need-same-length-7 (kids t) (parse-children-at t) parse-children.Post
+    parse-children-Inv-loop parse-children-μ-loop
 parse-children-same-length-7 t c = search needs
 
-parse-children-same-length-8 : (t : ℕ) → parse-children-lts.Need-same-length-8 (kids t) (parse-children-at t) parse-children.Post parse-children-Inv-loop parse-children-μ-loop
+parse-children-same-length-8 : (t : ℕ) → parse-children-lts.Need-same-length-8 (kids t) (parse-children-at t) parse-children.Post
+    parse-children-Inv-loop parse-children-μ-loop
 parse-children-same-length-8 t c = search needs
 
-parse-children-returns-4 : (t : ℕ) → parse-children-lts.Need-returns-4 (kids t) (parse-children-at t) parse-children.Post parse-children-Inv-loop parse-children-μ-loop
+parse-children-returns-4 : (t : ℕ) → parse-children-lts.Need-returns-4 (kids t) (parse-children-at t) parse-children.Post parse-children-Inv-loop
+    parse-children-μ-loop
 parse-children-returns-4 t c = out (c .before .loop .inv) (c .loop-test .left)
 
 parse-element-returns : (t : ℕ) → parse-element-lts.Need-returns (elems t) (parse-element-at t) parse-element.Post
@@ -182,7 +240,9 @@ parse-element-over-requires : (t : ℕ) → parse-element-lts.Need-over-requires
 parse-element-over-requires t c κs = search needs
 
 parse-element-parse-start-requires : (t : ℕ) → parse-element-lts.Need-parse-start-requires (elems t) (parse-element-at t) parse-element.Post
-parse-element-parse-start-requires t c κs = (c .before .before .before .before .before .before .before .pre .1 .0 .short, c .before .before .before .before .before .before .before .pre .1 .0 .wide, c .before .before .before .before .before .before .before .pre .1 .1, c .before .over .ensures, c .before .before .before .before .before .before .before .pre .1 .0 .least)
+parse-element-parse-start-requires t c κs =
+    let c7 = c .before .before .before .before .before .before .before in
+    (c7 .pre .1 .0 .short, c7 .pre .1 .0 .wide, c7 .pre .1 .1, c .before .over .ensures, c7 .pre .1 .0 .least)
 
 parse-element-enum-known-r : (t : ℕ) → parse-element-lts.Need-enum-known-r (elems t) (parse-element-at t) parse-element.Post
 parse-element-enum-known-r t c = search needs
@@ -203,8 +263,12 @@ parse-element-sub-put-node-2 t c =
 
 parse-element-put-node-requires : (t : ℕ) → parse-element-lts.Need-put-node-requires (elems t) (parse-element-at t) parse-element.Post
 parse-element-put-node-requires t c κs =
-    let l = rw (c .before .before .t .given .1) at (c .before .before .before .before .before .before .parse-start .ensures) in
-    omega (arith, l .most, l .within, l .counted, c .before .before .before .before .before .before .before .before .over .ensures .within, c .before .before .before .before .before .before .before .before .before .if2 .left, c .before .before .before .before .before .before .before .before .before .before .before .before .before .before .pre .1 .0, c .before .before .before .before .before .before .before .before .before .before .before .before .before .before .pre .1 .1)
+    let c6 = c .before .before .before .before .before .before in
+    let c8 = c6 .before .before in
+    let c9 = c8 .before in
+    let c14 = c9 .before .before .before .before .before in
+    let l = rw (c .before .before .t .given .1) at (c6 .parse-start .ensures) in
+    omega (arith, l .most, l .within, l .counted, c8 .over .ensures .within, c9 .if2 .left, c14 .pre .1 .0, c14 .pre .1 .1)
 
 parse-element-add-t28 : (t : ℕ) → parse-element-lts.Need-add-t28 (elems t) (parse-element-at t) parse-element.Post
 parse-element-add-t28 t c = search needs
@@ -220,8 +284,14 @@ parse-element-sub-parse-children t c = search needs
 
 parse-element-parse-children-requires : (t : ℕ) → parse-element-lts.Need-parse-children-requires (elems t) (parse-element-at t) parse-element.Post
 parse-element-parse-children-requires t c κs =
-    let l = rw (c .before .before .before .t2 .given .1) at (c .before .before .before .before .before .before .before .parse-start .ensures) in
-    omega (arith, l .most, l .within, l .after, c .before .before .before .before .before .before .before .parse-start .kept, c .before .before .before .before .before .before .before .before .before .over .ensures .after, c .before .before .before .before .before .before .before .before .before .before .if2 .left, c .before .before .before .before .before .before .before .before .before .before .before .before .before .before .before .pre .0, c .before .before .before .before .before .before .before .before .before .before .before .before .before .before .before .pre .1 .0, c .before .before .before .before .before .before .before .before .before .before .before .before .before .before .before .pre .1 .1)
+    let c3 = c .before .before .before in
+    let c7 = c3 .before .before .before .before in
+    let c9 = c7 .before .before in
+    let c10 = c9 .before in
+    let c15 = c10 .before .before .before .before .before in
+    let l = rw (c3 .t2 .given .1) at (c7 .parse-start .ensures) in
+    omega (arith, l .most, l .within, l .after, c7 .parse-start .kept, c9 .over .ensures .after, c10 .if2 .left, c15 .pre .0, c15 .pre .1 .0,
+        c15 .pre .1 .1)
 
 parse-element-enum-known-r-2 : (t : ℕ) → parse-element-lts.Need-enum-known-r-2 (elems t) (parse-element-at t) parse-element.Post
 parse-element-enum-known-r-2 t c = search needs
@@ -234,22 +304,36 @@ parse-element-sub-put-node-3 t c = search needs
 
 parse-element-sub-put-node-4 : (t : ℕ) → parse-element-lts.Need-sub-put-node-4 (elems t) (parse-element-at t) parse-element.Post
 parse-element-sub-put-node-4 t c =
-    let l = rw (c .before .before .before .before .before .before .before .before .before .before .before .before .t2 .given .1) at (c .before .before .before .before .before .before .before .before .before .before .before .before .before .before .before .before .parse-start .ensures) in
+    let c12 = c .before .before .before .before .before .before .before .before .before .before .before .before in
+    let c16 = c12 .before .before .before .before in
+    let l = rw (c12 .t2 .given .1) at (c16 .parse-start .ensures) in
     omega (arith, l .counted)
 
 parse-element-put-node-requires-2 : (t : ℕ) → parse-element-lts.Need-put-node-requires-2 (elems t) (parse-element-at t) parse-element.Post
 parse-element-put-node-requires-2 t c κs =
-    let l = rw (c .before .before .c .given .1) at (c .before .before .before .before .before .before .before .before .parse-children .ensures) in
-    let m = rw (c .before .before .before .before .before .before .before .before .before .before .before .before .t2 .given .1) at (c .before .before .before .before .before .before .before .before .before .before .before .before .before .before .before .before .parse-start .ensures) in
-    omega (arith, l .most, m .most, m .counted, c .before .before .before .before .before .before .before .before .before .before .before .before .before .before .before .before .before .before .over .ensures .within, c .before .before .before .before .before .before .before .before .before .before .before .before .before .before .before .before .before .before .before .if2 .left, c .before .before .before .before .before .before .before .before .before .before .before .before .before .before .before .before .before .before .before .before .before .before .before .before .pre .1 .0, c .before .before .before .before .before .before .before .before .before .before .before .before .before .before .before .before .before .before .before .before .before .before .before .before .pre .1 .1, c .before .before .before .before .before .before .before .before .parse-children .kept)
+    let c8 = c .before .before .before .before .before .before .before .before in
+    let c12 = c8 .before .before .before .before in
+    let c16 = c12 .before .before .before .before in
+    let c18 = c16 .before .before in
+    let c19 = c18 .before in
+    let c24 = c19 .before .before .before .before .before in
+    let l = rw (c .before .before .c .given .1) at (c8 .parse-children .ensures) in
+    let m = rw (c12 .t2 .given .1) at (c16 .parse-start .ensures) in
+    omega (arith, l .most, m .most, m .counted, c18 .over .ensures .within, c19 .if2 .left, c24 .pre .1 .0, c24 .pre .1 .1, c8 .parse-children .kept)
 
 parse-element-same-length : (t : ℕ) → parse-element-lts.Need-same-length (elems t) (parse-element-at t) parse-element.Post
 parse-element-same-length t c = search needs
 
 parse-element-returns-3 : (t : ℕ) → parse-element-lts.Need-returns-3 (elems t) (parse-element-at t) parse-element.Post
 parse-element-returns-3 t c =
-    let a = c .before .before .before .before .before .before .before .before .before .before .before .before .before .args in
-    el-tag (a .room) (a .src .now) (a .pos) (a .k) (a .a) (c .before .before .before .before .before .before .before .before .before .if1 .left) (c .before .before .before .before .before .before .before .over .result) _ (c .before .before .before .before .before .before .before .before .if2 .left) (c .before .before .before .before .before .before .before .over .ensures) (rw (c .before .r .given .1) at (c .before .before .before .before .before .parse-start .ensures)) ∙ tagged-torn _ _ _ _ _ _
+    let c5 = c .before .before .before .before .before in
+    let c7 = c5 .before .before in
+    let c8 = c7 .before in
+    let c9 = c8 .before in
+    let c13 = c9 .before .before .before .before in
+    let a = c13 .args in
+    el-tag (a .room) (a .src .now) (a .pos) (a .k) (a .a) (c9 .if1 .left) (c7 .over .result) _ (c8 .if2 .left) (c7 .over .ensures)
+        (rw (c .before .r .given .1) at (c5 .parse-start .ensures)) ∙ tagged-torn _ _ _ _ _ _
 
 parse-element-same-length-2 : (t : ℕ) → parse-element-lts.Need-same-length-2 (elems t) (parse-element-at t) parse-element.Post
 parse-element-same-length-2 t c = search needs
@@ -259,11 +343,18 @@ parse-element-same-length-3 t c = search needs
 
 parse-element-returns-4 : (t : ℕ) → parse-element-lts.Need-returns-4 (elems t) (parse-element-at t) parse-element.Post
 parse-element-returns-4 t c =
-    let a = c .before .before .before .before .before .before .before .before .before .before .before .before .before .before .before .before .before .args in
-    let l = rw (c .before .before .before .before .before .t .given .1) at (c .before .before .before .before .before .before .before .before .before .parse-start .ensures) in
+    let c5 = c .before .before .before .before .before in
+    let c9 = c5 .before .before .before .before in
+    let c11 = c9 .before .before in
+    let c12 = c11 .before in
+    let c13 = c12 .before in
+    let c17 = c13 .before .before .before .before in
+    let a = c17 .args in
+    let l = rw (c5 .t .given .1) at (c9 .parse-start .ensures) in
     built-shut _ _ (a .src .now) (a .nodes .now) _ (a .attrs .now) _ (a .pos) _ (a .k) (a .a) (l .list) _
-    (el-tag (a .room) (a .src .now) (a .pos) (a .k) (a .a) (c .before .before .before .before .before .before .before .before .before .before .before .before .before .if1 .left) (c .before .before .before .before .before .before .before .before .before .before .before .over .result) _ (c .before .before .before .before .before .before .before .before .before .before .before .before .if2 .left) (c .before .before .before .before .before .before .before .before .before .before .before .over .ensures) (l .is))
-    (omega (arith, l .after, c .before .before .before .before .before .before .before .before .before .before .before .over .ensures .after)) (l .within) (l .counted) (l .most) (c .before .before .before .before .before .before .before .before .before .before .before .before .if2 .left) (c .before .before .put-node .ensures) (l .laid)
+    (el-tag (a .room) (a .src .now) (a .pos) (a .k) (a .a) (c13 .if1 .left) (c11 .over .result) _ (c12 .if2 .left) (c11 .over .ensures) (l .is))
+    (omega (arith, l .after, c11 .over .ensures .after)) (l .within) (l .counted) (l .most) (c12 .if2 .left) (c .before .before .put-node .ensures)
+        (l .laid)
 
 parse-element-same-length-4 : (t : ℕ) → parse-element-lts.Need-same-length-4 (elems t) (parse-element-at t) parse-element.Post
 parse-element-same-length-4 t c = search needs
@@ -273,10 +364,17 @@ parse-element-same-length-5 t c = search needs
 
 parse-element-returns-5 : (t : ℕ) → parse-element-lts.Need-returns-5 (elems t) (parse-element-at t) parse-element.Post
 parse-element-returns-5 t c =
-    let a = c .before .before .before .before .before .before .before .before .before .before .before .before .before .before .before .before .before .before .before .before .before .before .before .args in
-    let l = rw (c .before .before .before .before .before .before .before .before .before .before .before .t2 .given .1) at (c .before .before .before .before .before .before .before .before .before .before .before .before .before .before .before .parse-start .ensures) in
-    el-tag (a .room) (a .src .now) (a .pos) (a .k) (a .a) (c .before .before .before .before .before .before .before .before .before .before .before .before .before .before .before .before .before .before .before .if1 .left) (c .before .before .before .before .before .before .before .before .before .before .before .before .before .before .before .before .before .over .result) _ (c .before .before .before .before .before .before .before .before .before .before .before .before .before .before .before .before .before .before .if2 .left) (c .before .before .before .before .before .before .before .before .before .before .before .before .before .before .before .before .before .over .ensures) (l .is)
-    ∙ (tagged-open _ _ _ _ _ _ _ ∙ enclose-bad _ _ _ _ _ _ (rw (c .before .r2 .given .1) at (c .before .before .before .before .before .before .before .parse-children .ensures)))
+    let c7 = c .before .before .before .before .before .before .before in
+    let c11 = c7 .before .before .before .before in
+    let c15 = c11 .before .before .before .before in
+    let c17 = c15 .before .before in
+    let c18 = c17 .before in
+    let c19 = c18 .before in
+    let c23 = c19 .before .before .before .before in
+    let a = c23 .args in
+    let l = rw (c11 .t2 .given .1) at (c15 .parse-start .ensures) in
+    el-tag (a .room) (a .src .now) (a .pos) (a .k) (a .a) (c19 .if1 .left) (c17 .over .result) _ (c18 .if2 .left) (c17 .over .ensures) (l .is)
+    ∙ (tagged-open _ _ _ _ _ _ _ ∙ enclose-bad _ _ _ _ _ _ (rw (c .before .r2 .given .1) at (c7 .parse-children .ensures)))
 
 parse-element-same-length-6 : (t : ℕ) → parse-element-lts.Need-same-length-6 (elems t) (parse-element-at t) parse-element.Post
 parse-element-same-length-6 t c = search needs
@@ -286,19 +384,32 @@ parse-element-same-length-7 t c = search needs
 
 parse-element-returns-6 : (t : ℕ) → parse-element-lts.Need-returns-6 (elems t) (parse-element-at t) parse-element.Post
 parse-element-returns-6 t c =
-    let a = c .before .before .before .before .before .before .before .before .before .before .before .before .before .before .before .before .before .before .before .before .before .before .before .before .before .before .before .args in
-    let l = rw (c .before .before .before .before .before .before .before .before .before .before .before .before .before .before .before .t2 .given .1) at (c .before .before .before .before .before .before .before .before .before .before .before .before .before .before .before .before .before .before .before .parse-start .ensures) in
+    let c5 = c .before .before .before .before .before in
+    let c11 = c5 .before .before .before .before .before .before in
+    let c15 = c11 .before .before .before .before in
+    let c19 = c15 .before .before .before .before in
+    let c21 = c19 .before .before in
+    let c22 = c21 .before in
+    let c23 = c22 .before in
+    let c27 = c23 .before .before .before .before in
+    let a = c27 .args in
+    let l = rw (c15 .t2 .given .1) at (c19 .parse-start .ensures) in
     built-elem _ _ (a .src .now) (a .nodes .now) _ _ (a .attrs .now) _ _ (a .pos) _ (a .k) (a .a) _ _ (l .list) _
-    (el-tag (a .room) (a .src .now) (a .pos) (a .k) (a .a) (c .before .before .before .before .before .before .before .before .before .before .before .before .before .before .before .before .before .before .before .before .before .before .before .if1 .left) (c .before .before .before .before .before .before .before .before .before .before .before .before .before .before .before .before .before .before .before .before .before .over .result) _ (c .before .before .before .before .before .before .before .before .before .before .before .before .before .before .before .before .before .before .before .before .before .before .if2 .left) (c .before .before .before .before .before .before .before .before .before .before .before .before .before .before .before .before .before .before .before .before .before .over .ensures) (l .is) ∙ tagged-open _ _ _ _ _ _ _)
-    (rw (c .before .before .before .before .before .c .given .1) at (c .before .before .before .before .before .before .before .before .before .before .before .parse-children .ensures)) (omega (arith, l .after, c .before .before .before .before .before .before .before .before .before .before .before .before .before .before .before .before .before .before .before .before .before .over .ensures .after)) (l .counted) (c .before .before .put-node2 .ensures) (l .laid)
+    (el-tag (a .room) (a .src .now) (a .pos) (a .k) (a .a) (c23 .if1 .left) (c21 .over .result) _ (c22 .if2 .left) (c21 .over .ensures) (l .is)
+        ∙ tagged-open _ _ _ _ _ _ _)
+    (rw (c5 .c .given .1) at (c11 .parse-children .ensures)) (omega (arith, l .after, c21 .over .ensures .after)) (l .counted)
+        (c .before .before .put-node2 .ensures) (l .laid)
 
 parse-node-skip-comments-requires : (t : ℕ) → parse-node-lts.Need-skip-comments-requires (nods t) (parse-node-at t) parse-node.Post
 parse-node-skip-comments-requires t c κs = search needs
 
 parse-node-returns : (t : ℕ) → parse-node-lts.Need-returns (nods t) (parse-node-at t) parse-node.Post
 parse-node-returns t c =
-    let a = c .before .before .before .before .before .args in
-    record { is = node-end (a .src .now) _ (a .pos) (a .k) (a .a) (c .before .skip-comments .result) (c .before .skip-comments .ensures) (c .if1 .taken); after = c .before .skip-comments .ensures .after; within = c .before .skip-comments .ensures .within; same = refl; alike = refl }
+    let c5 = c .before .before .before .before .before in
+    let a = c5 .args in
+    record { is = node-end (a .src .now) _ (a .pos) (a .k) (a .a) (c .before .skip-comments .result) (c .before .skip-comments .ensures)
+        (c .if1 .taken); after = c .before .skip-comments .ensures .after; within = c .before .skip-comments .ensures .within; same = refl; alike =
+        refl }
 
 parse-node-shared-slice-read-if2 : (t : ℕ) → parse-node-lts.Need-shared-slice-read-if2 (nods t) (parse-node-at t) parse-node.Post
 parse-node-shared-slice-read-if2 t c = search needs
@@ -311,10 +422,17 @@ parse-node-same-length t c = search needs
 
 parse-node-returns-2 : (t : ℕ) → parse-node-lts.Need-returns-2 (nods t) (parse-node-at t) parse-node.Post
 parse-node-returns-2 t c =
-    let a = c .before .before .before .before .before .before .before .before .before .before .before .args in
-    let at = c .before .before .before .before .before .before .before .skip-comments .result in
-    rw (node-text (a .src .now) (elementOf (a .room) (a .src .now)) (a .pos) (a .k) (a .a) at (c .before .before .before .before .before .before .before .skip-comments .ensures) (c .before .before .before .before .before .before .if1 .left) (c .before .before .before .before .if2 .taken))
-    (lower (textAt (a .src .now) at (a .k) (a .a)) (a .src .now) (a .nodes .now) (c .before .before .parse-text .last .1 .0) (a .attrs .now) (a .attrs .now) (a .pos) at (a .k) (a .a) (c .before .before .parse-text .result) (c .before .before .before .before .before .before .before .skip-comments .ensures .after) (c .before .before .parse-text .ensures (a .attrs .now)))
+    let c4 = c .before .before .before .before in
+    let c6 = c4 .before .before in
+    let c7 = c6 .before in
+    let c11 = c7 .before .before .before .before in
+    let a = c11 .args in
+    let at = c7 .skip-comments .result in
+    rw (node-text (a .src .now) (elementOf (a .room) (a .src .now)) (a .pos) (a .k) (a .a) at (c7 .skip-comments .ensures) (c6 .if1 .left)
+        (c4 .if2 .taken))
+    (lower (textAt (a .src .now) at (a .k) (a .a)) (a .src .now) (a .nodes .now) (c .before .before .parse-text .last .1 .0) (a .attrs .now)
+        (a .attrs .now) (a .pos) at (a .k) (a .a) (c .before .before .parse-text .result) (c7 .skip-comments .ensures .after)
+        (c .before .before .parse-text .ensures (a .attrs .now)))
 
 parse-node-slice-aggregate-starts-with : (t : ℕ) → parse-node-lts.Need-slice-aggregate-starts-with (nods t) (parse-node-at t) parse-node.Post
 parse-node-slice-aggregate-starts-with t c = search needs
@@ -323,17 +441,28 @@ parse-node-starts-with-requires : (t : ℕ) → parse-node-lts.Need-starts-with-
 parse-node-starts-with-requires t c κs = search needs
 
 parse-node-parse-section-requires : (t : ℕ) → parse-node-lts.Need-parse-section-requires (nods t) (parse-node-at t) parse-node.Post
-parse-node-parse-section-requires t c κs = omega (arith, c .before .before .starts-with .ensures .whole (c .before .if3 .taken), c .before .before .before .before .before .before .before .before .before .before .before .pre .1)
+parse-node-parse-section-requires t c κs =
+    let c11 = c .before .before .before .before .before .before .before .before .before .before .before in
+    omega (arith, c .before .before .starts-with .ensures .whole (c .before .if3 .taken), c11 .pre .1)
 
 parse-node-same-length-2 : (t : ℕ) → parse-node-lts.Need-same-length-2 (nods t) (parse-node-at t) parse-node.Post
 parse-node-same-length-2 t c = search needs
 
 parse-node-returns-3 : (t : ℕ) → parse-node-lts.Need-returns-3 (nods t) (parse-node-at t) parse-node.Post
 parse-node-returns-3 t c =
-    let a = c .before .before .before .before .before .before .before .before .before .before .before .before .before .before .args in
-    let at = c .before .before .before .before .before .before .before .before .before .before .skip-comments .result in
-    rw (node-section (a .src .now) (elementOf (a .room) (a .src .now)) (a .pos) (a .k) (a .a) at (c .before .before .before .before .before .before .before .before .before .before .skip-comments .ensures) (c .before .before .before .before .before .before .before .before .before .if1 .left) (c .before .before .before .before .before .before .before .if2 .left) (sym (c .before .before .before .before .before .starts-with .ensures .is) ∙ c .before .before .before .before .if3 .taken))
-    (lower (sectionAt (a .src .now) at (a .k) (a .a)) (a .src .now) (a .nodes .now) (c .before .before .parse-section .last .1 .0) (a .attrs .now) (a .attrs .now) (a .pos) at (a .k) (a .a) (c .before .before .parse-section .result) (c .before .before .before .before .before .before .before .before .before .before .skip-comments .ensures .after) (c .before .before .parse-section .ensures (a .attrs .now)))
+    let c4 = c .before .before .before .before in
+    let c5 = c4 .before in
+    let c7 = c5 .before .before in
+    let c9 = c7 .before .before in
+    let c10 = c9 .before in
+    let c14 = c10 .before .before .before .before in
+    let a = c14 .args in
+    let at = c10 .skip-comments .result in
+    rw (node-section (a .src .now) (elementOf (a .room) (a .src .now)) (a .pos) (a .k) (a .a) at (c10 .skip-comments .ensures) (c9 .if1 .left)
+        (c7 .if2 .left) (sym (c5 .starts-with .ensures .is) ∙ c4 .if3 .taken))
+    (lower (sectionAt (a .src .now) at (a .k) (a .a)) (a .src .now) (a .nodes .now) (c .before .before .parse-section .last .1 .0) (a .attrs .now)
+        (a .attrs .now) (a .pos) at (a .k) (a .a) (c .before .before .parse-section .result) (c10 .skip-comments .ensures .after)
+        (c .before .before .parse-section .ensures (a .attrs .now)))
 
 parse-node-slice-aggregate-starts-with-2 :
     (t : ℕ) → parse-node-lts.Need-slice-aggregate-starts-with-2 (
@@ -355,11 +484,24 @@ parse-node-starts-with-requires-2 t c κs = search needs
 
 parse-node-returns-4 : (t : ℕ) → parse-node-lts.Need-returns-4 (nods t) (parse-node-at t) parse-node.Post
 parse-node-returns-4 t c =
-    let a = c .before .before .before .before .before .before .before .before .before .before .before .before .before .args in
-    record { is = node-close (a .src .now) (elementOf (a .room) (a .src .now)) (a .pos) (a .k) (a .a) (c .before .before .before .before .before .before .before .before .before .skip-comments .result) (c .before .before .before .before .before .before .before .before .before .skip-comments .ensures) (c .before .before .before .before .before .before .before .before .if1 .left) (c .before .before .before .before .before .before .if2 .left) (sym (c .before .before .before .before .starts-with .ensures .is) ∙ c .before .before .before .if3 .left) (sym (c .before .starts-with2 .ensures .is) ∙ c .if4 .taken); after = c .before .before .before .before .before .before .before .before .before .skip-comments .ensures .after; within = c .before .before .before .before .before .before .before .before .before .skip-comments .ensures .within; same = refl; alike = refl }
+    let c3 = c .before .before .before in
+    let c4 = c3 .before in
+    let c6 = c4 .before .before in
+    let c8 = c6 .before .before in
+    let c9 = c8 .before in
+    let c13 = c9 .before .before .before .before in
+    let a = c13 .args in
+    record { is = node-close (a .src .now) (elementOf (a .room) (a .src .now)) (a .pos) (a .k) (a .a) (c9 .skip-comments .result)
+        (c9 .skip-comments .ensures) (c8 .if1 .left) (c6 .if2 .left) (sym (c4 .starts-with .ensures .is) ∙ c3 .if3 .left)
+        (sym (c .before .starts-with2 .ensures .is) ∙ c .if4 .taken); after = c9 .skip-comments .ensures .after; within =
+        c9 .skip-comments .ensures .within; same = refl; alike = refl }
 
 parse-node-parse-element-requires : (t : ℕ) → parse-node-lts.Need-parse-element-requires (nods t) (parse-node-at t) parse-node.Post
-parse-node-parse-element-requires t c κs = omega (arith, c .before .before .before .before .before .before .before .before .before .before .before .skip-comments .ensures .after, c .before .before .before .before .before .before .before .before .before .before .before .skip-comments .ensures .within, c .before .before .before .before .before .before .before .before .before .before .if1 .left, c .before .before .before .before .before .before .before .before .before .before .before .before .before .before .before .pre .0, c .before .before .before .before .before .before .before .before .before .before .before .before .before .before .before .pre .1)
+parse-node-parse-element-requires t c κs =
+    let c10 = c .before .before .before .before .before .before .before .before .before .before in
+    let c11 = c10 .before in
+    let c15 = c11 .before .before .before .before in
+    omega (arith, c11 .skip-comments .ensures .after, c11 .skip-comments .ensures .within, c10 .if1 .left, c15 .pre .0, c15 .pre .1)
 
 parse-node-same-length-3 : (t : ℕ) → parse-node-lts.Need-same-length-3 (nods t) (parse-node-at t) parse-node.Post
 parse-node-same-length-3 t c = search needs
@@ -369,10 +511,22 @@ parse-node-same-length-4 t c = search needs
 
 parse-node-returns-5 : (t : ℕ) → parse-node-lts.Need-returns-5 (nods t) (parse-node-at t) parse-node.Post
 parse-node-returns-5 t c =
-    let a = c .before .before .before .before .before .before .before .before .before .before .before .before .before .before .before .before .before .before .before .before .args in
-    let at = c .before .before .before .before .before .before .before .before .before .before .before .before .before .before .before .before .skip-comments .result in
-    rw (node-element (a .src .now) (elementOf (a .room) (a .src .now)) (a .pos) (a .k) (a .a) at (c .before .before .before .before .before .before .before .before .before .before .before .before .before .before .before .before .skip-comments .ensures) (c .before .before .before .before .before .before .before .before .before .before .before .before .before .before .before .if1 .left) (c .before .before .before .before .before .before .before .before .before .before .before .before .before .if2 .left) (sym (c .before .before .before .before .before .before .before .before .before .before .before .starts-with .ensures .is) ∙ c .before .before .before .before .before .before .before .before .before .before .if3 .left) (sym (c .before .before .before .before .before .before .before .before .starts-with2 .ensures .is) ∙ c .before .before .before .before .before .before .before .if4 .left))
-    (lower (elementOf (a .room) (a .src .now) at (a .k) (a .a)) (a .src .now) (a .nodes .now) (c .before .before .before .before .parse-element .last .1 .0) (a .attrs .now) (c .before .before .before .before .parse-element .last .1 .1 .0) (a .pos) at (a .k) (a .a) (c .before .before .before .before .parse-element .result) (c .before .before .before .before .before .before .before .before .before .before .before .before .before .before .before .before .skip-comments .ensures .after) (c .before .before .before .before .parse-element .ensures))
+    let c4 = c .before .before .before .before in
+    let c7 = c4 .before .before .before in
+    let c8 = c7 .before in
+    let c10 = c8 .before .before in
+    let c11 = c10 .before in
+    let c13 = c11 .before .before in
+    let c15 = c13 .before .before in
+    let c16 = c15 .before in
+    let c20 = c16 .before .before .before .before in
+    let a = c20 .args in
+    let at = c16 .skip-comments .result in
+    rw (node-element (a .src .now) (elementOf (a .room) (a .src .now)) (a .pos) (a .k) (a .a) at (c16 .skip-comments .ensures) (c15 .if1 .left)
+        (c13 .if2 .left) (sym (c11 .starts-with .ensures .is) ∙ c10 .if3 .left) (sym (c8 .starts-with2 .ensures .is) ∙ c7 .if4 .left))
+    (lower (elementOf (a .room) (a .src .now) at (a .k) (a .a)) (a .src .now) (a .nodes .now) (c4 .parse-element .last .1 .0) (a .attrs .now)
+        (c4 .parse-element .last .1 .1 .0) (a .pos) at (a .k) (a .a) (c4 .parse-element .result) (c16 .skip-comments .ensures .after)
+        (c4 .parse-element .ensures))
 
 pub +parse-children+parse-element+parse-node-spec : {M : Type 1} → statement M
 +parse-children+parse-element+parse-node-spec =

@@ -9,13 +9,17 @@ find-byte-requires : tie.Need-find-byte-requires
 find-byte-requires c κs = search needs
 
 returns : tie.Need-returns
-returns c = sym (close-no (c .before .before .before .args .src .now) (c .before .before .before .args .pos) (c .before .before .before .args .k) (c .before .before .before .args .a) _ (c .before .find-byte .ensures) (c .if1 .taken))
+returns c =
+    let c3 = c .before .before .before in
+    sym (close-no (c3 .args .src .now) (c3 .args .pos) (c3 .args .k) (c3 .args .a) _ (c .before .find-byte .ensures) (c .if1 .taken))
 
 add-t6 : tie.Need-add-t6
 add-t6 c = search needs
 
 returns-2 : tie.Need-returns-2
-returns-2 c = sym (close-yes (c .before .before .before .args .src .now) (c .before .before .before .args .pos) (c .before .before .before .args .k) (c .before .before .before .args .a) _ (c .before .find-byte .ensures) (c .if1 .left))
+returns-2 c =
+    let c3 = c .before .before .before in
+    sym (close-yes (c3 .args .src .now) (c3 .args .pos) (c3 .args .k) (c3 .args .a) _ (c .before .find-byte .ensures) (c .if1 .left))
 
 pub parse-close-spec : {M : Type 1} → statement M
 parse-close-spec = tie.close (tie.spec find-byte-requires returns add-t6 returns-2)

@@ -1,4 +1,5 @@
--- `parse_section` meets its contract: no room for a node, or its row is laid, and the place after it is past the end mark or the text's end. Assumes nothing.
+-- `parse_section` meets its contract: no room for a node, or its row is laid, and the place after it is past the end mark or the text's end.
+-- Assumes nothing.
 use Prim.Native.Nat.{_+_}
 use mathlib.Core.Logic.{⊎-elim}
 use Rattle.scan.specs.Posts.{Passed}
@@ -41,11 +42,18 @@ same-length c = search needs
 
 returns-2 : tie.Need-returns-2
 returns-2 c =
-    let a = c .before .before .before .before .before .before .before .before .before .before .args in
-    let e = c .before .before .before .before .before .find-seq in
+    let c3 = c .before .before .before in
+    let c5 = c3 .before .before in
+    let c7 = c5 .before .before in
+    let c10 = c7 .before .before .before in
+    let a = c10 .args in
+    let e = c5 .find-seq in
     let passed : Passed cdataEnd (a .src .now) (a .pos + 9) (c .if2 .q)
-    = ⊎-elim (λ w. rw (w .1) (passed-got cdataEnd (a .src .now) (a .pos + 9) (e .result) (e .ensures) (w .0 .taken))) (λ w. rw (w .1) (section-unclosed cdataEnd (a .src .now) (a .pos + 9) (e .result) (e .ensures) (w .0 .left))) (c .if2 .came) in
-    λ u. built-section (a .src .now) (a .nodes .now) _ u (a .pos) (a .k) (a .a) (e .result) (c .before .before .before .before .before .before .before .if1 .left) (c .before .before .before .before .before .before .before .before .before .before .pre .3) (c .if2 .q) (e .ensures) passed (c .before .before .before .put-node .ensures)
+    =
+        ⊎-elim (λ w. rw (w .1) (passed-got cdataEnd (a .src .now) (a .pos + 9) (e .result) (e .ensures) (w .0 .taken)))
+        (λ w. rw (w .1) (section-unclosed cdataEnd (a .src .now) (a .pos + 9) (e .result) (e .ensures) (w .0 .left))) (c .if2 .came) in
+    λ u. built-section (a .src .now) (a .nodes .now) _ u (a .pos) (a .k) (a .a) (e .result) (c7 .if1 .left) (c10 .pre .3) (c .if2 .q) (e .ensures)
+        passed (c3 .put-node .ensures)
 
 pub parse-section-spec : {M : Type 1} → statement M
 parse-section-spec =

@@ -27,9 +27,12 @@ same-length c = search needs
 
 returns-2 : tie.Need-returns-2
 returns-2 c =
-    let a = c .before .before .before .before .before .before .before .before .args in
-    λ u. built-text (a .src .now) (a .nodes .now) _ u (a .pos) (a .k) (a .a) (c .before .before .before .before .over .result) (c .before .before .before .before .before .if1 .left) (c .before .before .before .before .before .before .before .before .pre .4) (c .before .before .before .before .over .ensures)
-    (text-beyond (a .src .now) (a .pos) _ (c .before .before .before .before .before .before .before .before .pre .2) (c .before .before .before .before .before .before .before .before .pre .3) (c .before .before .before .before .over .ensures)) (c .before .before .put-node .ensures)
+    let c4 = c .before .before .before .before in
+    let c5 = c4 .before in
+    let c8 = c5 .before .before .before in
+    let a = c8 .args in
+    λ u. built-text (a .src .now) (a .nodes .now) _ u (a .pos) (a .k) (a .a) (c4 .over .result) (c5 .if1 .left) (c8 .pre .4) (c4 .over .ensures)
+    (text-beyond (a .src .now) (a .pos) _ (c8 .pre .2) (c8 .pre .3) (c4 .over .ensures)) (c .before .before .put-node .ensures)
 
 pub parse-text-spec : {M : Type 1} → statement M
 parse-text-spec =

@@ -1,4 +1,5 @@
--- `skip_comments` meets its contract. The loop's invariant: the comments from `pos` on end where those from `i` on end. The measure is what is left of the text. Assumes nothing.
+-- `skip_comments` meets its contract. The loop's invariant: the comments from `pos` on end where those from `i` on end. The measure is what is left
+-- of the text. Assumes nothing.
 use Prim.Native.Nat.{_-_, _≤_}
 use mathlib.Core.Path.{_≡_, refl, sym, _∙_}
 use native.Mathlib.Omega.{arith}
@@ -26,7 +27,12 @@ starts-with-requires : tie.Need-starts-with-requires Inv-loop μ-loop
 starts-with-requires c κs = search needs
 
 returns : tie.Need-returns Inv-loop μ-loop
-returns c = record { is = sym (c .before .before .before .before .loop .inv .2 ∙ comment-here (c .before .before .before .before .before .before .args .src .now) _ (c .before .before .before .loop-test .taken) (sym (c .before .starts-with .ensures .is) ∙ not-true _ (c .if1 .taken))); after = c .before .before .before .before .loop .inv .1; within = c .before .before .before .before .loop .inv .0 }
+returns c =
+    let c3 = c .before .before .before in
+    let c4 = c3 .before in
+    let c6 = c4 .before .before in
+    record { is = sym (c4 .loop .inv .2 ∙ comment-here (c6 .args .src .now) _ (c3 .loop-test .taken) (sym (c .before .starts-with .ensures .is)
+        ∙ not-true _ (c .if1 .taken))); after = c4 .loop .inv .1; within = c4 .loop .inv .0 }
 
 slice-aggregate-find-past : tie.Need-slice-aggregate-find-past Inv-loop μ-loop
 slice-aggregate-find-past c = search needs
@@ -35,13 +41,25 @@ find-past-requires : tie.Need-find-past-requires Inv-loop μ-loop
 find-past-requires c κs = search needs
 
 loop-less : tie.Need-loop-less Inv-loop μ-loop
-loop-less c = omega (arith, c .find-past .ensures .beyond (c .before .before .before .before .before .loop-test .taken) (omega arith), c .find-past .ensures .within, c .before .before .before .before .before .loop-test .taken)
+loop-less c =
+    let c5 = c .before .before .before .before .before in
+    omega (arith, c .find-past .ensures .beyond (c5 .loop-test .taken) (omega arith), c .find-past .ensures .within, c5 .loop-test .taken)
 
 loop-again : tie.Need-loop-again Inv-loop μ-loop
-loop-again c = (c .find-past .ensures .within, omega (arith, c .find-past .ensures .after, c .before .before .before .before .before .before .loop .inv .1), c .before .before .before .before .before .before .loop .inv .2 ∙ comment-on (c .before .before .before .before .before .before .before .before .args .src .now) _ _ (c .before .before .before .before .before .loop-test .taken) (sym (c .before .before .before .starts-with .ensures .is) ∙ not-false _ (c .before .before .if1 .left)) (c .find-past .ensures))
+loop-again c =
+    let c3 = c .before .before .before in
+    let c5 = c3 .before .before in
+    let c6 = c5 .before in
+    let c8 = c6 .before .before in
+    (c .find-past .ensures .within, omega (arith, c .find-past .ensures .after, c6 .loop .inv .1), c6 .loop .inv .2
+        ∙ comment-on (c8 .args .src .now) _ _ (c5 .loop-test .taken) (sym (c3 .starts-with .ensures .is)
+        ∙ not-false _ (c .before .before .if1 .left)) (c .find-past .ensures))
 
 returns-2 : tie.Need-returns-2 Inv-loop μ-loop
-returns-2 c = record { is = sym (c .before .loop .inv .2 ∙ comment-out (c .before .before .before .args .src .now) _ (c .loop-test .left)); after = c .before .loop .inv .1; within = c .before .loop .inv .0 }
+returns-2 c =
+    let c3 = c .before .before .before in
+    record { is = sym (c .before .loop .inv .2 ∙ comment-out (c3 .args .src .now) _ (c .loop-test .left)); after = c .before .loop .inv .1; within =
+        c .before .loop .inv .0 }
 
 pub skip-comments-spec : {M : Type 1} → statement M
 skip-comments-spec =

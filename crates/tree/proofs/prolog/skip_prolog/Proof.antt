@@ -1,4 +1,5 @@
--- `skip_prolog` meets its contract. The loop's invariant: the prolog from the start ends where the pieces from `i` on end. The measure is what is left of the text. Assumes nothing.
+-- `skip_prolog` meets its contract. The loop's invariant: the prolog from the start ends where the pieces from `i` on end. The measure is what is
+-- left of the text. Assumes nothing.
 use Prim.Native.Nat.{_-_, _≤_}
 use mathlib.Core.Path.{_≡_, sym, _∙_}
 use native.Mathlib.Omega.{arith}
@@ -37,10 +38,19 @@ over-requires-2 : tie.Need-over-requires-2 Inv-loop μ-loop
 over-requires-2 c κs = search needs
 
 loop-less : tie.Need-loop-less Inv-loop μ-loop
-loop-less c = omega (arith, c .over2 .ensures, c .before .find-past .ensures .beyond (c .before .before .before .before .before .before .loop-test .taken) (omega arith), c .before .before .before .before .before .before .loop-test .taken)
+loop-less c =
+    let c6 = c .before .before .before .before .before .before in
+    omega (arith, c .over2 .ensures, c .before .find-past .ensures .beyond (c6 .loop-test .taken) (omega arith), c6 .loop-test .taken)
 
 loop-again : tie.Need-loop-again Inv-loop μ-loop
-loop-again c = (c .over2 .ensures .within, c .before .before .before .before .before .before .before .loop .inv .1 ∙ pi (c .before .before .before .before .before .before .before .before .before .before .args .src .now) (c .before .before .before .before .before .before .before .loop .i) (c .before .before .before .before .before .before .loop-test .taken) (c .before .find-past .result) _ (sym (c .before .before .before .before .starts-with .ensures .is) ∙ c .before .before .before .if1 .taken) (c .before .find-past .ensures) (c .over2 .ensures))
+loop-again c =
+    let c3 = c .before .before .before in
+    let c4 = c3 .before in
+    let c6 = c4 .before .before in
+    let c7 = c6 .before in
+    let c10 = c7 .before .before .before in
+    (c .over2 .ensures .within, c7 .loop .inv .1 ∙ pi (c10 .args .src .now) (c7 .loop .i) (c6 .loop-test .taken) (c .before .find-past .result) _
+        (sym (c4 .starts-with .ensures .is) ∙ c3 .if1 .taken) (c .before .find-past .ensures) (c .over2 .ensures))
 
 slice-aggregate-starts-with-2 : tie.Need-slice-aggregate-starts-with-2 Inv-loop μ-loop
 slice-aggregate-starts-with-2 c = search needs
@@ -58,10 +68,22 @@ over-requires-3 : tie.Need-over-requires-3 Inv-loop μ-loop
 over-requires-3 c κs = search needs
 
 loop-less-2 : tie.Need-loop-less-2 Inv-loop μ-loop
-loop-less-2 c = omega (arith, c .over3 .ensures, c .before .find-past2 .ensures .beyond (c .before .before .before .before .before .before .before .before .before .loop-test .taken) (omega arith), c .before .before .before .before .before .before .before .before .before .loop-test .taken)
+loop-less-2 c =
+    let c9 = c .before .before .before .before .before .before .before .before .before in
+    omega (arith, c .over3 .ensures, c .before .find-past2 .ensures .beyond (c9 .loop-test .taken) (omega arith), c9 .loop-test .taken)
 
 loop-again-2 : tie.Need-loop-again-2 Inv-loop μ-loop
-loop-again-2 c = (c .over3 .ensures .within, c .before .before .before .before .before .before .before .before .before .before .loop .inv .1 ∙ comment (c .before .before .before .before .before .before .before .before .before .before .before .before .before .args .src .now) (c .before .before .before .before .before .before .before .before .before .before .loop .i) (c .before .before .before .before .before .before .before .before .before .loop-test .taken) (c .before .find-past2 .result) _ (sym (c .before .before .before .before .before .before .before .starts-with .ensures .is) ∙ c .before .before .before .before .before .before .if1 .left) (sym (c .before .before .before .before .starts-with2 .ensures .is) ∙ c .before .before .before .if2 .taken) (c .before .find-past2 .ensures) (c .over3 .ensures))
+loop-again-2 c =
+    let c3 = c .before .before .before in
+    let c4 = c3 .before in
+    let c6 = c4 .before .before in
+    let c7 = c6 .before in
+    let c9 = c7 .before .before in
+    let c10 = c9 .before in
+    let c13 = c10 .before .before .before in
+    (c .over3 .ensures .within, c10 .loop .inv .1 ∙ comment (c13 .args .src .now) (c10 .loop .i) (c9 .loop-test .taken)
+        (c .before .find-past2 .result) _ (sym (c7 .starts-with .ensures .is) ∙ c6 .if1 .left) (sym (c4 .starts-with2 .ensures .is)
+        ∙ c3 .if2 .taken) (c .before .find-past2 .ensures) (c .over3 .ensures))
 
 slice-aggregate-starts-with-3 : tie.Need-slice-aggregate-starts-with-3 Inv-loop μ-loop
 slice-aggregate-starts-with-3 c = search needs
@@ -79,16 +101,41 @@ over-requires-4 : tie.Need-over-requires-4 Inv-loop μ-loop
 over-requires-4 c κs = search needs
 
 loop-less-3 : tie.Need-loop-less-3 Inv-loop μ-loop
-loop-less-3 c = omega (arith, c .over4 .ensures, c .before .find-past3 .ensures .beyond (c .before .before .before .before .before .before .before .before .before .before .before .before .loop-test .taken) (omega arith), c .before .before .before .before .before .before .before .before .before .before .before .before .loop-test .taken)
+loop-less-3 c =
+    let c12 = c .before .before .before .before .before .before .before .before .before .before .before .before in
+    omega (arith, c .over4 .ensures, c .before .find-past3 .ensures .beyond (c12 .loop-test .taken) (omega arith), c12 .loop-test .taken)
 
 loop-again-3 : tie.Need-loop-again-3 Inv-loop μ-loop
-loop-again-3 c = (c .over4 .ensures .within, c .before .before .before .before .before .before .before .before .before .before .before .before .before .loop .inv .1 ∙ decl (c .before .before .before .before .before .before .before .before .before .before .before .before .before .before .before .before .args .src .now) (c .before .before .before .before .before .before .before .before .before .before .before .before .before .loop .i) (c .before .before .before .before .before .before .before .before .before .before .before .before .loop-test .taken) (c .before .find-past3 .result) _ (sym (c .before .before .before .before .before .before .before .before .before .before .starts-with .ensures .is) ∙ c .before .before .before .before .before .before .before .before .before .if1 .left) (sym (c .before .before .before .before .before .before .before .starts-with2 .ensures .is) ∙ c .before .before .before .before .before .before .if2 .left) (sym (c .before .before .before .before .starts-with3 .ensures .is) ∙ c .before .before .before .if3 .taken) (c .before .find-past3 .ensures) (c .over4 .ensures))
+loop-again-3 c =
+    let c3 = c .before .before .before in
+    let c4 = c3 .before in
+    let c6 = c4 .before .before in
+    let c7 = c6 .before in
+    let c9 = c7 .before .before in
+    let c10 = c9 .before in
+    let c12 = c10 .before .before in
+    let c13 = c12 .before in
+    let c16 = c13 .before .before .before in
+    (c .over4 .ensures .within, c13 .loop .inv .1 ∙ decl (c16 .args .src .now) (c13 .loop .i) (c12 .loop-test .taken)
+        (c .before .find-past3 .result) _ (sym (c10 .starts-with .ensures .is) ∙ c9 .if1 .left) (sym (c7 .starts-with2 .ensures .is)
+        ∙ c6 .if2 .left) (sym (c4 .starts-with3 .ensures .is) ∙ c3 .if3 .taken) (c .before .find-past3 .ensures) (c .over4 .ensures))
 
 returns : tie.Need-returns Inv-loop μ-loop
-returns c = (sym (c .before .before .before .before .before .before .before .before .before .before .loop .inv .1 ∙ stop (c .before .before .before .before .before .before .before .before .before .before .before .before .before .args .src .now) (c .before .before .before .before .before .before .before .before .before .before .loop .i) (c .before .before .before .before .before .before .before .before .before .loop-test .taken) (sym (c .before .before .before .before .before .before .before .starts-with .ensures .is) ∙ c .before .before .before .before .before .before .if1 .left) (sym (c .before .before .before .before .starts-with2 .ensures .is) ∙ c .before .before .before .if2 .left) (sym (c .before .starts-with3 .ensures .is) ∙ c .if3 .left)), omega arith)
+returns c =
+    let c3 = c .before .before .before in
+    let c4 = c3 .before in
+    let c6 = c4 .before .before in
+    let c7 = c6 .before in
+    let c9 = c7 .before .before in
+    let c10 = c9 .before in
+    let c13 = c10 .before .before .before in
+    (sym (c10 .loop .inv .1 ∙ stop (c13 .args .src .now) (c10 .loop .i) (c9 .loop-test .taken) (sym (c7 .starts-with .ensures .is) ∙ c6 .if1 .left)
+        (sym (c4 .starts-with2 .ensures .is) ∙ c3 .if2 .left) (sym (c .before .starts-with3 .ensures .is) ∙ c .if3 .left)), omega arith)
 
 returns-2 : tie.Need-returns-2 Inv-loop μ-loop
-returns-2 c = (sym (c .before .loop .inv .1 ∙ out (c .before .before .before .before .args .src .now) (c .before .loop .i) (c .loop-test .left)), omega arith)
+returns-2 c =
+    let c4 = c .before .before .before .before in
+    (sym (c .before .loop .inv .1 ∙ out (c4 .args .src .now) (c .before .loop .i) (c .loop-test .left)), omega arith)
 
 pub skip-prolog-spec : {M : Type 1} → statement M
 skip-prolog-spec =

@@ -1,4 +1,5 @@
--- `parse_top` meets its contract. The loop's invariant is `Going`: the nodes so far are laid, and the rest of the text decides the outcome. The measure is what is left of the text. Assumes nothing.
+-- `parse_top` meets its contract. The loop's invariant is `Going`: the nodes so far are laid, and the rest of the text decides the outcome. The
+-- measure is what is left of the text. Assumes nothing.
 use Prim.Native.Nat.{_-_}
 use native.Mathlib.Omega.{arith}
 use lib.ListN.{length}
@@ -9,7 +10,8 @@ use Rattle.tree.proofs.read.parse_top.Statement.{statement}
 use Rattle.tree.proofs.read.parse_top.Tie as tie
 
 abbrev Inv-loop : tie.InvT-loop
-Inv-loop src nodes₀ attrs₀ from pos₀ k₀ a₀ nodes attrs pos k a = Going src (outerTurn src (elementOf 64 src)) nodes₀ attrs₀ from 0 0 nodes attrs pos k a
+Inv-loop src nodes₀ attrs₀ from pos₀ k₀ a₀ nodes attrs pos k a =
+    Going src (outerTurn src (elementOf 64 src)) nodes₀ attrs₀ from 0 0 nodes attrs pos k a
 
 abbrev μ-loop : tie.MeasureT-loop
 μ-loop src nodes₀ attrs₀ from pos₀ k₀ a₀ nodes attrs pos k a = length src - pos
@@ -29,7 +31,13 @@ loop-less c =
     omega (arith, l .after, c .before .before .before .before .before .before .before .before .before .before .loop-test .taken)
 
 loop-again : tie.Need-loop-again Inv-loop μ-loop
-loop-again c = step (c .before .before .before .before .before .before .before .before .before .before .before .loop .inv) _ (c .before .before .before .before .before .before .before .before .before .before .loop-test .taken) (outer-node (c .before .before .before .before .before .before .before .before .before .before .before .before .before .before .before .args .src .now) _ (c .before .before .before .before .before .before .before .before .before .before .before .loop .pos) _) _ (rw (c .before .c .given .1) at (c .before .before .before .before .before .before .before .parse-node .ensures))
+loop-again c =
+    let c7 = c .before .before .before .before .before .before .before in
+    let c10 = c7 .before .before .before in
+    let c11 = c10 .before in
+    let c15 = c11 .before .before .before .before in
+    step (c11 .loop .inv) _ (c10 .loop-test .taken) (outer-node (c15 .args .src .now) _ (c11 .loop .pos) _) _
+        (rw (c .before .c .given .1) at (c7 .parse-node .ensures))
 
 enum-known-q : tie.Need-enum-known-q Inv-loop μ-loop
 enum-known-q c = search needs
@@ -41,7 +49,13 @@ same-length-2 : tie.Need-same-length-2 Inv-loop μ-loop
 same-length-2 c = search needs
 
 returns : tie.Need-returns Inv-loop μ-loop
-returns c = idle (c .before .before .before .before .before .before .before .before .before .before .before .loop .inv) _ (c .before .before .before .before .before .before .before .before .before .before .loop-test .taken) (outer-node (c .before .before .before .before .before .before .before .before .before .before .before .before .before .before .before .args .src .now) _ (c .before .before .before .before .before .before .before .before .before .before .before .loop .pos) _) _ (rw (c .before .q .given .1) at (c .before .before .before .before .before .before .before .parse-node .ensures))
+returns c =
+    let c7 = c .before .before .before .before .before .before .before in
+    let c10 = c7 .before .before .before in
+    let c11 = c10 .before in
+    let c15 = c11 .before .before .before .before in
+    idle (c11 .loop .inv) _ (c10 .loop-test .taken) (outer-node (c15 .args .src .now) _ (c11 .loop .pos) _) _
+        (rw (c .before .q .given .1) at (c7 .parse-node .ensures))
 
 enum-known-r : tie.Need-enum-known-r Inv-loop μ-loop
 enum-known-r c = search needs
@@ -53,7 +67,13 @@ same-length-4 : tie.Need-same-length-4 Inv-loop μ-loop
 same-length-4 c = search needs
 
 returns-2 : tie.Need-returns-2 Inv-loop μ-loop
-returns-2 c = fail-node (c .before .before .before .before .before .before .before .before .before .before .before .loop .inv) _ (c .before .before .before .before .before .before .before .before .before .before .loop-test .taken) (outer-node (c .before .before .before .before .before .before .before .before .before .before .before .before .before .before .before .args .src .now) _ (c .before .before .before .before .before .before .before .before .before .before .before .loop .pos) _) _ _ (rw (c .before .r .given .1) at (c .before .before .before .before .before .before .before .parse-node .ensures))
+returns-2 c =
+    let c7 = c .before .before .before .before .before .before .before in
+    let c10 = c7 .before .before .before in
+    let c11 = c10 .before in
+    let c15 = c11 .before .before .before .before in
+    fail-node (c11 .loop .inv) _ (c10 .loop-test .taken) (outer-node (c15 .args .src .now) _ (c11 .loop .pos) _) _ _
+        (rw (c .before .r .given .1) at (c7 .parse-node .ensures))
 
 same-length-5 : tie.Need-same-length-5 Inv-loop μ-loop
 same-length-5 c = search needs

@@ -3,7 +3,7 @@ use Prim.Native.Nat.{ℕ}
 use mathlib.Core.Path.{_≡_, ap, _∙_}
 use native.Mathlib.Omega.{arith}
 use lib.ListN.{length, replicate}
-use Rattle.tree.proofs.Whole.{in-range, refused, tree}
+use Rattle.tree.proofs.Whole.{in-range, refused, tree, read-of}
 use borrow.Author.Needs.{needs}
 use Rattle.tree.proofs.read.read_tree.Statement.{statement}
 use Rattle.tree.proofs.read.read_tree.Tie as tie
@@ -28,8 +28,17 @@ skip-prolog-requires c κs = search needs
 
 parse-top-requires : tie.Need-parse-top-requires
 parse-top-requires c κs =
-    let f = rw (c .before .before .before .enum-told .given .1) at (c .before .before .before .before .before .test-limits .ensures) in
-    record { short = f .short; long = f .long; wide = f .wide; within = c .before .before .skip-prolog .ensures .1; most = omega arith; least = omega arith }
+    let c3 = c .before .before .before in
+    let c5 = c3 .before .before in
+    let f = rw (c3 .enum-told .given .1) at (c5 .test-limits .ensures) in
+    record {
+      short = f .short;
+      long = f .long;
+      wide = f .wide;
+      within = c .before .before .skip-prolog .ensures .1;
+      most = omega arith;
+      least = omega arith;
+    }
 
 enum-known-c : tie.Need-enum-known-c
 enum-known-c c = search needs
@@ -50,7 +59,12 @@ same-length-2 : tie.Need-same-length-2
 same-length-2 c = search needs
 
 returns : tie.Need-returns
-returns c = refused _ _ _ _ _ _ _ (rw (c .before .before .before .before .before .before .before .before .before .before .clear .kept .0, c .before .before .before .before .before .before .clear2 .kept .0) at (rw (c .before .r .given .1) at (c .before .before .before .test-limits .ensures))) (c .before .before .before .before .before .before .before .before .before .before .clear .ensures) (c .before .before .before .before .before .before .clear2 .ensures)
+returns c =
+    let c3 = c .before .before .before in
+    let c6 = c3 .before .before .before in
+    let c10 = c6 .before .before .before .before in
+    read-of (refused _ _ _ _ _ _ _ (rw (c10 .clear .kept .0, c6 .clear2 .kept .0) at (rw (c .before .r .given .1) at
+    (c3 .test-limits .ensures))) (c10 .clear .ensures) (c6 .clear2 .ensures))
 
 same-length-3 : tie.Need-same-length-3
 same-length-3 c = search needs
@@ -60,10 +74,18 @@ same-length-4 c = search needs
 
 returns-2 : tie.Need-returns-2
 returns-2 c =
-    let a = c .before .before .before .before .before .before .before .before .before .before .before .before .before .before .before .before .before .before .before .before .before .before .before .before .before .args in
-    let f = rw (c .before .before .before .before .before .before .before .before .before .before .before .before .before .before .before .before .before .before .before .before .clear .kept .0, c .before .before .before .before .before .before .before .before .before .before .before .before .before .before .before .before .clear2 .kept .0) at (rw (c .before .before .before .before .before .before .before .before .before .before .before .enum-told .given .1) at (c .before .before .before .before .before .before .before .before .before .before .before .before .before .test-limits .ensures)) in
-    rw (in-range (a .src .now) (length (a .nodes .now)) (length (a .attrs .now)) (c .before .before .before .before .before .before .before .before .before .before .skip-prolog .result) f (c .before .before .before .before .before .before .before .before .before .before .skip-prolog .ensures .0))
-    (tree _ _ _ _ _ _ _ _ _ _ (rw (c .before .c .given .1) at (c .before .before .before .before .before .before .before .parse-top .ensures)) (c .before .before .before .before .before .before .before .before .before .before .before .before .before .before .before .before .before .before .before .before .clear .ensures) (c .before .before .before .before .before .before .before .before .before .before .before .before .before .before .before .before .clear2 .ensures) (f .long) (f .wide))
+    let c7 = c .before .before .before .before .before .before .before in
+    let c10 = c7 .before .before .before in
+    let c11 = c10 .before in
+    let c13 = c11 .before .before in
+    let c16 = c13 .before .before .before in
+    let c20 = c16 .before .before .before .before in
+    let c25 = c20 .before .before .before .before .before in
+    let a = c25 .args in
+    let f = rw (c20 .clear .kept .0, c16 .clear2 .kept .0) at (rw (c11 .enum-told .given .1) at (c13 .test-limits .ensures)) in
+    read-of (rw (in-range (a .src .now) (length (a .nodes .now)) (length (a .attrs .now)) (c10 .skip-prolog .result) f (c10 .skip-prolog .ensures .0))
+    (tree _ _ _ _ _ _ _ _ _ _ (rw (c .before .c .given .1) at (c7 .parse-top .ensures)) (c20 .clear .ensures) (c16 .clear2 .ensures) (f .long)
+    (f .wide)))
 
 same-length-5 : tie.Need-same-length-5
 same-length-5 c = search needs
@@ -73,13 +95,23 @@ same-length-6 c = search needs
 
 returns-3 : tie.Need-returns-3
 returns-3 c =
-    let a = c .before .before .before .before .before .before .before .before .before .before .before .before .before .before .before .before .before .before .before .before .before .before .before .before .before .before .before .before .before .before .before .before .before .args in
-    let f = rw (c .before .before .before .before .before .before .before .before .before .before .before .before .before .before .before .before .before .before .before .before .before .before .before .before .before .before .before .before .clear .kept .0, c .before .before .before .before .before .before .before .before .before .before .before .before .before .before .before .before .before .before .before .before .before .before .before .before .clear2 .kept .0) at (rw (c .before .before .before .before .before .before .before .before .before .before .before .before .before .before .before .before .before .before .before .enum-told .given .1) at (c .before .before .before .before .before .before .before .before .before .before .before .before .before .before .before .before .before .before .before .before .before .test-limits .ensures)) in
-    let n : length (c .before .before .before .before .before .before .before .before .before .before .before .before .before .before .before .parse-top .last .1 .0) ≡ length (a .nodes .now) = c .before .before .before .before .before .before .before .before .before .before .before .before .before .before .before .parse-top .kept .1 .0 ∙ c .before .before .before .before .before .before .before .before .before .before .before .before .before .before .before .before .before .before .before .before .before .before .before .before .before .before .before .before .clear .kept .0 in
-    let m : length (c .before .before .before .before .before .before .before .before .before .before .before .before .before .before .before .parse-top .last .1 .1 .0) ≡ length (a .attrs .now) = c .before .before .before .before .before .before .before .before .before .before .before .before .before .before .before .parse-top .kept .1 .1 .0 ∙ c .before .before .before .before .before .before .before .before .before .before .before .before .before .before .before .before .before .before .before .before .before .before .before .before .clear2 .kept .0 in
-    refused _ _ _ _ _ _ _
-    (in-range (a .src .now) (length (a .nodes .now)) (length (a .attrs .now)) (c .before .before .before .before .before .before .before .before .before .before .before .before .before .before .before .before .before .before .skip-prolog .result) f (c .before .before .before .before .before .before .before .before .before .before .before .before .before .before .before .before .before .before .skip-prolog .ensures .0) ∙ rw (c .before .before .before .before .before .before .before .before .before .r2 .given .1) at (c .before .before .before .before .before .before .before .before .before .before .before .before .before .before .before .parse-top .ensures))
-    (c .before .before .before .before .before .before .clear3 .ensures ∙ ap (λ (k : ℕ). replicate k 0) n) (c .before .before .clear4 .ensures ∙ ap (λ (k : ℕ). replicate k 0) m)
+    let c6 = c .before .before .before .before .before .before in
+    let c9 = c6 .before .before .before in
+    let c15 = c9 .before .before .before .before .before .before in
+    let c18 = c15 .before .before .before in
+    let c19 = c18 .before in
+    let c21 = c19 .before .before in
+    let c24 = c21 .before .before .before in
+    let c28 = c24 .before .before .before .before in
+    let c33 = c28 .before .before .before .before .before in
+    let a = c33 .args in
+    let f = rw (c28 .clear .kept .0, c24 .clear2 .kept .0) at (rw (c19 .enum-told .given .1) at (c21 .test-limits .ensures)) in
+    let n : length (c15 .parse-top .last .1 .0) ≡ length (a .nodes .now) = c15 .parse-top .kept .1 .0 ∙ c28 .clear .kept .0 in
+    let m : length (c15 .parse-top .last .1 .1 .0) ≡ length (a .attrs .now) = c15 .parse-top .kept .1 .1 .0 ∙ c24 .clear2 .kept .0 in
+    read-of (refused _ _ _ _ _ _ _
+    (in-range (a .src .now) (length (a .nodes .now)) (length (a .attrs .now)) (c18 .skip-prolog .result) f (c18 .skip-prolog .ensures .0)
+    ∙ rw (c9 .r2 .given .1) at (c15 .parse-top .ensures))
+    (c6 .clear3 .ensures ∙ ap (λ (k : ℕ). replicate k 0) n) (c .before .before .clear4 .ensures ∙ ap (λ (k : ℕ). replicate k 0) m))
 
 pub read-tree-spec : {M : Type 1} → statement M
 read-tree-spec =

@@ -39,7 +39,10 @@ get-requires-5 c κs = search needs
 
 returns : tie.Need-returns
 unfolding elementRow
-returns c = rw (c .before .before .before .before .get .ensures, c .before .before .before .get2 .ensures, c .before .before .get3 .ensures, c .before .get4 .ensures, c .get5 .ensures)
+returns c =
+    let c3 = c .before .before .before in
+    let c4 = c3 .before in
+    rw (c4 .get .ensures, c3 .get2 .ensures, c .before .before .get3 .ensures, c .before .get4 .ensures, c .get5 .ensures)
 
 pub element-at-spec : {M : Type 1} → statement M
 element-at-spec =

@@ -12,7 +12,8 @@ use Rattle.xml.proofs.find.find_element.Statement.{statement}
 use Rattle.xml.proofs.find.find_element.Tie as tie
 
 abbrev Inv-loop : tie.InvT-loop
-Inv-loop nodes strings from end name k₀ k = Siblings nodes strings k end × ((a : ℕ) (f : Forest) → Stands nodes from a f → from + size f ≡ end → Rest nodes strings name from k end f)
+Inv-loop nodes strings from end name k₀ k =
+    Siblings nodes strings k end × ((a : ℕ) (f : Forest) → Stands nodes from a f → from + size f ≡ end → Rest nodes strings name from k end f)
 
 abbrev μ-loop : tie.MeasureT-loop
 μ-loop nodes strings from end name k₀ k = end - k
@@ -24,7 +25,9 @@ is-element-requires : tie.Need-is-element-requires Inv-loop μ-loop
 is-element-requires c κs = has-row (c .before .loop .inv .0) (c .loop-test .taken)
 
 returns : tie.Need-returns Inv-loop μ-loop
-returns c = λ a f s e. rest-here (c .before .before .before .loop .inv .1 a f s e) (c .before .before .loop-test .taken) (sym (c .before .is-element .ensures) ∙ c .if1 .taken)
+returns c =
+    let c3 = c .before .before .before in
+    λ a f s e. rest-here (c3 .loop .inv .1 a f s e) (c .before .before .loop-test .taken) (sym (c .before .is-element .ensures) ∙ c .if1 .taken)
 
 mul-get : tie.Need-mul-get Inv-loop μ-loop
 mul-get c = omega (arith, has-row (c .before .before .before .loop .inv .0) (c .before .before .loop-test .taken) .row)

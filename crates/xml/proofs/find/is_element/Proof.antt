@@ -87,13 +87,17 @@ eq-ignore-ascii-case-requires c κs = search needs
 returns-2 : tie.Need-returns-2
 unfolding isElement named stringAt
 returns-2 c =
-    let e = eq-eqb _ 2 (c .before .before .before .before .before .before .if1 .left) in
+    let c4 = c .before .before .before .before in
+    let c5 = c4 .before in
+    let c6 = c5 .before in
+    let c11 = c6 .before .before .before .before .before in
+    let e = eq-eqb _ 2 (c6 .if1 .left) in
     let l =
     local-part
-    (c .before .before .before .before .before .before .before .before .before .before .before .args .strings .now)
-    (c .before .before .before .before .before .get .result + 1) (c .before .before .before .before .get2 .result) (c .before .before .tag-local .result) _ (c .before .before .tag-local .ensures)
+    (c11 .args .strings .now)
+    (c5 .get .result + 1) (c4 .get2 .result) (c .before .before .tag-local .result) _ (c .before .before .tag-local .ensures)
     in
-    rw (e, ← (c .before .before .before .before .before .get .ensures), ← (c .before .before .before .before .get2 .ensures)) (c .eq-ignore-ascii-case .ensures ∙ rw l)
+    rw (e, ← (c5 .get .ensures), ← (c4 .get2 .ensures)) (c .eq-ignore-ascii-case .ensures ∙ rw l)
 
 pub is-element-spec : {M : Type 1} → statement M
 is-element-spec =

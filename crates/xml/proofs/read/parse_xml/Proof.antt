@@ -55,8 +55,8 @@ read-nodes-requires c κs =
     let i = t .before .before .before in
     let d = i .before .before .before .before .before .before .before .before .before in
     let a = d .args in
-    let e = sym (n .n .given .1) ∙ t .read-tree .ensures .0 in
-    nodes-stand-ready (a .text .now) _ (length (a .nodes .now)) (length (a .attrs .now)) _ _ (i .if1 .left) e _ (t .read-tree .ensures .1 .0)
+    let e = sym (n .n .given .1) ∙ t .read-tree .ensures .answer in
+    nodes-stand-ready (a .text .now) _ (length (a .nodes .now)) (length (a .attrs .now)) _ _ (i .if1 .left) e _ (t .read-tree .ensures .of-nodes)
 
 read-attrs-requires : tie.Need-read-attrs-requires
 read-attrs-requires c κs =
@@ -67,10 +67,10 @@ read-attrs-requires c κs =
     let b = i .before .before .before in
     let d = b .before .before .before .before .before .before in
     let a = d .args in
-    let e = sym (n .n .given .1) ∙ t .read-tree .ensures .0 in
+    let e = sym (n .n .given .1) ∙ t .read-tree .ensures .answer in
     let h : 65536 ≤ length (a .strings .now) = omega (arith, b .clear-bytes .kept .0, i .if1 .left) in
     attrs-stand-ready (a .text .now) _ (length (a .nodes .now)) (length (a .attrs .now)) _ _
-    (omega (arith, h, b .clear-bytes .kept .0, x .read-nodes .kept)) e _ (t .read-tree .ensures .1 .1)
+    (omega (arith, h, b .clear-bytes .kept .0, x .read-nodes .kept)) e _ (t .read-tree .ensures .of-attrs)
 
 same-length-4 : tie.Need-same-length-4
 same-length-4 c = search needs
@@ -89,11 +89,11 @@ returns-2 c =
     let b = i .before .before .before in
     let d = b .before .before .before .before .before .before in
     let a = d .args in
-    let e = sym (r .r .given .1) ∙ t .read-tree .ensures .0 in
+    let e = sym (r .r .given .1) ∙ t .read-tree .ensures .answer in
     let h : 65536 ≤ length (a .strings .now) = omega (arith, b .clear-bytes .kept .0, i .if1 .left) in
     parsed-of (a .text .now) (a .nodes .now) (a .attrs .now) (a .strings .now)
     (left-refused (a .text .now) (length (a .nodes .now)) (length (a .attrs .now)) (length (a .strings .now)) _ _ _ _ h e
-    (t .read-tree .ensures .1 .0) (t .read-tree .ensures .1 .1) (b .clear-bytes .ensures))
+    (t .read-tree .ensures .of-nodes) (t .read-tree .ensures .of-attrs) (b .clear-bytes .ensures))
 
 same-length-7 : tie.Need-same-length-7
 same-length-7 c = search needs
@@ -114,13 +114,13 @@ returns-3 c =
     let b = i .before .before .before in
     let d = b .before .before .before .before .before .before in
     let a = d .args in
-    let e = sym (n .n .given .1) ∙ t .read-tree .ensures .0 in
+    let e = sym (n .n .given .1) ∙ t .read-tree .ensures .answer in
     let h : 65536 ≤ length (a .strings .now) = omega (arith, b .clear-bytes .kept .0, i .if1 .left) in
     let v = x .read-nodes .ensures in
     let w = y .read-attrs .ensures in
     parsed-of (a .text .now) (a .nodes .now) (a .attrs .now) (a .strings .now)
     (left-tree (a .text .now) (length (a .nodes .now)) (length (a .attrs .now)) (length (a .strings .now)) _ _ _ _ _ _ _ _ _ h e
-    (t .read-tree .ensures .1 .0) (t .read-tree .ensures .1 .1) (b .clear-bytes .ensures) (v .0) (v .1) (w .0) (w .1))
+    (t .read-tree .ensures .of-nodes) (t .read-tree .ensures .of-attrs) (b .clear-bytes .ensures) (v .0) (v .1) (w .0) (w .1))
 
 pub parse-xml-spec : {M : Type 1} → statement M
 parse-xml-spec =

@@ -10,7 +10,8 @@ use Rattle.xml.proofs.strings.read_attrs.Statement.{statement}
 use Rattle.xml.proofs.strings.read_attrs.Tie as tie
 
 abbrev Inv-loop : tie.InvT-loop
-Inv-loop src attrs₀ strings₀ count k₀ attrs strings k = (k ≤ count) × (attrs ≡ attrsRead src attrs₀ k) × (strings ≡ attrStringsRead src attrs₀ strings₀ k)
+Inv-loop src attrs₀ strings₀ count k₀ attrs strings k =
+    (k ≤ count) × (attrs ≡ attrsRead src attrs₀ k) × (strings ≡ attrStringsRead src attrs₀ strings₀ k)
 
 abbrev μ-loop : tie.MeasureT-loop
 μ-loop src attrs₀ strings₀ count k₀ attrs strings k = count - k

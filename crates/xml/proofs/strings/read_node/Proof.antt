@@ -42,19 +42,24 @@ get-requires-2 c κs = search needs
 -- where the string begins
 abbrev Joined1 : Type 0
 Joined1 =
-    lts.Joined1 (get-reads.Asked, get-reads.Learnt, decode-entities-reads.Asked, decode-entities-reads.Learnt, copy-reads.Asked, copy-reads.Learnt, put-reads.Asked, put-reads.Learnt)
+    lts.Joined1 (get-reads.Asked, get-reads.Learnt, decode-entities-reads.Asked, decode-entities-reads.Learnt, copy-reads.Asked, copy-reads.Learnt,
+        put-reads.Asked, put-reads.Learnt)
     reads.Pre reads.Post
 
-start-is : (c : Joined1) → let d = c .before .before .before .before .before .before .before .before .before in c .if1 .start ≡ nodePlace (d .args .nodes .now) (d .args .k)
+start-is : (c : Joined1) → let d =
+    c .before .before .before .before .before .before .before .before .before in c .if1 .start ≡ nodePlace (d .args .nodes .now) (d .args .k)
 start-is c =
-    let e = c .before .before .before .get .ensures in
+    let c3 = c .before .before .before in
+    let e = c3 .get .ensures in
     ⊎-elim (λ w. place-element _ _ _ _ (w .0 .taken) e (w .1)) (λ w. place-other _ _ _ _ (w .0 .left) e (w .1)) (c .if1 .came)
 
 add-start : tie.Need-add-start
 add-start c =
-    let t = c .before .before .before .before .before .before .before .before .before .args .nodes .now in
-    let k = c .before .before .before .before .before .before .before .before .before .args .k in
-    let w : c .before .before .before .get .result + 1 ≡ nodePlace t k = place-element t k _ _ (c .if1 .taken) (c .before .before .before .get .ensures) refl in
+    let c3 = c .before .before .before in
+    let c9 = c3 .before .before .before .before .before .before in
+    let t = c9 .args .nodes .now in
+    let k = c9 .args .k in
+    let w : c3 .get .result + 1 ≡ nodePlace t k = place-element t k _ _ (c .if1 .taken) (c3 .get .ensures) refl in
     omega arith
 
 add-stop : tie.Need-add-stop
@@ -87,7 +92,8 @@ copy-requires c κs = let w = start-is (c .before .before .before .before) in si
 -- what is written
 abbrev Joined2 : Type 0
 Joined2 =
-    lts.Joined2 (get-reads.Asked, get-reads.Learnt, decode-entities-reads.Asked, decode-entities-reads.Learnt, copy-reads.Asked, copy-reads.Learnt, put-reads.Asked, put-reads.Learnt)
+    lts.Joined2 (get-reads.Asked, get-reads.Learnt, decode-entities-reads.Asked, decode-entities-reads.Learnt, copy-reads.Asked, copy-reads.Learnt,
+        put-reads.Asked, put-reads.Learnt)
     reads.Pre reads.Post
 
 laid-is : (c : Joined2)
@@ -107,8 +113,10 @@ sub-put c = omega (arith, start-is (c .before .before .before .before), laid-is 
 
 put-requires : tie.Need-put-requires
 put-requires c κs =
-    let d = c .before .before .before .before .before .before .before .before .before .before .before .before .before in
-    omega (arith, start-is (c .before .before .before .before), laid-is (c .before .before) .next, node-short (d .args .src .now) (d .args .nodes .now) (d .args .k), d .pre)
+    let c4 = c .before .before .before .before in
+    let c13 = c4 .before .before .before .before .before .before .before .before .before in
+    let d = c13 in
+    omega (arith, start-is (c4), laid-is (c .before .before) .next, node-short (d .args .src .now) (d .args .nodes .now) (d .args .k), d .pre)
 
 same-length : tie.Need-same-length
 same-length c = search needs

@@ -10,7 +10,8 @@ use Rattle.xml.proofs.strings.read_nodes.Statement.{statement}
 use Rattle.xml.proofs.strings.read_nodes.Tie as tie
 
 abbrev Inv-loop : tie.InvT-loop
-Inv-loop src nodes₀ strings₀ count k₀ nodes strings k = (k ≤ count) × (nodes ≡ nodesRead src nodes₀ k) × (strings ≡ nodeStringsRead src nodes₀ strings₀ k)
+Inv-loop src nodes₀ strings₀ count k₀ nodes strings k =
+    (k ≤ count) × (nodes ≡ nodesRead src nodes₀ k) × (strings ≡ nodeStringsRead src nodes₀ strings₀ k)
 
 abbrev μ-loop : tie.MeasureT-loop
 μ-loop src nodes₀ strings₀ count k₀ nodes strings k = count - k

@@ -1,5 +1,4 @@
--- A reader of trees on lists, after the Rust's `parse_xml`, without the limits (numbers 4, 5 and 7). A reader on lists, used in the proof;
--- not what one must believe.
+-- A reader of trees on lists, after the Rust's `parse_xml`, without the limits (numbers 4, 5 and 7): a means of proof.
 -- Each loop of the Rust is a step that takes the loop's next round as a function, and a count that bounds the rounds; the count never
 -- runs out (number 0 is never given). A test is handed to a function by clauses (`..As`), so that only the branch taken is computed.
 use Prim.Native.Nat.{ℕ, zero, suc, _-_}
@@ -114,7 +113,8 @@ pub data Kind : Type 0 where
 abbrev pub kind : Bytes → Kind
 kind s =
     cond (prefix `</` s) as-close
-    (cond (prefix `<!--` s) as-comment (cond (prefix `<![CDATA[` s) (as-node as-section) (cond (prefix `<` s) (as-node as-element) (as-node as-text))))
+    (cond (prefix `<!--` s) as-comment (cond (prefix `<![CDATA[` s) (as-node as-section)
+        (cond (prefix `<` s) (as-node as-element) (as-node as-text))))
 
 unfoldable pub nodeAs : (Bytes → Res Forest) → NodeKind → Bytes → Res Tree
 unfolding readElement before beyond

@@ -1,5 +1,5 @@
--- The reader on lists with the limits: it counts how many elements, nodes and attributes may still begin (numbers 4, 5 and 7). A reader on
--- lists, used in the proof; not what one must believe.
+-- The reader on lists with the limits: it counts how many elements, nodes and attributes may still begin (numbers 4, 5 and 7): a means of
+-- proof.
 -- A name that ends in L is that of the reader without limits, with the counts.
 use Prim.Native.Nat.{ℕ, zero, suc, _-_}
 use mathlib.Core.Bool.{Bool, true, false}
@@ -13,8 +13,8 @@ use Rattle.grammar.specs.Tree.{`-->`, `]]>`}
 use Rattle.grammar.specs.Grammar.{Before, a-comment, no-comment}
 use Rattle.grammar.specs.Demand.{Result, tree, refused, decodeForest}
 use Rattle.grammar.specs.Scan.{run, past, before, beyond}
-use Rattle.grammar.specs.Reader.{Res, ok, bad, readAttribute, tagEnd, afterSlash}
-use Rattle.grammar.specs.Reader.{NodeKind, as-text, as-section, as-element, Kind, as-close, as-comment, as-node, kind, afterClose, pastProlog}
+use Rattle.grammar.proofs.Reader.{Res, ok, bad, readAttribute, tagEnd, afterSlash}
+use Rattle.grammar.proofs.Reader.{NodeKind, as-text, as-section, as-element, Kind, as-close, as-comment, as-node, kind, afterClose, pastProlog}
 
 -- what is read, how many nodes and attributes may still begin, and what is left
 pub data LRes (A : Type 0) : Type 0 where
