@@ -77,7 +77,7 @@ module _ (s : List ℕ) where
       (λ f. rw z (fits-inside (p + 1) rs (e .0) (fits-first s p r rs f .2) i (omega (arith, rw f at l))))
       (λ f. first-inside p rows (e .1) i (rw f at l))
 
-  sequence-inside : (p i : ℕ) → suc i < sequenceAt s p → Inside s (p + suc i)
+  pub sequence-inside : (p i : ℕ) → suc i < sequenceAt s p → Inside s (p + suc i)
   unfolding sequenceAt
   sequence-inside p i l = first-inside p table refl i l
 

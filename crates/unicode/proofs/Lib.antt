@@ -2,3 +2,5 @@
 pub mod Utf8Laws
 pub mod WhiteLaws
 pub mod Boundaries
+pub mod Trimming
+pub mod Wording

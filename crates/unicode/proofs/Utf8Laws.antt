@@ -208,10 +208,10 @@ well-at w a t f =
 
 -- what stands at a place is a well-formed sequence
 module _ (s : List ℕ) (p n : ℕ) (h : p ≤ length s) (w : sequenceAt s p ≡ n) (l : 0 < n) where
-  part-length : length (take n (drop p s)) ≡ n
+  pub part-length : length (take n (drop p s)) ≡ n
   part-length = length-take-le n (drop p s) (simp length-drop (omega (arith, sequence-within s p h)))
 
-  part-agrees : (i : ℕ) → i < n → getD s (p + i) 0 ≡ getD (take n (drop p s)) (0 + i) 0
+  pub part-agrees : (i : ℕ) → i < n → getD s (p + i) 0 ≡ getD (take n (drop p s)) (0 + i) 0
   part-agrees i k = rw (zero-add i, getD-take n (drop p s) i 0 k, getD-drop p s i 0)
 
   pub well-part : WellFormed (take n (drop p s))

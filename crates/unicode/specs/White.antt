@@ -10,7 +10,7 @@ use Rattle.scan.specs.Loop.{Next, halt, more, loop}
 use Rattle.unicode.specs.declared.white.Span.{Span}
 use Rattle.unicode.specs.declared.white.Word.{Word}
 use Rattle.unicode.specs.declared.white.Word.the-variants.{At, Nothing}
-use Rattle.unicode.specs.Utf8.{sequenceAt, charAt}
+use Rattle.unicode.specs.Utf8.{sequenceAt, charAt, WellFormed}
 
 -- Unicode's property White_Space (PropList.txt), which document 01 names: "White space is Unicode's White_Space"
 abbrev pub whiteSpace : List ℕ
@@ -26,6 +26,41 @@ isIn b (c ∷ cs) = cond (eqb b c) true (isIn b cs)
 unfoldable pub isWhite : ℕ → Bool
 unfolding isIn
 isWhite c = isIn c whiteSpace
+
+-- w is one white-space character
+pub record WhiteCharacter (w : List ℕ) : Type 0 where
+  pub formed : WellFormed w
+  pub white : isWhite (charAt w 0 (length w)) ≡ true
+
+-- white space: white-space characters, one after the other
+pub data WhiteSpace : List ℕ → Type 0 where
+  nothing : WhiteSpace []
+  character : {w s : List ℕ} → WhiteCharacter w → WhiteSpace s → WhiteSpace (w ++ s)
+
+-- t is s without the white space at its two ends (Rust's `trim`): it begins with no white-space character, and ends with none
+pub record Trims (s t : List ℕ) : Type 0 where
+  pub before : List ℕ
+  pub after : List ℕ
+  pub whole : s ≡ before ++ (t ++ after)
+  pub white-before : WhiteSpace before
+  pub white-after : WhiteSpace after
+  pub bare-start : (w r : List ℕ) → WhiteCharacter w → t ≡ w ++ r → ⊥
+  pub bare-end : (w r : List ℕ) → WhiteCharacter w → t ≡ r ++ w → ⊥
+
+-- w has some byte, and no white-space character in it
+pub record Bare (w : List ℕ) : Type 0 where
+  pub some-byte : 0 < length w
+  pub no-white : (a c b : List ℕ) → WhiteCharacter c → w ≡ a ++ (c ++ b) → ⊥
+
+-- s ends, or white space begins
+pub data Parted : List ℕ → Type 0 where
+  ends : Parted []
+  white : (w s : List ℕ) → WhiteCharacter w → Parted (w ++ s)
+
+-- The words of s, in order (Rust's `split_whitespace`): a word stands after white space or at the start, and goes on to white space or to the end
+pub data Splits : List ℕ → List (List ℕ) → Type 0 where
+  no-word : {s : List ℕ} → WhiteSpace s → Splits s []
+  word : {a w s : List ℕ} {ws : List (List ℕ)} → WhiteSpace a → Bare w → Parted s → Splits s ws → Splits (a ++ (w ++ s)) (w ∷ ws)
 
 -- how many bytes the white-space character at p has; 0 where none stands there
 unfoldable pub whiteAt : List ℕ → ℕ → ℕ
