@@ -8,7 +8,7 @@ use mathlib.Core.Path.{_≡_, refl, sym, ap, subst, _∙_}
 use mathlib.Core.Bool.{Bool, true, false, _&&_, and-eq-true-iff}
 use mathlib.Core.List.{List, [], _∷_, _++_, append-assoc, append-nil}
 use native.Mathlib.Omega.{arith}
-use native.Mathlib.Nat.{add-zero, zero-add, sub-zero}
+use native.Mathlib.Nat.{add-zero, zero-add, sub-zero, max-eq-left, max-eq-right}
 use lib.ListN.{length, getD, take, drop, length-append, length-drop, take-append-drop, List·getD-append}
 use lib.Seq.{length-take-le, take-length, drop-length, take-nil, take-append-seam, take-append-le, take-at, drop-append-seam, drop-append-le, drop-append-add, drop-drop, take-add}
 use lib.Seq.{getD-append-add}
@@ -16,10 +16,12 @@ use lib.Dec.{eqb, leb, ltb}
 use borrow.Author.Tests.{eqb-true, eqb-false, leb-true, leb-false, ltb-true, ltb-false}
 use Rattle.scan.specs.Part.{part}
 use Rattle.unicode.specs.Utf8.{sequenceAt, charAt, WellFormed}
-use Rattle.unicode.specs.White.{isWhite, WhiteCharacter, WhiteSpace, nothing, character, Trims, whiteAt, endsWith, whiteBefore, whiteEnd, whiteBack, whiteStart, trimmed}
+use Rattle.unicode.specs.WhiteSpace.{isWhite, WhiteCharacter, WhiteSpace, nothing, character, Trims}
+use Rattle.unicode.specs.Steps.{WhiteEnd, whiteAt, endsWith, whiteBefore, whiteEnd, whiteBack, whiteStart}
+use Rattle.unicode.specs.White.{trimmed, Trimmed}
 use Rattle.unicode.proofs.Utf8Laws.{by-test, sequence-none, sequence-short, sequence-within, well-at, well-part, part-length, part-agrees}
 use Rattle.unicode.proofs.Boundaries.{sequence-inside}
-use Rattle.unicode.proofs.WhiteLaws.{whiteAt-white, whiteAt-within, endsWith-here, endsWith-on, whiteBefore-low, whiteEnd-here, whiteEnd-on, whiteEnd-out}
+use Rattle.unicode.proofs.WhiteLaws.{whiteAt-white, whiteAt-visible, whiteAt-within, endsWith-here, endsWith-on, whiteBefore-low, whiteEnd-here, whiteEnd-on, whiteEnd-out}
 use Rattle.unicode.proofs.WhiteLaws.{whiteEnd-high, whiteEnd-stops, whiteBack-here, whiteBack-on, whiteStart-low}
 
 -- ---- a character depends on its own bytes alone
@@ -97,6 +99,37 @@ module _ (s : List ℕ) (e : ℕ) where
   before-is m l h g w =
       let short : m ≤ 4 = omega (arith, sequence-short s (e - m), white-sequence s (e - m) (λ z. omega (arith, w)) .0) in
       ends-to 1 4 m l (omega arith) h w (λ j a b c. no-overlap s (e - m) (e - j) (omega arith) (omega arith) (omega arith) (λ z. omega arith))
+
+-- a visible ASCII character ends no white space
+pub before-visible : (s : List ℕ) (e : ℕ) → 0 < e → e ≤ length s → 0x20 < getD s (e - 1) 0 → getD s (e - 1) 0 < 0x80 → whiteBefore s e ≡ 0
+before-visible s e h g l u =
+    let k : ℕ = whiteBefore s e in
+    by-test (eqb k 0) (λ z. eqb-true k 0 z)
+    (λ z.
+    let n = eqb-false k 0 z in
+    let w : whiteAt s (e - k) ≡ k = before-white s e n in
+    let low : k ≤ e = whiteBefore-low s e in
+    by-test (eqb k 1)
+    (λ t. let o : k ≡ 1 = eqb-true k 1 t in let v : whiteAt s (e - 1) ≡ 1 = rw o at w in absurd (omega (arith, whiteAt-visible s (e - 1) (omega arith) l u)))
+    (λ t.
+    let o = eqb-false k 1 t in
+    let q : sequenceAt s (e - k) ≡ k = white-sequence s (e - k) (λ y. n (sym w ∙ y)) .0 ∙ w in
+    let two : 2 ≤ k = more k n o in
+    let i : e - k + suc (k - 2) ≡ e - 1 = last-byte e k two low in
+    let b : 0x80 ≤ getD s (e - 1) 0 = rw i at (sequence-inside s (e - k) (k - 2) (rw q (shorter k two))) .0 in
+    absurd (above b u)))
+  where
+    more : (k : ℕ) → (k ≡ 0 → ⊥) → (k ≡ 1 → ⊥) → 2 ≤ k
+    more k n o = omega (arith, n, o)
+
+    shorter : (k : ℕ) → 2 ≤ k → suc (k - 2) < k
+    shorter k h = omega arith
+
+    last-byte : (e k : ℕ) → 2 ≤ k → k ≤ e → e - k + suc (k - 2) ≡ e - 1
+    last-byte e k h g = omega arith
+
+    above : {x : ℕ} → 0x80 ≤ x → x < 0x80 → ⊥
+    above h g = omega arith
 
 back-stops : (s : List ℕ) (e k : ℕ) → whiteBefore s (whiteBack s e k) ≡ 0
 unfolding whiteBack
@@ -385,3 +418,32 @@ module _ (s t : List ℕ) (x : Trims s t) where
   -- where what is left starts, if something is
   pub trimmed-start : 0 < length t → whiteEnd s 0 ≡ length (x .before)
   trimmed-start h = only-start s (x .before) t (x .after) (x .whole) (x .white-before) (x .white-after) h (x .bare-start)
+
+-- ---- what `trim` ensures
+module _ (s : List ℕ) (a e : ℕ) (w : WhiteEnd s 0 a) (z : e ≡ whiteStart s) where
+  pub trimmed-some : a ≤ e → Trimmed s a e
+  unfolding trimmed
+  trimmed-some h = record {
+    starts = w .is;
+    ends = rw (← (w .is), ← z) (sym (max-eq-right h));
+    order = h;
+    within-text = rw z (whiteStart-low s);
+    is = rw (← (w .is), ← z);
+    trims = rw (w .is, z) (trimmed-is s);
+  }
+
+  pub trimmed-empty : e < a → Trimmed s a a
+  unfolding trimmed
+  trimmed-empty h = record {
+    starts = w .is;
+    ends = rw (← (w .is), ← z) (sym (max-eq-left (omega arith)));
+    order = omega arith;
+    within-text = w .within-text;
+    is =
+        let x : a - a ≡ 0 = omega arith in
+        let y : e - a ≡ 0 = omega arith in
+        rw (← (w .is), ← z, x, y);
+    trims =
+        let x : a - a ≡ 0 = omega arith in
+        rw x (trims-none s (rw (← (w .is), ← z) h));
+  }

@@ -11,7 +11,9 @@ use lib.Dec.{eqb, leb, ltb}
 use borrow.Author.Tests.{ltb-true, ltb-false, leb-true, lt-ltb, le-ltb, le-leb, lt-leb, ne-eqb, eqb-true, eqb-false}
 use Rattle.scan.specs.Loop.{halt, more, loop}
 use Rattle.scan.proofs.Loop.{loop-out, loop-halt, loop-more, loop-ind, halt-inj, more-inj, halt≢more, more≢halt}
-use Rattle.unicode.specs.Utf8.{Range, _to_, within, table, fitsAt, firstFit, sequenceAt, WellFormed, Utf8, empty, sequence, utf8Turn, utf8End, Bounded, AsciiTo, LongestValid, Sequence, tails, followed, scalar, encode, charAt}
+use Rattle.unicode.specs.Utf8.{Range, _to_, within, table, fitsAt, firstFit, sequenceAt, WellFormed, Utf8, empty, sequence, utf8Turn}
+use Rattle.unicode.specs.Utf8.{utf8End, LongestValid, Sequence, scalar, encode, charAt}
+use Rattle.unicode.specs.Steps.{Bounded, AsciiTo, tails, followed}
 
 -- ---- tests
 pub by-test : {A : Type 0} (t : Bool) → (t ≡ true → A) → (t ≡ false → A) → A

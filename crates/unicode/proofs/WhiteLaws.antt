@@ -14,48 +14,46 @@ use Rattle.scan.specs.Loop.{Next, halt, more, loop}
 use Rattle.scan.specs.Part.{part}
 use Rattle.scan.proofs.Loop.{loop-out, loop-halt, loop-more}
 use Rattle.unicode.specs.Utf8.{sequenceAt, charAt}
-use Rattle.unicode.proofs.Utf8Laws.{sequence-within}
-use Rattle.unicode.specs.White.{whiteSpace, isIn, isWhite, whiteAt, endsWith, whiteBefore, whiteTurn, whiteEnd, whiteBack, whiteStart, wordTurn, wordEnd, trimmed, wordsTurn, wordsFrom, WhiteEnd, Trimmed, WordAt}
-
--- either way of a test
-by-test : {X : Type 0} (b : Bool) → (b ≡ true → X) → (b ≡ false → X) → X
-by-test true f g = f refl
-by-test false f g = g refl
+use Rattle.unicode.proofs.Utf8Laws.{by-test, sequence-within, sequence-ascii}
+use Rattle.unicode.specs.WhiteSpace.{whiteSpace, isAmong, isWhite}
+use Rattle.unicode.specs.Steps.{whiteAt, endsWith, whiteBefore, whiteTurn, whiteEnd, whiteBack, whiteStart, wordTurn, wordEnd, wordsTurn}
+use Rattle.unicode.specs.Steps.{wordsFrom}
+use Rattle.unicode.specs.White.{trimmed}
 
 -- ---- a number in a list, from its j-th on
 module _ (b : ℕ) (cs : List ℕ) (j : ℕ) where
-  pub isIn-here : j < length cs → getD cs j 0 ≡ b → isIn b (drop j cs) ≡ true
-  unfolding isIn
-  isIn-here h e = rw (drop-cons cs j 0 h, eq-eqb b (getD cs j 0) (sym e))
+  pub isAmong-here : j < length cs → getD cs j 0 ≡ b → isAmong b (drop j cs) ≡ true
+  unfolding isAmong
+  isAmong-here h e = rw (drop-cons cs j 0 h, eq-eqb b (getD cs j 0) (sym e))
 
-  pub isIn-on : j < length cs → (getD cs j 0 ≡ b → ⊥) → isIn b (drop j cs) ≡ isIn b (drop (j + 1) cs)
-  unfolding isIn
-  isIn-on h e = rw (add-one j, drop-cons cs j 0 h, ne-eqb b (getD cs j 0) (λ w. e (sym w)))
+  pub isAmong-on : j < length cs → (getD cs j 0 ≡ b → ⊥) → isAmong b (drop j cs) ≡ isAmong b (drop (j + 1) cs)
+  unfolding isAmong
+  isAmong-on h e = rw (add-one j, drop-cons cs j 0 h, ne-eqb b (getD cs j 0) (λ w. e (sym w)))
 
-  pub isIn-none : length cs ≤ j → isIn b (drop j cs) ≡ false
-  unfolding isIn
-  isIn-none h = rw (drop-of-length-le cs h)
+  pub isAmong-none : length cs ≤ j → isAmong b (drop j cs) ≡ false
+  unfolding isAmong
+  isAmong-none h = rw (drop-of-length-le cs h)
 
 -- no number of a list stands between two
 abbrev apart : ℕ → ℕ → List ℕ → Bool
 apart low high [] = true
 apart low high (c ∷ cs) = cond (ltb low c && ltb c high) false (apart low high cs)
 
-isIn-apart : (low high b : ℕ) (cs : List ℕ) → low < b → b < high → apart low high cs ≡ true → isIn b cs ≡ false
-unfolding isIn
-isIn-apart low high b [] l h t = refl
-isIn-apart low high b (c ∷ cs) l h t = by-test (ltb low c && ltb c high) between (λ w. off w (isIn-apart low high b cs l h (rw w at t)))
+isAmong-apart : (low high b : ℕ) (cs : List ℕ) → low < b → b < high → apart low high cs ≡ true → isAmong b cs ≡ false
+unfolding isAmong
+isAmong-apart low high b [] l h t = refl
+isAmong-apart low high b (c ∷ cs) l h t = by-test (ltb low c && ltb c high) between (λ w. off w (isAmong-apart low high b cs l h (rw w at t)))
   where
-    between : ltb low c && ltb c high ≡ true → isIn b (c ∷ cs) ≡ false
+    between : ltb low c && ltb c high ≡ true → isAmong b (c ∷ cs) ≡ false
     between w = absurd (true≢false (sym (rw w at t)))
 
-    off : ltb low c && ltb c high ≡ false → isIn b cs ≡ false → isIn b (c ∷ cs) ≡ false
+    off : ltb low c && ltb c high ≡ false → isAmong b cs ≡ false → isAmong b (c ∷ cs) ≡ false
     off w r = rw (ne-eqb b c (λ e. true≢false (rw (lt-ltb low c (omega arith), lt-ltb c high (omega arith)) at w))) r
 
 -- the visible ASCII characters are no white space
 pub isWhite-visible : (c : ℕ) → 0x20 < c → c < 0x80 → isWhite c ≡ false
 unfolding isWhite
-isWhite-visible c l h = isIn-apart 0x20 0x80 c whiteSpace l h refl
+isWhite-visible c l h = isAmong-apart 0x20 0x80 c whiteSpace l h refl
 
 -- ---- a white-space character at a place
 module _ (s : List ℕ) (p w : ℕ) (e : w ≡ sequenceAt s p) where
@@ -70,6 +68,11 @@ module _ (s : List ℕ) (p w : ℕ) (e : w ≡ sequenceAt s p) where
   pub whiteAt-white : (w ≡ 0 → ⊥) → isWhite (charAt s p w) ≡ true → whiteAt s p ≡ w
   unfolding whiteAt
   whiteAt-white n t = rw (← e, ne-eqb w 0 n, t)
+
+-- a visible ASCII character is none
+pub whiteAt-visible : (s : List ℕ) (p : ℕ) → p < length s → 0x20 < getD s p 0 → getD s p 0 < 0x80 → whiteAt s p ≡ 0
+unfolding charAt
+whiteAt-visible s p h l g = whiteAt-other s p 1 (sequence-ascii s p h (omega arith) .is) (isWhite-visible (getD s p 0) l g)
 
 -- it lies within the text
 pub whiteAt-within : (s : List ℕ) (p : ℕ) → p ≤ length s → p + whiteAt s p ≤ length s
@@ -287,38 +290,3 @@ trimmed-none = rw (whiteEnd-out [] 0 (omega arith))
 pub trimmed-all : (s : List ℕ) → 0 < length s → whiteAt s 0 ≡ 0 → whiteBefore s (length s) ≡ 0 → trimmed s ≡ s
 unfolding trimmed whiteStart
 trimmed-all s h a b = rw (whiteEnd-here s 0 h a, whiteBack-here s (length s) b, sub-zero (length s)) (take-length s)
-
--- ---- what the program ensures
-pub word-at : (s : List ℕ) (p a e : ℕ) → WhiteEnd s p a → e ≡ wordEnd s a → a < length s → WordAt s p a e
-word-at s p a e w h l = record {
-  starts = w .is;
-  ends = h;
-  after = w .after;
-  some-byte = rw h (wordEnd-some s a l (w .stops l));
-  within-text = rw h (wordEnd-high s a (w .within-text));
-  next = λ ws. rw (h, w .is) (wordsFrom-next s p ws (rw (w .is) at l));
-}
-
-module _ (s : List ℕ) (a e : ℕ) (w : WhiteEnd s 0 a) (z : e ≡ whiteStart s) where
-  pub trimmed-some : a ≤ e → Trimmed s a e
-  unfolding trimmed
-  trimmed-some h = record {
-    starts = w .is;
-    ends = rw (← (w .is), ← z) (sym (max-eq-right h));
-    order = h;
-    within-text = rw z (whiteStart-low s);
-    is = rw (← (w .is), ← z);
-  }
-
-  pub trimmed-empty : e < a → Trimmed s a a
-  unfolding trimmed
-  trimmed-empty h = record {
-    starts = w .is;
-    ends = rw (← (w .is), ← z) (sym (max-eq-left (omega arith)));
-    order = omega arith;
-    within-text = w .within-text;
-    is =
-        let x : a - a ≡ 0 = omega arith in
-        let y : e - a ≡ 0 = omega arith in
-        rw (← (w .is), ← z, x, y);
-  }

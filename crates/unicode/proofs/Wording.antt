@@ -10,7 +10,9 @@ use lib.Seq.{length-take-le, take-append-seam, take-append-le, take-all, take-le
 use lib.Dec.{eqb, ltb}
 use borrow.Author.Tests.{eqb-true, eqb-false, ltb-true, ltb-false}
 use Rattle.scan.specs.Part.{part}
-use Rattle.unicode.specs.White.{WhiteCharacter, WhiteSpace, Bare, Parted, ends, white, Splits, no-word, word, whiteAt, whiteEnd, wordEnd, wordsFrom, words}
+use Rattle.unicode.specs.WhiteSpace.{WhiteCharacter, WhiteSpace, Bare, Parted, ends, white, Splits, no-word, word}
+use Rattle.unicode.specs.Steps.{WhiteEnd, whiteAt, whiteEnd, wordEnd, wordsFrom}
+use Rattle.unicode.specs.White.{words, WordAt}
 use Rattle.unicode.proofs.Utf8Laws.{by-test}
 use Rattle.unicode.proofs.WhiteLaws.{whiteAt-within, whiteEnd-here, whiteEnd-out, whiteEnd-low, whiteEnd-high, whiteEnd-stops, wordEnd-here, wordEnd-on, wordEnd-out}
 use Rattle.unicode.proofs.WhiteLaws.{wordEnd-low, wordEnd-high, wordEnd-stops, wordEnd-some, wordsFrom-none, wordsFrom-next, wordsFrom-after}
@@ -184,3 +186,21 @@ words-of c (word {a} {w} {s = r} {ws} v x y rest) = words-first c a w r v x y ws
 pub words-only : (s : List ℕ) (ws : List (List ℕ)) → Splits s ws → words s ≡ ws
 unfolding words
 words-only s ws v = words-of [] v
+
+-- ---- what `next_word` ensures
+pub word-at : (s : List ℕ) (p a e : ℕ) → WhiteEnd s p a → e ≡ wordEnd s a → a < length s → WordAt s p a e
+word-at s p a e w h l =
+    let low : p ≤ length s = omega (arith, w .after) in
+    let some : a < e = rw h (wordEnd-some s a l (w .stops l)) in
+    let high : e ≤ length s = rw h (wordEnd-high s a (w .within-text)) in
+    record {
+      starts = w .is;
+      ends = h;
+      after = w .after;
+      some-byte = some;
+      within-text = high;
+      passed = rw (w .is) (path-space s (end-path s p low) low);
+      bare = bare s a e some high (λ i k m. word-inside s (length s) a i (omega arith) k (rw h at m) (omega arith));
+      parted = rw h (parted s (wordEnd s a) (rw h at high) (wordEnd-stops s a));
+      next = λ ws. rw (h, w .is) (wordsFrom-next s p ws (rw (w .is) at l));
+    }

@@ -2,7 +2,7 @@
 use Prim.Native.Nat.{_+_, _-_}
 use native.Mathlib.Omega.{arith}
 use lib.ListN.{length}
-use Rattle.unicode.specs.Utf8.{AsciiTo}
+use Rattle.unicode.specs.Steps.{AsciiTo}
 use Rattle.unicode.proofs.Utf8Laws.{bounded-up, bounded-join}
 use Rattle.unicode.proofs.utf8.ascii_blocks.Statement.{statement}
 use Rattle.unicode.proofs.utf8.ascii_blocks.Tie as tie

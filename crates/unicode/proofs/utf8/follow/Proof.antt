@@ -3,7 +3,8 @@ use Prim.Native.Nat.{_+_, _-_, _≤_}
 use mathlib.Core.Path.{_≡_, sym, _∙_}
 use mathlib.Core.Bool.{cond}
 use native.Mathlib.Omega.{arith}
-use Rattle.unicode.specs.Utf8.{fitsAt, tails, followed}
+use Rattle.unicode.specs.Utf8.{fitsAt}
+use Rattle.unicode.specs.Steps.{tails, followed}
 use Rattle.unicode.proofs.Utf8Laws.{below-range, above-range, followed-short, followed-not, followed-in, rest-not, rest-in, rest-out}
 use Rattle.unicode.proofs.utf8.follow.Statement.{statement}
 use Rattle.unicode.proofs.utf8.follow.Tie as tie

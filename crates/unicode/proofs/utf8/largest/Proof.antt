@@ -4,7 +4,7 @@ use mathlib.Core.List.{List}
 use mathlib.Core.Logic.{⊎-elim}
 use native.Mathlib.Omega.{arith}
 use lib.ListN.{getD}
-use Rattle.unicode.specs.Utf8.{Bounded}
+use Rattle.unicode.specs.Steps.{Bounded}
 use Rattle.unicode.proofs.Utf8Laws.{bounded-up, bounded-more}
 use Rattle.unicode.proofs.utf8.largest.Statement.{statement}
 use Rattle.unicode.proofs.utf8.largest.Tie as tie

@@ -1,6 +1,7 @@
 -- `next_word` answers the next word, which is not empty since white space stops before it; or that there is none.
 use native.Mathlib.Omega.{arith}
-use Rattle.unicode.proofs.WhiteLaws.{word-at, wordsFrom-none}
+use Rattle.unicode.proofs.WhiteLaws.{wordsFrom-none}
+use Rattle.unicode.proofs.Wording.{word-at}
 use borrow.Author.Needs.{needs}
 use Rattle.unicode.proofs.white.next_word.Statement.{statement}
 use Rattle.unicode.proofs.white.next_word.Tie as tie

@@ -1,5 +1,5 @@
 -- `trim` answers the part that is left when white space is trimmed, which is empty where the two ends meet.
-use Rattle.unicode.proofs.WhiteLaws.{trimmed-some, trimmed-empty}
+use Rattle.unicode.proofs.Trimming.{trimmed-some, trimmed-empty}
 use borrow.Author.Needs.{needs}
 use Rattle.unicode.proofs.white.trim.Statement.{statement}
 use Rattle.unicode.proofs.white.trim.Tie as tie

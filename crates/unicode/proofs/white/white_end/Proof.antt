@@ -4,7 +4,7 @@ use mathlib.Core.Path.{_≡_, sym, _∙_}
 use native.Mathlib.Omega.{arith}
 use lib.ListN.{length}
 use borrow.Author.Needs.{needs}
-use Rattle.unicode.specs.White.{whiteEnd}
+use Rattle.unicode.specs.Steps.{whiteEnd}
 use Rattle.unicode.proofs.WhiteLaws.{whiteEnd-here, whiteEnd-on, whiteEnd-out}
 use Rattle.unicode.proofs.white.white_end.Statement.{statement}
 use Rattle.unicode.proofs.white.white_end.Tie as tie

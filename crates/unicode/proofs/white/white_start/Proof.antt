@@ -4,7 +4,7 @@ use mathlib.Core.Path.{_≡_, refl, sym, _∙_}
 use native.Mathlib.Omega.{arith}
 use lib.ListN.{length}
 use borrow.Author.Needs.{needs}
-use Rattle.unicode.specs.White.{whiteBack, whiteStart}
+use Rattle.unicode.specs.Steps.{whiteBack, whiteStart}
 use Rattle.unicode.proofs.WhiteLaws.{whiteBack-here, whiteBack-on, whiteBack-zero}
 use Rattle.unicode.proofs.white.white_start.Statement.{statement}
 use Rattle.unicode.proofs.white.white_start.Tie as tie

@@ -4,7 +4,7 @@ use mathlib.Core.Path.{_≡_, sym, _∙_}
 use native.Mathlib.Omega.{arith}
 use lib.ListN.{length}
 use borrow.Author.Needs.{needs}
-use Rattle.unicode.specs.White.{wordEnd}
+use Rattle.unicode.specs.Steps.{wordEnd}
 use Rattle.unicode.proofs.WhiteLaws.{wordEnd-here, wordEnd-on, wordEnd-out}
 use Rattle.unicode.proofs.white.word_end.Statement.{statement}
 use Rattle.unicode.proofs.white.word_end.Tie as tie
