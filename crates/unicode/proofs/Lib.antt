@@ -4,3 +4,4 @@ pub mod WhiteLaws
 pub mod Boundaries
 pub mod Trimming
 pub mod Wording
+pub mod Characters

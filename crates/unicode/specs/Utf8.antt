@@ -55,6 +55,12 @@ pub data Utf8 : List ℕ → Type 0 where
   empty : Utf8 []
   sequence : {w s : List ℕ} → WellFormed w → Utf8 s → Utf8 (w ++ s)
 
+-- a is the first n characters of a text in UTF-8, or all of it where it has fewer (Rust's `chars().take(n)`)
+pub data FirstChars : ℕ → List ℕ → List ℕ → Type 0 where
+  taken : (s : List ℕ) → FirstChars 0 s []
+  ended : (n : ℕ) → FirstChars n [] []
+  next : {n : ℕ} {w s a : List ℕ} → WellFormed w → FirstChars n s a → FirstChars (suc n) (w ++ s) (w ++ a)
+
 -- where the sequences from a text's start on end: at the first place where none stands, or at the text's length
 abbrev pub utf8Turn : List ℕ → ℕ → Unit {0} → Next (Unit {0}) ℕ
 utf8Turn s p x = cond (eqb (sequenceAt s p) 0) (halt p) (more (p + sequenceAt s p) x)
