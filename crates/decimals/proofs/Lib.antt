@@ -6,3 +6,4 @@ pub mod Counting
 pub mod Reading
 pub mod Sizes
 pub mod Spellings
+pub mod OneSpelling
