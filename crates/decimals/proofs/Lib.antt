@@ -7,3 +7,4 @@ pub mod Reading
 pub mod Sizes
 pub mod Spellings
 pub mod OneSpelling
+pub mod Numbers

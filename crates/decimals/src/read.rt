@@ -3,7 +3,7 @@ ghost use mathlib.Core.Path.{_≡_};
 ghost use mathlib.Core.List.{_++_};
 ghost use Prim.Native.Nat.{_-_, _≤_, _<_, _^_};
 ghost use lib.ListN.{length, take, drop};
-ghost use Rattle.decimals.specs.Decimal.{onlyDigits, isExponent, isWord, limited, unsignedDecimal, decimalOf};
+ghost use Rattle.decimals.specs.Decimal.{onlyDigits, isExponent, isWord, limited, unsignedDecimal, Reads};
 ghost use Rattle.decimals.specs.Counted.{OneMore, Room, Further, Digital, PointAt};
 use scan::Class;
 
@@ -175,7 +175,7 @@ fn read_unsigned(text: &[u8], negative: bool, digits: usize, decimals: usize) ->
 // many behind the point.
 pub fn read_decimal(text: &[u8], digits: usize, decimals: usize) -> Decimal
     requires { ⌜ (digits ≤ 18) × (decimals < 2 ^ 32) ⌝ }
-    ensures { λ r. ⌜ r ≡ decimalOf (now (text .entry)) digits decimals ⌝ }
+    ensures { λ r. ⌜ Reads (now (text .entry)) digits decimals r ⌝ }
 {
     if text.len() == 0 {
         return Decimal::Nothing;

@@ -20,7 +20,7 @@ enum-known-d : tie.Need-enum-known-d
 enum-known-d c = search needs
 
 to-f64-requires : tie.Need-to-f64-requires
-to-f64-requires c κs = let w = decimal-limits 15 22 _ (sym (c .before .before .before .before .before .before .read-decimal .ensures) ∙ c .before .before .before .before .d .given .1) in (w .small, w .near)
+to-f64-requires c κs = let w = decimal-limits 15 22 _ (sym (c .before .before .before .before .before .before .read-decimal .ensures .is) ∙ c .before .before .before .before .d .given .1) in (w .small, w .near)
 
 truncate-requires : tie.Need-truncate-requires
 truncate-requires c κs = search needs
@@ -35,7 +35,7 @@ returns : tie.Need-returns
 unfolding ofInt ofBits
 returns c =
     let f : lt (float 0) (c .before .before .before .before .before .before .before .before .before .before .before .before .before .args .ctx .«frame_rate») ≡ true = c .before .before .before .before .before .if2 .taken in
-    rw (sym (c .before .before .before .before .before .before .before .before .before .before .before .read-decimal .ensures), c .before .before .before .before .before .before .before .before .before .d .given .1, c .before .before .before .before .before .before .before .if1 .taken, f)
+    rw (sym (c .before .before .before .before .before .before .before .before .before .before .before .read-decimal .ensures .is), c .before .before .before .before .before .before .before .before .before .d .given .1, c .before .before .before .before .before .before .before .if1 .taken, f)
     (c .time-of .ensures ∙ ap timeOf (c .before .add .ensures ∙ ap checked (λ i. toZ-ofZ w64 _ (c .before .before .before .before .before .before .before .before .before .before .before .before .before .fits .us) i +ℤ (toZ-ofZ w64 _ (record { sfits = c .before .before .truncate .ok }) ∙ (c .before .before .truncate .ensures ∙ ap (λ (x : Float). cut (mul binary64 (div binary64 x (c .before .before .before .before .before .before .before .before .before .before .before .before .before .args .ctx .«frame_rate»)) (float 1000000))) (c .before .before .before .before .to-f64 .ensures))) i)))
 
 enum-told : tie.Need-enum-told
@@ -48,16 +48,16 @@ returns-2 : tie.Need-returns-2
 unfolding ofInt ofBits
 returns-2 c =
     let f : lt (float 0) (c .before .before .before .before .before .before .before .before .args .ctx .«frame_rate») ≡ false = c .if2 .left in
-    rw (sym (c .before .before .before .before .before .before .read-decimal .ensures), c .before .before .before .before .d .given .1, c .before .before .if1 .taken, f) (ap Time.Is (toZ-ofZ w64 _ (c .before .before .before .before .before .before .before .before .fits .us)))
+    rw (sym (c .before .before .before .before .before .before .read-decimal .ensures .is), c .before .before .before .before .d .given .1, c .before .before .if1 .taken, f) (ap Time.Is (toZ-ofZ w64 _ (c .before .before .before .before .before .before .before .before .fits .us)))
 
 returns-3 : tie.Need-returns-3
-returns-3 c = rw (sym (c .before .before .before .before .read-decimal .ensures), c .before .before .d .given .1, c .if1 .left) (ap Time.Is (toZ-ofZ w64 _ (c .before .before .before .before .before .before .fits .us)))
+returns-3 c = rw (sym (c .before .before .before .before .read-decimal .ensures .is), c .before .before .d .given .1, c .if1 .left) (ap Time.Is (toZ-ofZ w64 _ (c .before .before .before .before .before .before .fits .us)))
 
 returns-4 : tie.Need-returns-4
-returns-4 c = rw (sym (c .before .before .read-decimal .ensures), c .enum-told .given .1) (ap Time.Is (toZ-ofZ w64 _ (c .before .before .before .before .fits .us)))
+returns-4 c = rw (sym (c .before .before .read-decimal .ensures .is), c .enum-told .given .1) (ap Time.Is (toZ-ofZ w64 _ (c .before .before .before .before .fits .us)))
 
 returns-5 : tie.Need-returns-5
-returns-5 c = rw (sym (c .before .before .read-decimal .ensures), c .enum-told2 .given .1)
+returns-5 c = rw (sym (c .before .before .read-decimal .ensures .is), c .enum-told2 .given .1)
 
 pub framed-spec : {M : Type 1} → statement M
 framed-spec =
