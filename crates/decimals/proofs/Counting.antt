@@ -18,7 +18,7 @@ use Rattle.numerals.specs.Numerals.{valueFrom}
 use Rattle.numerals.proofs.Numerals.{value-append, digit-byte}
 use Rattle.decimals.specs.declared.read.Count.{Count}
 use Rattle.decimals.specs.Decimal.{significant}
-use Rattle.decimals.specs.Counted.{Counted, OneMore, Room, Further}
+use Rattle.decimals.specs.Steps.{Counted, OneMore, Room, Further}
 
 -- ---- digits after leading zeros
 sig-zero : (ds : List ℕ) (b : ℕ) → significant ds ≡ 0 → b ≡ 48 → significant (ds ++ (b ∷ [])) ≡ 0

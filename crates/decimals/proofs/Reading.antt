@@ -31,7 +31,7 @@ use Rattle.decimals.specs.declared.read.Count.{Count}
 use Rattle.decimals.specs.declared.read.Digits.{Digits}
 use Rattle.decimals.specs.declared.read.Decimal.the-variants.{Is, Nothing, Beyond}
 use Rattle.decimals.specs.Decimal.{onlyDigits, isExponent, isWord, unsigned, negative, fraction, afterFraction, allDigits, restOf, scaleOf, digitsAt, afterDigits, significant, limited, unsignedDecimal, decimalOf}
-use Rattle.decimals.specs.Counted.{Counted, Further, Digital, PointAt, Room}
+use Rattle.decimals.specs.Steps.{Counted, Further, Digital, PointAt, Room}
 
 -- ---- only digits
 module _ (s : List ℕ) (p : ℕ) where

@@ -23,7 +23,7 @@ use mir.Syntax.{w64}
 use mir.Val.{SFits}
 use borrow.Author.Tests.{leb-true, leb-false, lt-ltb, le-ltb, eq-eqb, ne-eqb, eqb-true, eqb-false}
 use Rattle.decimals.proofs.Tests.{no}
-use Rattle.decimals.specs.Floats.{Middling}
+use Rattle.decimals.specs.Steps.{Middling}
 
 -- ---- the whole part, without its sign
 abbrev pub wholeOf : ℕ → ℤ → ℕ

@@ -4,7 +4,7 @@ ghost use mathlib.Core.List.{_++_};
 ghost use Prim.Native.Nat.{_-_, _≤_, _<_, _^_};
 ghost use lib.ListN.{length, take, drop};
 ghost use Rattle.decimals.specs.Decimal.{onlyDigits, isExponent, isWord, limited, unsignedDecimal, Reads};
-ghost use Rattle.decimals.specs.Counted.{OneMore, Room, Further, Digital, PointAt};
+ghost use Rattle.decimals.specs.Steps.{OneMore, Room, Further, Digital, PointAt};
 use scan::Class;
 
 // digits / 10^scale, negative or not

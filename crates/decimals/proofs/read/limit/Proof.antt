@@ -4,7 +4,7 @@ use mathlib.Core.Path.{sym}
 use mathlib.Core.List.{_++_}
 use native.Mathlib.Omega.{arith}
 use lib.ListN.{length, take, drop}
-use Rattle.decimals.specs.Counted.{Counted}
+use Rattle.decimals.specs.Steps.{Counted}
 use Rattle.decimals.proofs.Reading.{limited-far, limited-long, limited-is, room-before, both-read}
 use borrow.Author.Needs.{needs}
 use Rattle.decimals.proofs.read.limit.Statement.{statement}
