@@ -1,6 +1,6 @@
 -- What the proofs of several functions use, and what the crates above cite.
-pub mod Tests
 pub mod Values
+pub mod Tests
 pub mod Truncated
 pub mod Counting
 pub mod Reading

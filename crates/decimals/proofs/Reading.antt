@@ -10,7 +10,7 @@
 --     value-limit, decimal-limits    a decimal is within the limits that it was read by
 use Prim.Native.Nat.{ℕ, suc, _+_, _-_, _*_, _≤_, _<_, _^_}
 use mathlib.Core.Path.{_≡_, refl, ap, _∙_}
-use mathlib.Core.Bool.{Bool, true, false, cond, _&&_, _||_, and-false, or-true}
+use mathlib.Core.Bool.{Bool, true, false, cond, _&&_, _||_, and-false, or-true, and-eq-true-iff}
 use mathlib.Core.List.{List, [], _∷_, _++_}
 use native.Mathlib.Omega.{arith}
 use native.Mathlib.Numerals.{add-one}
@@ -26,7 +26,6 @@ use Rattle.scan.proofs.Runs.{run-length, run-all, run-high}
 use Rattle.numerals.specs.Numerals.{valueFrom, digitOf}
 use Rattle.numerals.proofs.Numerals.{digit-byte}
 use Rattle.decimals.proofs.Counting.{digit-bounds}
-use Rattle.decimals.proofs.Tests.{both}
 use Rattle.decimals.specs.declared.read.Count.{Count}
 use Rattle.decimals.specs.declared.read.Digits.{Digits}
 use Rattle.decimals.specs.declared.read.Decimal.the-variants.{Is, Nothing, Beyond}
@@ -277,7 +276,7 @@ every (b ∷ s) = digitByte b && every s
 
 pub every-append : (a b : List ℕ) → every a ≡ true → every b ≡ true → every (a ++ b) ≡ true
 every-append [] b p q = q
-every-append (x ∷ a) b p q = let h = both (digitByte x) (every a) p in rw (h .0) (every-append a b (h .1) q)
+every-append (x ∷ a) b p q = let h = and-eq-true-iff (digitByte x) (every a) .0 p in rw (h .0) (every-append a b (h .1) q)
 
 every-run : (s : List ℕ) → every (digitsAt s) ≡ true
 unfolding runLength
@@ -301,7 +300,7 @@ value-bound : (s : List ℕ) (v : ℕ) → every s ≡ true → valueFrom 10 v s
 unfolding valueFrom
 value-bound [] v e = rw (mul-one (v + 1)) (omega arith)
 value-bound (b ∷ s) v e =
-    let h = both (digitByte b) (every s) e in
+    let h = and-eq-true-iff (digitByte b) (every s) .0 e in
     let d = digit-bounds b (h .0) in
     let t : digitOf b ≡ b - 48 = digit-byte b (d .0) (d .1) in
     let r : valueFrom 10 (v * 10 + digitOf b) s < (v * 10 + digitOf b + 1) * 10 ^ length s = value-bound s (v * 10 + digitOf b) (h .1) in
@@ -312,7 +311,7 @@ value-bound (b ∷ s) v e =
 pub value-limit : (ds : List ℕ) (n : ℕ) → every ds ≡ true → significant ds ≤ n → valueFrom 10 0 ds < 10 ^ n
 unfolding valueFrom significant
 value-limit [] n e h = one-le-pow n 10 (omega arith)
-value-limit (b ∷ s) n e h = by (eqb b 48) refl (value-limit s n (both (digitByte b) (every s) e .1)) h
+value-limit (b ∷ s) n e h = by (eqb b 48) refl (value-limit s n (and-eq-true-iff (digitByte b) (every s) .0 e .1)) h
   where
     by : (t : Bool) → eqb b 48 ≡ t → (significant s ≤ n → valueFrom 10 0 s < 10 ^ n) → cond t (significant s) (length (b ∷ s)) ≤ n → valueFrom 10 (0 * 10 + digitOf b) s < 10 ^ n
     by true w r h =

@@ -9,7 +9,7 @@
 --     reduced-value                             the zeros cut off change no value
 use Prim.Native.Nat.{ℕ, zero, suc, _+_, _-_, _*_, _/_, _%_, _≤_, _<_, _^_}
 use mathlib.Core.Path.{_≡_, refl, sym, ap, _∙_}
-use mathlib.Core.Bool.{Bool, true, false, not, cond, Bool·beq, _&&_, _||_, and-false}
+use mathlib.Core.Bool.{Bool, true, false, not, cond, Bool·beq, _&&_, _||_, and-false, and-eq-true-iff}
 use mathlib.Core.List.{List, [], _∷_, _++_, append-assoc, append-nil}
 use native.Mathlib.Omega.{arith}
 use native.Mathlib.Nat.{pow-le-pow-right}
@@ -26,7 +26,6 @@ use Rattle.scan.proofs.Stores.{sets-on}
 use Rattle.numerals.specs.Written.{padded, decimalWidth}
 use Rattle.numerals.proofs.Writing.{padded-length}
 use Rattle.decimals.proofs.Values.{value-zero}
-use Rattle.decimals.proofs.Tests.{both}
 use Rattle.decimals.specs.declared.read.Digits.{Digits}
 use Rattle.decimals.specs.declared.size.Size.{Size}
 use Rattle.decimals.specs.Floats.{valueIn, sameExponent, sameFloat}
@@ -118,8 +117,8 @@ same-true (inf s) (fin t n d) h = let z : _≡_ {A = ℕ} 0 1 = cc in absurd (om
 same-true (fin s m e) nan h = let z : _≡_ {A = ℕ} 0 1 = cc in absurd (omega arith)
 same-true (fin s m e) (inf t) h = let z : _≡_ {A = ℕ} 0 1 = cc in absurd (omega arith)
 same-true (fin s m e) (fin t n d) h =
-    let a = both (Bool·beq s t && eqb m n) (sameExponent e d) h in
-    let b = both (Bool·beq s t) (eqb m n) (a .0) in
+    let a = and-eq-true-iff (Bool·beq s t && eqb m n) (sameExponent e d) .0 h in
+    let b = and-eq-true-iff (Bool·beq s t) (eqb m n) .0 (a .0) in
     rw (same-sign s t (b .0), eqb-true m n (b .1), same-exponent e d (a .1))
 
 pub same-itself : (x : Float) → isNan x ≡ false → sameFloat x x ≡ true
@@ -281,9 +280,9 @@ pub size-says : (s : Size) → isSize s ≡ true → IsSize s
 unfolding isSize
 size-says s e =
     let v : Bool = sameFloat (s .value) (valueIn binary32 (s .negative) (s .digits) (s .scale)) in
-    let x = both (leb (s .digits) 999999 && leb (s .scale) 10 && (eqb (s .scale) 0 || not (eqb (s .digits % 10) 0))) v e in
-    let y = both (leb (s .digits) 999999 && leb (s .scale) 10) (eqb (s .scale) 0 || not (eqb (s .digits % 10) 0)) (x .0) in
-    let z = both (leb (s .digits) 999999) (leb (s .scale) 10) (y .0) in
+    let x = and-eq-true-iff (leb (s .digits) 999999 && leb (s .scale) 10 && (eqb (s .scale) 0 || not (eqb (s .digits % 10) 0))) v .0 e in
+    let y = and-eq-true-iff (leb (s .digits) 999999 && leb (s .scale) 10) (eqb (s .scale) 0 || not (eqb (s .digits % 10) 0)) .0 (x .0) in
+    let z = and-eq-true-iff (leb (s .digits) 999999) (leb (s .scale) 10) .0 (y .0) in
     record {
       few = leb-true (s .digits) 999999 (z .0);
       near = leb-true (s .scale) 10 (z .1);

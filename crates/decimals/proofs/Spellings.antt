@@ -2,7 +2,7 @@
 --     read-back    the decimal that a spelling spells is the one that was spelled
 use Prim.Native.Nat.{ℕ, suc, _+_, _-_, _*_, _/_, _%_, _≤_, _<_, _^_}
 use mathlib.Core.Path.{_≡_, refl, ap, _∙_}
-use mathlib.Core.Bool.{Bool, true, false, cond}
+use mathlib.Core.Bool.{Bool, true, false, cond, and-eq-true-iff}
 use mathlib.Core.List.{List, [], _∷_, _++_, append-assoc, append-nil}
 use native.Mathlib.Omega.{arith}
 use native.Mathlib.Nat.{add-mul, mul-assoc, mul-comm, mul-left-comm, pow-suc, pow-le-pow-right, one-le-pow, mod-lt, div-add-mod', div-le-self, mul-le-mul-right}
@@ -16,7 +16,6 @@ use Rattle.numerals.specs.Numerals.{valueFrom, digitOf}
 use Rattle.numerals.specs.Written.{padded, decimalWidth}
 use Rattle.numerals.proofs.Numerals.{value-append, digit-byte}
 use Rattle.numerals.proofs.Writing.{padded-length, padded-byte, padded-value, width-fits, width-some}
-use Rattle.decimals.proofs.Tests.{both}
 use Rattle.decimals.specs.declared.read.Decimal.the-variants.{Is}
 use Rattle.decimals.specs.Decimal.{fraction, afterFraction, allDigits, restOf, scaleOf, digitsAt, afterDigits, significant, limited, unsignedDecimal, decimalOf}
 use Rattle.decimals.specs.Size.{spelled, spelling}
@@ -37,7 +36,7 @@ every-padded w n = every-bytes (padded 10 w n) (λ k l. padded-byte w n k (omega
 run-split : (a b : List ℕ) → every a ≡ true → runLength digitByte b ≡ 0 → runLength digitByte (a ++ b) ≡ length a
 unfolding runLength
 run-split [] b e z = z
-run-split (x ∷ a) b e z = let h = both (digitByte x) (every a) e in rw (h .0, run-split a b (h .1) z)
+run-split (x ∷ a) b e z = let h = and-eq-true-iff (digitByte x) (every a) .0 e in rw (h .0, run-split a b (h .1) z)
 
 digits-split : (a b : List ℕ) → every a ≡ true → runLength digitByte b ≡ 0 → (digitsAt (a ++ b) ≡ a) × (afterDigits (a ++ b) ≡ b)
 digits-split a b e z = (rw (run-split a b e z) (take-append-seam a b), rw (run-split a b e z) (drop-append-seam a b))
@@ -66,7 +65,7 @@ few-digits [] n e h = omega arith
 few-digits (b ∷ s) n e h = by (eqb b 48) refl (few-digits s n (q .1))
   where
     q : (digitByte b ≡ true) × (every s ≡ true)
-    q = both (digitByte b) (every s) e
+    q = and-eq-true-iff (digitByte b) (every s) .0 e
 
     d : digitOf b ≡ b - 48
     d = let k = digit-bounds b (q .0) in digit-byte b (k .0) (k .1)

@@ -5,7 +5,7 @@
 --     cut-high, cut-low, cut-none, cut-whole, cut-minus   the float as an i64, by those comparisons
 use Prim.Native.Nat.{ℕ, zero, suc, _+_, _-_, _*_, _/_, _%_, _^_, _≤_, _<_, min}
 use mathlib.Core.Path.{_≡_, refl, sym, ap, _∙_}
-use mathlib.Core.Bool.{Bool, true, false, not, cond, _&&_, _||_, and-true, or-true}
+use mathlib.Core.Bool.{Bool, true, false, not, cond, _&&_, _||_, and-true, or-true, true≢false}
 use native.Mathlib.Omega.{arith}
 use native.Mathlib.Nat.{lt-of-not-le, add-sub-of-le, mod-lt, mod-eq-of-lt, mul-assoc, mul-div-cancel, lt-irrefl, lt-of-lt-of-le, le-trans, le-of-eq, mul-one, one-mul, mul-pos, mul-comm, mul-right-comm, mul-le-mul-right, mul-lt-mul-of-pos-right, lt-of-mul-lt-mul-right, le-of-mul-le-mul-right, le-div-iff-mul-le, div-lt-iff-lt-mul}
 use lib.IntN.{ℤ, pos, negsuc, negℤ}
@@ -22,7 +22,6 @@ use lib.Ieee.Scale.{finite}
 use mir.Syntax.{w64}
 use mir.Val.{SFits}
 use borrow.Author.Tests.{leb-true, leb-false, lt-ltb, le-ltb, eq-eqb, ne-eqb, eqb-true, eqb-false}
-use Rattle.decimals.proofs.Tests.{no}
 use Rattle.decimals.specs.Steps.{Middling}
 
 -- ---- the whole part, without its sign
@@ -93,10 +92,10 @@ module _ (h : ℕ) where
 -- ---- between 1 and 2 ^ 63
 pub middling : (x : Float) → reaches 0 x ≡ true → reaches 63 x ≡ false → Middling x
 unfolding lt
-middling nan a b = no (sym a)
-middling (inf true) a b = no (sym a)
-middling (inf false) a b = no b
-middling (fin true m e) a b = no (sym a)
+middling nan a b = absurd (true≢false (sym a))
+middling (inf true) a b = absurd (true≢false (sym a))
+middling (inf false) a b = absurd (true≢false b)
+middling (fin true m e) a b = absurd (true≢false (sym a))
 middling (fin false m e) a b = record {
   large = rw (at-least 0 (fin false m e), a) tt;
   small =
@@ -113,25 +112,25 @@ not-nan (fin s m e) g = tt
 -- ---- as an i64
 pub cut-high : (x : Float) → reaches 63 x ≡ true → pos 9223372036854775807 ≡ toSigned 63 x
 unfolding toSigned
-cut-high nan a = no (sym a)
-cut-high (inf true) a = no (sym a)
+cut-high nan a = absurd (true≢false (sym a))
+cut-high (inf true) a = absurd (true≢false (sym a))
 cut-high (inf false) a = refl
-cut-high (fin true m e) a = no (sym a)
+cut-high (fin true m e) a = absurd (true≢false (sym a))
 cut-high (fin false m e) a = let z : 9223372036854775807 ≡ min (wholeOf m e) (2 ^ 63 - 1) = omega (arith, leb-true (2 ^ 63) (wholeOf m e) a) in ap pos z
 
 pub cut-low : (x : Float) → reaches 63 (neg x) ≡ true → negsuc 9223372036854775807 ≡ toSigned 63 x
 unfolding toSigned neg
-cut-low nan a = no (sym a)
+cut-low nan a = absurd (true≢false (sym a))
 cut-low (inf true) a = refl
-cut-low (inf false) a = no (sym a)
+cut-low (inf false) a = absurd (true≢false (sym a))
 cut-low (fin true m e) a = let z : 9223372036854775808 ≡ min (wholeOf m e) (2 ^ 63) = omega (arith, leb-true (2 ^ 63) (wholeOf m e) a) in ap (λ (k : ℕ). negℤ (pos k)) z
-cut-low (fin false m e) a = no (sym a)
+cut-low (fin false m e) a = absurd (true≢false (sym a))
 
 pub cut-none : (x : Float) → reaches 0 x ≡ false → reaches 0 (neg x) ≡ false → pos 0 ≡ toSigned 63 x
 unfolding toSigned neg
 cut-none nan a b = refl
-cut-none (inf true) a b = no b
-cut-none (inf false) a b = no a
+cut-none (inf true) a b = absurd (true≢false b)
+cut-none (inf false) a b = absurd (true≢false a)
 cut-none (fin true m e) a b = let z : 0 ≡ min (wholeOf m e) (2 ^ 63) = omega (arith, leb-false (2 ^ 0) (wholeOf m e) b) in ap (λ (k : ℕ). negℤ (pos k)) z
 cut-none (fin false m e) a b = let z : 0 ≡ min (wholeOf m e) (2 ^ 63 - 1) = omega (arith, leb-false (2 ^ 0) (wholeOf m e) a) in ap pos z
 
@@ -142,10 +141,10 @@ pub record Cut (z : ℤ) (r : ℕ) (x : Float) : Type 0 where
 
 pub cut-whole : (x : Float) {r : ℕ} → reaches 0 x ≡ true → reaches 63 x ≡ false → r ≡ toUnsigned 64 x → Cut (pos r) r x
 unfolding toSigned toUnsigned
-cut-whole nan a b w = no (sym a)
-cut-whole (inf true) a b w = no (sym a)
-cut-whole (inf false) a b w = no b
-cut-whole (fin true m e) a b w = no (sym a)
+cut-whole nan a b w = absurd (true≢false (sym a))
+cut-whole (inf true) a b w = absurd (true≢false (sym a))
+cut-whole (inf false) a b w = absurd (true≢false b)
+cut-whole (fin true m e) a b w = absurd (true≢false (sym a))
 cut-whole (fin false m e) {r} a b w =
     let l : wholeOf m e < 2 ^ 63 = leb-false (2 ^ 63) (wholeOf m e) b in
     let z : r ≡ min (wholeOf m e) (2 ^ 63 - 1) = omega arith in
@@ -153,14 +152,14 @@ cut-whole (fin false m e) {r} a b w =
 
 pub cut-minus : (x : Float) {r : ℕ} → reaches 0 (neg x) ≡ true → reaches 63 (neg x) ≡ false → r ≡ toUnsigned 64 (neg x) → Cut (negℤ (pos r)) r x
 unfolding toSigned toUnsigned neg
-cut-minus nan a b w = no (sym a)
-cut-minus (inf true) a b w = no b
-cut-minus (inf false) a b w = no (sym a)
+cut-minus nan a b w = absurd (true≢false (sym a))
+cut-minus (inf true) a b w = absurd (true≢false b)
+cut-minus (inf false) a b w = absurd (true≢false (sym a))
 cut-minus (fin true m e) {r} a b w =
     let l : wholeOf m e < 2 ^ 63 = leb-false (2 ^ 63) (wholeOf m e) b in
     let z : r ≡ min (wholeOf m e) (2 ^ 63) = omega arith in
     record { small = omega arith; is = ap (λ (k : ℕ). negℤ (pos k)) z }
-cut-minus (fin false m e) a b w = no (sym a)
+cut-minus (fin false m e) a b w = absurd (true≢false (sym a))
 
 pub minus-fits : (r : ℕ) → r < 2 ^ 63 → SFits w64 (negℤ (pos r))
 minus-fits zero h = record { sfits = pow-pos 63 }
@@ -196,7 +195,7 @@ unfolding le lt
 not-finite nan n g = g .large
 not-finite (inf true) n g = g .large
 not-finite (inf false) n g = g .small
-not-finite (fin s m e) n g = no n
+not-finite (fin s m e) n g = absurd (true≢false n)
 
 no-field : (t : ℕ) → t < 2 ^ 52 → 2 ^ 1074 ≤ t * 2 ^ 0 → ⊥
 no-field t h k = absurd (lt-irrefl t (lt-of-lt-of-le h (le-trans (pow-mono wide) (le-trans k (le-of-eq (mul-one t))))))

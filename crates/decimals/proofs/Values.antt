@@ -5,7 +5,7 @@
 --     value-zero      a zero at a decimal's end changes nothing
 use Prim.Native.Nat.{ℕ, zero, suc, _+_, _*_, _^_, _≤_, _<_}
 use mathlib.Core.Path.{_≡_, refl, sym, ap, _∙_}
-use mathlib.Core.Bool.{Bool, true, false, not, cond, _&&_}
+use mathlib.Core.Bool.{Bool, true, false, not, cond, _&&_, and-eq-true-iff}
 use mathlib.Core.List.{List, [], _∷_}
 use native.Mathlib.Omega.{arith}
 use native.Mathlib.Nat.{mul-one, mul-comm, mul-assoc, mul-left-comm, mul-pos, add-zero, one-le-pow, pow-suc, zero-mul}
@@ -18,7 +18,6 @@ use lib.Ieee.Exact.{HasValue}
 use lib.Ieee.Fits.{down-pos}
 use lib.Ieee.Scale.{round-same}
 use borrow.Author.Tests.{eqb-true, ne-eqb}
-use Rattle.decimals.proofs.Tests.{both}
 use Rattle.decimals.specs.Floats.{valueIn}
 
 -- ---- the quotient of two whole numbers
@@ -59,10 +58,10 @@ powersFrom k (x ∷ t) = isWhole x (10 ^ k) && powersFrom (suc k) t
 
 power-at : (t : List Float) (k i : ℕ) → powersFrom k t ≡ true → i < length t → HasValue (getD t i nan) false (10 ^ (k + i)) 1
 power-at [] k i e h = absurd (omega arith)
-power-at (x ∷ t) k zero e h = rw (add-zero k) (is-whole x (10 ^ k) (both (isWhole x (10 ^ k)) (powersFrom (suc k) t) e .0))
+power-at (x ∷ t) k zero e h = rw (add-zero k) (is-whole x (10 ^ k) (and-eq-true-iff (isWhole x (10 ^ k)) (powersFrom (suc k) t) .0 e .0))
 power-at (x ∷ t) k (suc i) e h =
     let g : k + suc i ≡ suc k + i = omega arith in
-    rw g (power-at t (suc k) i (both (isWhole x (10 ^ k)) (powersFrom (suc k) t) e .1) (omega arith))
+    rw g (power-at t (suc k) i (and-eq-true-iff (isWhole x (10 ^ k)) (powersFrom (suc k) t) .0 e .1) (omega arith))
 
 -- the program's tables: 1, 10, 100, .. as floats, as many as are exact
 abbrev tensFrom : Format → ℕ → ℕ → List Float

@@ -20,9 +20,6 @@ pub by-test : {A : Type 0} (t : Bool) → (t ≡ true → A) → (t ≡ false �
 by-test true f g = f refl
 by-test false f g = g refl
 
-both : (a b : Bool) → a && b ≡ true → (a ≡ true) × (b ≡ true)
-both a b h = and-eq-true-iff a b .0 h
-
 either : {A : Type 0} (a b : Bool) → a || b ≡ true → (a ≡ true → A) → (b ≡ true → A) → A
 either true b h f g = f refl
 either false b h f g = g h
@@ -38,10 +35,10 @@ pub above-range : (b low high : ℕ) → high < b → within b (low to high) ≡
 above-range b low high h = rw (lt-leb b high h) (and-false (leb low b))
 
 pub range-low : (b low high : ℕ) → within b (low to high) ≡ true → low ≤ b
-range-low b low high h = leb-true low b (both (leb low b) (leb b high) h .0)
+range-low b low high h = leb-true low b (and-eq-true-iff (leb low b) (leb b high) .0 h .0)
 
 pub range-high : (b low high : ℕ) → within b (low to high) ≡ true → b ≤ high
-range-high b low high h = leb-true b high (both (leb low b) (leb b high) h .1)
+range-high b low high h = leb-true b high (and-eq-true-iff (leb low b) (leb b high) .0 h .1)
 
 -- ---- a row at a place
 module _ (s : List ℕ) (p : ℕ) (r : Range) (rs : List Range) where
@@ -56,8 +53,8 @@ module _ (s : List ℕ) (p : ℕ) (r : Range) (rs : List Range) where
   pub fits-first : fitsAt s p (r ∷ rs) ≡ true → (p < length s) × (within (getD s p 0) r ≡ true) × (fitsAt s (p + 1) rs ≡ true)
   unfolding fitsAt
   fits-first h =
-      let a = both (ltb p (length s) && within (getD s p 0) r) (fitsAt s (p + 1) rs) h in
-      let b = both (ltb p (length s)) (within (getD s p 0) r) (a .0) in
+      let a = and-eq-true-iff (ltb p (length s) && within (getD s p 0) r) (fitsAt s (p + 1) rs) .0 h in
+      let b = and-eq-true-iff (ltb p (length s)) (within (getD s p 0) r) .0 (a .0) in
       (ltb-true p (length s) (b .0), b .1, a .1)
 
 fits-none : (s : List ℕ) (p : ℕ) → fitsAt s p [] ≡ true
@@ -121,7 +118,7 @@ module _ (s : List ℕ) (p : ℕ) where
   first-none r [] a g = refl
   first-none r ([] ∷ rows) a g = absurd (true≢false (sym a))
   first-none r ((q ∷ qs) ∷ rows) a g =
-      let d = both (apart r q) (alone r rows) a in
+      let d = and-eq-true-iff (apart r q) (alone r rows) .0 a in
       first-skip (q ∷ qs) rows (fits-not s p q qs (apart-not (getD s p 0) q r (d .0) g)) ∙ first-none r rows (d .1) g
 
   -- the one row that can fit
@@ -131,7 +128,7 @@ module _ (s : List ℕ) (p : ℕ) where
   first-only [] after r rs a b h g = rw (fits-in s p r rs h g, first-none r after b g)
   first-only ([] ∷ before) after r rs a b h g = absurd (true≢false (sym a))
   first-only ((q ∷ qs) ∷ before) after r rs a b h g =
-      let d = both (apart r q) (alone r before) a in
+      let d = and-eq-true-iff (apart r q) (alone r before) .0 a in
       first-skip (q ∷ qs) (before ++ (r ∷ rs) ∷ after) (fits-not s p q qs (apart-not (getD s p 0) q r (d .0) g)) ∙ first-only before after r rs (d .1) b h g
 
   pub at-row : (i : ℕ) (r : Range) (rs : List Range) → table ≡ take i table ++ (r ∷ rs) ∷ drop (suc i) table → alone r (take i table) ≡ true → alone r (drop (suc i) table) ≡ true
@@ -154,7 +151,7 @@ module _ (s : List ℕ) (p : ℕ) where
   unfolding firstFit
   first-short [] d = omega arith
   first-short (row ∷ rows) d =
-      let e = both (leb (length row) 4) (short rows) d in
+      let e = and-eq-true-iff (leb (length row) 4) (short rows) .0 d in
       by-test (fitsAt s p row) (λ f. rw (first-here s p row rows f) (leb-true (length row) 4 (e .0))) (λ f. rw (first-skip s p row rows f) (first-short rows (e .1)))
 
   first-within : (rows : List (List Range)) → p ≤ length s → p + firstFit s p rows ≤ length s
@@ -187,7 +184,7 @@ module _ (s t : List ℕ) (p q n : ℕ) (l : 0 < n) (h : q + n ≤ length t) (e 
   first-same [] d w = w
   first-same ([] ∷ rows) d w = absurd (true≢false (sym d))
   first-same ((r ∷ rs) ∷ rows) d w =
-      let a = both (alone r rows) (disjoint rows) d in
+      let a = and-eq-true-iff (alone r rows) (disjoint rows) .0 d in
       by-test (fitsAt s p (r ∷ rs))
       (λ f. let m : length (r ∷ rs) ≡ n = sym (first-here s p (r ∷ rs) rows f) ∙ w in first-here t q (r ∷ rs) rows (row-same (r ∷ rs) m f) ∙ m)
       (λ f.
@@ -365,10 +362,10 @@ module _ (s : List ℕ) where
   fits-high : (p : ℕ) (rs : List Range) → high rs ≡ true → fitsAt s p rs ≡ true → (i : ℕ) → i < length rs → 128 ≤ getD s (p + i) 0
   fits-high p [] d f i l = absurd (omega arith)
   fits-high p ((a to b) ∷ rs) d f zero l =
-      let e = both (leb 128 a) (high rs) d in
+      let e = and-eq-true-iff (leb 128 a) (high rs) .0 d in
       rw (add-zero p) (omega (arith, leb-true 128 a (e .0), range-low (getD s p 0) a b (fits-first s p (a to b) rs f .1)))
   fits-high p ((a to b) ∷ rs) d f (suc i) l =
-      let e = both (leb 128 a) (high rs) d in
+      let e = and-eq-true-iff (leb 128 a) (high rs) .0 d in
       let z : p + suc i ≡ p + 1 + i = omega arith in
       rw z (fits-high (p + 1) rs (e .1) (fits-first s p (a to b) rs f .2) i (omega arith))
 
@@ -377,7 +374,7 @@ module _ (s : List ℕ) where
   first-high p [] d h i l = absurd (omega arith)
   first-high p ([] ∷ rows) d h i l = absurd (omega (arith, rw (first-here s p [] rows (fits-none s p)) at l))
   first-high p (((a to b) ∷ rs) ∷ rows) d h i l =
-      let e = both (ltb b 128 || high ((a to b) ∷ rs)) (clear rows) d in
+      let e = and-eq-true-iff (ltb b 128 || high ((a to b) ∷ rs)) (clear rows) .0 d in
       by-test (fitsAt s p ((a to b) ∷ rs))
       (λ f.
       either (ltb b 128) (high ((a to b) ∷ rs)) (e .0)
@@ -488,12 +485,12 @@ encode-short c = encoded (λ w. length w ≤ 4) c (λ h. omega arith) (λ h g. o
 pub scalar-small : (c : ℕ) → scalar c ≡ true → c < 0x110000
 unfolding scalar
 scalar-small c h =
-    either (ltb c 0xD800) (leb 0xE000 c && ltb c 0x110000) h (λ e. omega (arith, ltb-true c 0xD800 e)) (λ e. ltb-true c 0x110000 (both (leb 0xE000 c) (ltb c 0x110000) e .1))
+    either (ltb c 0xD800) (leb 0xE000 c && ltb c 0x110000) h (λ e. omega (arith, ltb-true c 0xD800 e)) (λ e. ltb-true c 0x110000 (and-eq-true-iff (leb 0xE000 c) (ltb c 0x110000) .0 e .1))
 
 pub scalar-apart : (c : ℕ) → scalar c ≡ true → 0xD800 ≤ c → 0xE000 ≤ c
 unfolding scalar
 scalar-apart c h g =
-    either (ltb c 0xD800) (leb 0xE000 c && ltb c 0x110000) h (λ e. absurd (omega (arith, ltb-true c 0xD800 e))) (λ e. leb-true 0xE000 c (both (leb 0xE000 c) (ltb c 0x110000) e .0))
+    either (ltb c 0xD800) (leb 0xE000 c && ltb c 0x110000) h (λ e. absurd (omega (arith, ltb-true c 0xD800 e))) (λ e. leb-true 0xE000 c (and-eq-true-iff (leb 0xE000 c) (ltb c 0x110000) .0 e .0))
 
 -- a character is read back from its bytes
 tail-bits : (x : ℕ) → (0x80 + x % 64) % 64 ≡ x % 64
