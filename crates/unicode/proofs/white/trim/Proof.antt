@@ -11,10 +11,14 @@ white-start-requires : tie.Need-white-start-requires
 white-start-requires c κs = search needs
 
 returns : tie.Need-returns
-returns c = trimmed-empty (c .before .before .before .before .args .src .now) _ _ (c .before .before .white-end .ensures) (c .before .white-start .ensures .0) (c .if1 .taken)
+returns c =
+    let c4 = c .before .before .before .before in
+    trimmed-empty (c4 .args .src .now) _ _ (c .before .before .white-end .ensures) (c .before .white-start .ensures .0) (c .if1 .taken)
 
 returns-2 : tie.Need-returns-2
-returns-2 c = trimmed-some (c .before .before .before .before .args .src .now) _ _ (c .before .before .white-end .ensures) (c .before .white-start .ensures .0) (c .if1 .left)
+returns-2 c =
+    let c4 = c .before .before .before .before in
+    trimmed-some (c4 .args .src .now) _ _ (c .before .before .white-end .ensures) (c .before .white-start .ensures .0) (c .if1 .left)
 
 pub trim-spec : {M : Type 1} → statement M
 trim-spec = tie.close (tie.spec white-end-requires white-start-requires returns returns-2)

@@ -58,10 +58,12 @@ loop-less c = search needs
 
 loop-again : tie.Need-loop-again Inv-loop μ-loop
 loop-again c =
-    let b = c .before .before .before .before in
+    let c4 = c .before .before .before .before in
+    let b = c4 in
     let a = b .before .before .before in
     let m : 5 - b .loop .k - 1 ≡ 5 - (b .loop .k + 1) = omega arith in
-    let on = endsWith-on (a .args .src .now) (a .args .end) (b .loop .k) (5 - b .loop .k) (omega arith) (λ z. c .if5 .left (c .before .white-at .ensures .is ∙ z)) in
+    let on = endsWith-on (a .args .src .now) (a .args .end) (b .loop .k) (5 - b .loop .k) (omega arith) (λ z. c .if5 .left
+    (c .before .white-at .ensures .is ∙ z)) in
     (search needs, search needs, b .loop .inv .2 ∙ (on ∙ rw m))
 
 returns-4 : tie.Need-returns-4 Inv-loop μ-loop
