@@ -6,7 +6,8 @@ use Prim.Native.Nat.{ℕ, zero, suc, _+_, _-_, _*_, _/_, _%_, _≤_, _<_, _^_, c
 use mathlib.Core.Path.{_≡_, refl, sym, ap, subst, _∙_}
 use mathlib.Core.Bool.{Bool, true, false}
 use native.Mathlib.Omega.{arith}
-use native.Mathlib.Nat.{mul-comm, mul-assoc, mul-left-comm, mul-right-comm, mul-le-mul-right, one-le-pow, pow-le-pow-right, le-div-iff-mul-le, div-add-mod', mod-lt, mul-pos, suc-mul}
+use native.Mathlib.Nat.{mul-comm, mul-assoc, mul-left-comm, mul-right-comm, mul-le-mul-right, one-le-pow, pow-le-pow-right, le-div-iff-mul-le}
+use native.Mathlib.Nat.{div-add-mod', mod-lt, mul-pos, suc-mul}
 use native.Mathlib.Nat.{mul-one, zero-mul, mul-mod-left, pow-suc, add-mul, mul-le-mul-left, mul-div-cancel, le-of-mul-le-mul-right}
 use lib.Dec.{eqb, leb, lit≤, ltb→lt}
 use lib.Pow.{pow-add, pow-pos}
@@ -181,7 +182,8 @@ module _ (s : Size) (i : IsSize s) where
           by true e = rw (zero-multiple (eqb-true (s .digits) 0 e)) (ltb→lt 0 (overflow binary32) tt)
           by false e =
               let n = near-grid (s .digits) (10 ^ (s .scale)) (some (s .digits) (eqb-false (s .digits) 0 e)) power-some power-few .1 in
-              below multiple (10 ^ (s .scale)) (s .digits) (2 ^ 149) (overflow binary32) power-some n (i .few) (ltb→lt (1999998 * 2 ^ 149) (overflow binary32) tt)
+              below multiple (10 ^ (s .scale)) (s .digits) (2 ^ 149) (overflow binary32) power-some n (i .few)
+              (ltb→lt (1999998 * 2 ^ 149) (overflow binary32) tt)
 
 module _ (s t : Size) (i : IsSize s) (j : IsSize t) (e : s .value ≡ t .value) where
   same : (s .negative ≡ t .negative) × (multiple s i ≡ multiple t j)
@@ -220,8 +222,10 @@ module _ (s t : Size) (i : IsSize s) (j : IsSize t) (e : s .value ≡ t .value) 
         by (leb (s .scale) (t .scale)) refl h l
       where
         by : (r : Bool) → leb (s .scale) (t .scale) ≡ r
-            → s .digits * 10 ^ (t .scale) * 8388608 ≤ t .digits * 10 ^ (s .scale) * 8388608 + t .digits * 10 ^ (s .scale) + s .digits * 10 ^ (t .scale)
-            → t .digits * 10 ^ (s .scale) * 8388608 ≤ s .digits * 10 ^ (t .scale) * 8388608 + s .digits * 10 ^ (t .scale) + t .digits * 10 ^ (s .scale)
+            → s .digits * 10 ^ (t .scale) * 8388608
+            ≤ t .digits * 10 ^ (s .scale) * 8388608 + t .digits * 10 ^ (s .scale) + s .digits * 10 ^ (t .scale)
+            → t .digits * 10 ^ (s .scale) * 8388608
+            ≤ s .digits * 10 ^ (t .scale) * 8388608 + s .digits * 10 ^ (t .scale) + t .digits * 10 ^ (s .scale)
             → (s .scale ≡ t .scale) × (s .digits ≡ t .digits)
         by true r h l =
             let k : ℕ = t .scale - s .scale in

@@ -36,7 +36,8 @@ whole-div f (fin s m e) (fin t n d) a b v w h =
     let l : 0 < n * up d = rw q (mul-pos h (down-pos d)) in
     let z : n ≡ 0 → ⊥ = λ k. let g : n * up d ≡ 0 = rw k (zero-mul (up d)) in omega arith in
     rw (v .0, w .0, ne-eqb n 0 z)
-    (round-same f false (m * up e * down d) (n * up d * down e) a b (mul-pos l (down-pos e)) h (cross a b (m * up e) (n * up d) (down d) (down e) p q))
+    (round-same f false (m * up e * down d) (n * up d * down e) a b (mul-pos l (down-pos e)) h
+    (cross a b (m * up e) (n * up d) (down d) (down e) p q))
 
 -- ---- a table of powers of ten
 -- x is the whole number n
@@ -84,7 +85,8 @@ pub quotient : (f : Format) (n k : ℕ) → k < exactTens f → n ≤ 2 ^ prec f
 unfolding ofInt
 quotient f n k h l =
     let z : 0 + k ≡ k = omega arith in
-    whole-div f (round f false n 1) (getD (tens f) k nan) n (10 ^ k) (round-whole f false n l) (rw z at (power-at (tens f) 0 k (tens-exact f .0) (omega (arith, tens-exact f .1)))) (one-le-pow k 10 (omega arith))
+    whole-div f (round f false n 1) (getD (tens f) k nan) n (10 ^ k) (round-whole f false n l)
+    (rw z at (power-at (tens f) 0 k (tens-exact f .0) (omega (arith, tens-exact f .1)))) (one-le-pow k 10 (omega arith))
 
 -- ---- the sign
 odd-neg : (d : ℕ) (s : Bool) (q k l : ℕ) → neg (odd d s q k l) ≡ odd d (not s) q k l
@@ -104,7 +106,8 @@ pub round-neg : (f : Format) (s : Bool) (a b : ℕ) → neg (round f s a b) ≡ 
 unfolding round
 round-neg f s a b = units-neg f s _ _
 
-pub minus-quotient : (f : Format) (n k : ℕ) → k < exactTens f → n ≤ 2 ^ prec f → neg (div f (ofInt f (pos n)) (getD (tens f) k nan)) ≡ valueIn f true n k
+pub minus-quotient : (f : Format) (n k : ℕ) → k < exactTens f → n ≤ 2 ^ prec f
+    → neg (div f (ofInt f (pos n)) (getD (tens f) k nan)) ≡ valueIn f true n k
 minus-quotient f n k h l = ap neg (quotient f n k h l) ∙ round-neg f false n (10 ^ k)
 
 -- ---- a zero at the end behind the point

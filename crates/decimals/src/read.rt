@@ -112,7 +112,8 @@ fn limit(
     decimals: usize,
 ) -> Decimal
     requires { ⌜ Digital (now text) whole from × (digits ≤ 18) × (decimals < 2 ^ 32) ⌝ }
-    ensures { λ r. ⌜ r ≡ limited negative (take whole (now (text .entry)) ++ drop from (now (text .entry))) (length (now (text .entry)) - from) digits decimals ⌝ }
+    ensures { λ r. ⌜ r ≡ limited negative (take whole (now (text .entry)) ++ drop from (now (text .entry)))
+        (length (now (text .entry)) - from) digits decimals ⌝ }
 {
     let scale = text.len() - from;
     if decimals < scale {

@@ -13,7 +13,8 @@ use lib.Dec.{leb}
 use borrow.Author.Tests.{leb-true, le-leb}
 use Rattle.unicode.specs.Utf8.{Range, _to_, within, table, fitsAt, firstFit, sequenceAt, WellFormed, Utf8, empty, sequence, encode, charAt}
 use Rattle.unicode.specs.Utf8.{FirstChars, taken, ended, next}
-use Rattle.unicode.proofs.Utf8Laws.{by-test, range-low, range-high, fits-first, encode-1, encode-2, encode-3, encode-4, sequence-none, utf8-one, utf8-rest}
+use Rattle.unicode.proofs.Utf8Laws.{by-test, range-low, range-high, fits-first, encode-1, encode-2, encode-3, encode-4, sequence-none}
+use Rattle.unicode.proofs.Utf8Laws.{utf8-one, utf8-rest}
 use Rattle.unicode.proofs.Boundaries.{Inside, well-inside}
 
 -- ---- the row that a sequence fits
@@ -93,7 +94,6 @@ module _ (p q r t : ℕ) (a : 0xF0 ≤ p) (b : p ≤ 0xF4) (c : 0x80 ≤ q) (d :
   same-4 : 0x10000 ≤ char-4 → encode (p % 8 * 262144 + q % 64 * 4096 + r % 64 * 64 + t % 64) ≡ p ∷ q ∷ r ∷ t ∷ []
   unfolding char-4
   same-4 h =
-
       let n = four-bits (p % 8) (q % 64) (r % 64) (t % 64) (small q 64 (omega arith)) (small r 64 (omega arith)) (small t 64 (omega arith)) in
       encode-4 char-4 h ∙ rw (n .0, n .1, n .2, n .3, lead-4 p a (omega arith), tail q c d, tail r e f, tail t g k)
 
@@ -124,7 +124,8 @@ module _ (P : List ℕ → Type 0) where
       k p q r (a .1) (b .1) (fits-first (p ∷ q ∷ r ∷ []) 2 l [] (b .2) .1)
   bytes-3 i j l k (p ∷ q ∷ r ∷ t ∷ w) e f = absurd (omega arith)
 
-  bytes-4 : (i j l m : Range) → ((p q r t : ℕ) → within p i ≡ true → within q j ≡ true → within r l ≡ true → within t m ≡ true → P (p ∷ q ∷ r ∷ t ∷ []))
+  bytes-4 : (i j l m : Range)
+      → ((p q r t : ℕ) → within p i ≡ true → within q j ≡ true → within r l ≡ true → within t m ≡ true → P (p ∷ q ∷ r ∷ t ∷ []))
       → (w : List ℕ) → length w ≡ 4 → fitsAt w 0 (i ∷ j ∷ l ∷ m ∷ []) ≡ true → P w
   bytes-4 i j l m k [] e f = absurd (omega arith)
   bytes-4 i j l m k (p ∷ []) e f = absurd (omega arith)
@@ -183,17 +184,34 @@ module _ (a b c d : ℕ) where
 pub encode-char : (w : List ℕ) → WellFormed w → encode (charAt w 0 (length w)) ≡ w
 unfolding Back each sequenceAt
 encode-char w v =
-    by-rows (Back w) w (v .some-byte) table
-    (back-1 w,
-    (back-2 w,
-    (back-3 0xE0 0xE0 0xA0 0xBF (omega arith) (omega arith) (omega arith) (omega arith) (λ p q a b c d. omega arith) w,
-    (back-3 0xE1 0xEC 0x80 0xBF (omega arith) (omega arith) (omega arith) (omega arith) (λ p q a b c d. omega arith) w,
-    (back-3 0xED 0xED 0x80 0x9F (omega arith) (omega arith) (omega arith) (omega arith) (λ p q a b c d. omega arith) w,
-    (back-3 0xEE 0xEF 0x80 0xBF (omega arith) (omega arith) (omega arith) (omega arith) (λ p q a b c d. omega arith) w,
-    (back-4 0xF0 0xF0 0x90 0xBF (omega arith) (omega arith) (omega arith) (omega arith) (λ p q a b c d. omega arith) w,
-    (back-4 0xF1 0xF3 0x80 0xBF (omega arith) (omega arith) (omega arith) (omega arith) (λ p q a b c d. omega arith) w,
-    (back-4 0xF4 0xF4 0x80 0x8F (omega arith) (omega arith) (omega arith) (omega arith) (λ p q a b c d. omega arith) w,
-    tt)))))))))
+    by-rows (Back w) w (v .some-byte) table (
+      back-1 w,
+      (
+        back-2 w,
+        (
+          back-3 0xE0 0xE0 0xA0 0xBF (omega arith) (omega arith) (omega arith) (omega arith) (λ p q a b c d. omega arith) w,
+          (
+            back-3 0xE1 0xEC 0x80 0xBF (omega arith) (omega arith) (omega arith) (omega arith) (λ p q a b c d. omega arith) w,
+            (
+              back-3 0xED 0xED 0x80 0x9F (omega arith) (omega arith) (omega arith) (omega arith) (λ p q a b c d. omega arith) w,
+              (
+                back-3 0xEE 0xEF 0x80 0xBF (omega arith) (omega arith) (omega arith) (omega arith) (λ p q a b c d. omega arith) w,
+                (
+                  back-4 0xF0 0xF0 0x90 0xBF (omega arith) (omega arith) (omega arith) (omega arith) (λ p q a b c d. omega arith) w,
+                  (
+                    back-4 0xF1 0xF3 0x80 0xBF (omega arith) (omega arith) (omega arith) (omega arith) (λ p q a b c d. omega arith) w,
+                    (
+                      back-4 0xF4 0xF4 0x80 0x8F (omega arith) (omega arith) (omega arith) (omega arith) (λ p q a b c d. omega arith) w,
+                      tt,
+                    ),
+                  ),
+                ),
+              ),
+            ),
+          ),
+        ),
+      ),
+    )
     (v .whole)
 
 -- ---- the first characters of a text

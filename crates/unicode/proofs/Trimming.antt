@@ -10,7 +10,8 @@ use mathlib.Core.List.{List, [], _∷_, _++_, append-assoc, append-nil}
 use native.Mathlib.Omega.{arith}
 use native.Mathlib.Nat.{add-zero, zero-add, sub-zero, max-eq-left, max-eq-right}
 use lib.ListN.{length, getD, take, drop, length-append, length-drop, take-append-drop, List·getD-append}
-use lib.Seq.{length-take-le, take-length, drop-length, take-nil, take-append-seam, take-append-le, take-at, drop-append-seam, drop-append-le, drop-append-add, drop-drop, take-add}
+use lib.Seq.{length-take-le, take-length, drop-length, take-nil, take-append-seam, take-append-le, take-at, drop-append-seam, drop-append-le}
+use lib.Seq.{drop-append-add, drop-drop, take-add}
 use lib.Seq.{getD-append-add}
 use lib.Dec.{eqb, leb, ltb}
 use borrow.Author.Tests.{eqb-true, eqb-false, leb-true, leb-false, ltb-true, ltb-false}
@@ -21,7 +22,8 @@ use Rattle.unicode.specs.Steps.{WhiteEnd, whiteAt, endsWith, whiteBefore
 use Rattle.unicode.specs.White.{trimmed, Trimmed}
 use Rattle.unicode.proofs.Utf8Laws.{by-test, sequence-none, sequence-short, sequence-within, well-at, well-part, part-length, part-agrees}
 use Rattle.unicode.proofs.Boundaries.{sequence-inside}
-use Rattle.unicode.proofs.WhiteLaws.{whiteAt-white, whiteAt-visible, whiteAt-within, endsWith-here, endsWith-on, whiteBefore-low, whiteEnd-here, whiteEnd-on, whiteEnd-out}
+use Rattle.unicode.proofs.WhiteLaws.{whiteAt-white, whiteAt-visible, whiteAt-within, endsWith-here, endsWith-on, whiteBefore-low}
+use Rattle.unicode.proofs.WhiteLaws.{whiteEnd-here, whiteEnd-on, whiteEnd-out}
 use Rattle.unicode.proofs.WhiteLaws.{whiteEnd-high, whiteEnd-stops, whiteBack-here, whiteBack-on, whiteStart-low}
 
 -- ---- a character depends on its own bytes alone
@@ -83,7 +85,8 @@ module _ (s : List ℕ) (e : ℕ) where
   unfolding whiteBefore
   before-white h = ends-white 1 4 h
 
-  ends-to : (k n m : ℕ) → k ≤ m → m < k + n → m ≤ e → whiteAt s (e - m) ≡ m → ((j : ℕ) → k ≤ j → j < m → whiteAt s (e - j) ≡ j → ⊥) → endsWith s e k n ≡ m
+  ends-to : (k n m : ℕ) → k ≤ m → m < k + n → m ≤ e → whiteAt s (e - m) ≡ m → ((j : ℕ) → k ≤ j → j < m → whiteAt s (e - j) ≡ j → ⊥)
+      → endsWith s e k n ≡ m
   ends-to k zero m a b c d f = absurd (omega arith)
   ends-to k (suc n) m a b c d f =
       let o : suc n - 1 ≡ n = omega arith in
@@ -110,7 +113,8 @@ before-visible s e h g l u =
     let w : whiteAt s (e - k) ≡ k = before-white s e n in
     let low : k ≤ e = whiteBefore-low s e in
     by-test (eqb k 1)
-    (λ t. let o : k ≡ 1 = eqb-true k 1 t in let v : whiteAt s (e - 1) ≡ 1 = rw o at w in absurd (omega (arith, whiteAt-visible s (e - 1) (omega arith) l u)))
+    (λ t. let o : k ≡ 1 = eqb-true k 1 t in let v : whiteAt s (e - 1) ≡ 1 = rw o at w in
+    absurd (omega (arith, whiteAt-visible s (e - 1) (omega arith) l u)))
     (λ t.
     let o = eqb-false k 1 t in
     let q : sequenceAt s (e - k) ≡ k = white-sequence s (e - k) (λ y. n (sym w ∙ y)) .0 ∙ w in
@@ -136,7 +140,8 @@ unfolding whiteBack
 back-stops s zero k = omega (arith, whiteBefore-low s 0)
 back-stops s (suc e) (suc k) = back-stops s e k
 back-stops s (suc e) zero =
-    by-test (eqb (whiteBefore s (suc e)) 0) (λ t. rw t (eqb-true (whiteBefore s (suc e)) 0 t)) (λ t. rw t (back-stops s e (whiteBefore s (suc e) - 1)))
+    by-test (eqb (whiteBefore s (suc e)) 0) (λ t. rw t (eqb-true (whiteBefore s (suc e)) 0 t))
+    (λ t. rw t (back-stops s e (whiteBefore s (suc e) - 1)))
 
 -- ---- white-space characters from one place to another
 pub data Path (s : List ℕ) : ℕ → ℕ → Type 0 where
@@ -197,7 +202,8 @@ module _ (s : List ℕ) where
       let b : whiteBefore s (p + k) ≡ k = before-is s (p + k) k (omega (arith, n)) (omega arith) g (rw m) in
       path-back r g ∙ (whiteBack-on s (p + k) (λ z. n (sym b ∙ z)) ∙ rw (b, m))
 
-  back-more : (e : ℕ) → e ≤ length s → (whiteBefore s e ≡ 0 → ⊥) → Path s (whiteBack s (e - whiteBefore s e) 0) (e - whiteBefore s e) → Path s (whiteBack s e 0) e
+  back-more : (e : ℕ) → e ≤ length s → (whiteBefore s e ≡ 0 → ⊥) → Path s (whiteBack s (e - whiteBefore s e) 0) (e - whiteBefore s e)
+      → Path s (whiteBack s e 0) e
   back-more e h k r =
       let w : ℕ = whiteBefore s e in
       let l = whiteBefore-low s e in
@@ -211,7 +217,8 @@ module _ (s : List ℕ) where
   back-from (suc n) e b h =
       by-test (eqb (whiteBefore s e) 0)
       (λ w. rw (whiteBack-here s e (eqb-true (whiteBefore s e) 0 w)) here)
-      (λ w. let k = eqb-false (whiteBefore s e) 0 w in back-more e h k (back-from n (e - whiteBefore s e) (omega (arith, k, whiteBefore-low s e)) (omega arith)))
+      (λ w. let k = eqb-false (whiteBefore s e) 0 w in
+      back-more e h k (back-from n (e - whiteBefore s e) (omega (arith, k, whiteBefore-low s e)) (omega arith)))
 
   pub back-path : (e : ℕ) → e ≤ length s → Path s (whiteBack s e 0) e
   back-path e h = back-from e e (omega arith) h
@@ -278,7 +285,7 @@ module _ (s : List ℕ) where
       let e : ℕ = whiteStart s in
       let g : e ≤ length s = whiteStart-low s in
       let parts : s ≡ part 0 a s ++ (part a e s ++ part e (length s) s) =
-          sym whole-part ∙ part-join s 0 a (length s) (omega arith) (omega arith) ∙ ap (λ x. part 0 a s ++ x) (part-join s a e (length s) h g) in
+      sym whole-part ∙ part-join s 0 a (length s) (omega arith) (omega arith) ∙ ap (λ x. part 0 a s ++ x) (part-join s a e (length s) h g) in
       let front : length (part 0 a s) ≡ a = part-long 0 a (omega arith) (omega arith) ∙ sub-zero a in
       let long : length (part a e s) ≡ e - a = part-long a e h g in
       record {
@@ -364,13 +371,14 @@ module _ (s a t b : List ℕ) (e : s ≡ a ++ (t ++ b)) (white-a : WhiteSpace a)
     starts bare =
         let k : ℕ = whiteAt s (length a) in
         let fits : length a + k ≤ length a + length t =
-            stops-before s (length a) (length a + length t) (omega arith) (omega (arith, long)) (λ l. path-first s second-path l .0) in
+        stops-before s (length a) (length a + length t) (omega arith) (omega (arith, long)) (λ l. path-first s second-path l .0) in
         by-test (eqb k 0) (λ z. eqb-true k 0 z)
         (λ z.
         let c : WhiteCharacter (take k (t ++ b)) = rw rest at (white-part s (length a) k (omega (arith, long)) refl (eqb-false k 0 z)) in
         absurd (bare (take k t) (drop k t) (rw (take-append-le k t b (omega arith)) at c) (sym (take-append-drop k t))))
 
-    ends-inside : (k : ℕ) → k ≤ length t → (k ≡ 0 → ⊥) → whiteAt s (length a + length t - k) ≡ k → ((w r : List ℕ) → WhiteCharacter w → t ≡ r ++ w → ⊥) → ⊥
+    ends-inside : (k : ℕ) → k ≤ length t → (k ≡ 0 → ⊥) → whiteAt s (length a + length t - k) ≡ k
+        → ((w r : List ℕ) → WhiteCharacter w → t ≡ r ++ w → ⊥) → ⊥
     ends-inside k h n w bare =
         let m : ℕ = length t - k in
         let i : length a + length t - k ≡ length a + m = omega arith in

@@ -136,14 +136,17 @@ module _ (len : ℕ) (f : ℕ → Unit {0} → Next (Unit {0}) ℕ) (Stop : ℕ 
 
   placed-turn : (i : ℕ) → i < len → ((q : ℕ) → i < q → q ≤ len → Placed len Stop q (place q)) → Turned len f Stop i → Placed len Stop i (place i)
   unfolding place
-  placed-turn i h k (stop e t) = rw (loop-halt len f (λ i x. i) i tt i h e) (record { after = omega arith; within-text = omega arith; stops = λ l. t })
+  placed-turn i h k (stop e t) =
+      rw (loop-halt len f (λ i x. i) i tt i h e) (record { after = omega arith; within-text = omega arith; stops = λ l. t })
   placed-turn i h k (step q e l g) =
       let r : Placed len Stop q (place q) = k q l g in
       rw (loop-more len f (λ i x. i) i tt q tt h e l) (record { after = omega arith; within-text = r .within-text; stops = r .stops })
 
   placed : (n i : ℕ) → len ≤ i + n → i ≤ len → Placed len Stop i (place i)
   placed zero i b h = placed-out i (omega arith) h
-  placed (suc n) i b h = by-test (ltb i len) (λ t. placed-turn i (ltb-true i len t) (λ q l g. placed n q (omega arith) g) (turned i (ltb-true i len t))) (λ t. placed-out i (ltb-false i len t) h)
+  placed (suc n) i b h =
+      by-test (ltb i len) (λ t. placed-turn i (ltb-true i len t) (λ q l g. placed n q (omega arith) g) (turned i (ltb-true i len t)))
+      (λ t. placed-out i (ltb-false i len t) h)
 
 -- ---- white space from a place on
 module _ (s : List ℕ) (p : ℕ) where
@@ -170,7 +173,8 @@ unfolding whiteEnd place
 whiteEnd-placed s p h = placed (length s) (whiteTurn s) (λ r. whiteAt s r ≡ 0) (whiteTurned s) (length s) p (omega arith) h
 
 pub whiteEnd-low : (s : List ℕ) (p : ℕ) → p ≤ whiteEnd s p
-whiteEnd-low s p = by-test (leb p (length s)) (λ t. whiteEnd-placed s p (leb-true p (length s) t) .after) (λ t. omega (arith, whiteEnd-out s p (omega (arith, leb-false p (length s) t))))
+whiteEnd-low s p = by-test (leb p (length s)) (λ t. whiteEnd-placed s p (leb-true p (length s) t) .after)
+    (λ t. omega (arith, whiteEnd-out s p (omega (arith, leb-false p (length s) t))))
 
 pub whiteEnd-high : (s : List ℕ) (p : ℕ) → p ≤ length s → whiteEnd s p ≤ length s
 whiteEnd-high s p h = whiteEnd-placed s p h .within-text
@@ -206,7 +210,8 @@ module _ (s : List ℕ) where
   unfolding whiteBack
   whiteBack-low zero k = omega arith
   whiteBack-low (suc e) (suc k) = omega (arith, whiteBack-low e k)
-  whiteBack-low (suc e) zero = by-test (eqb (whiteBefore s (suc e)) 0) (λ t. rw t (omega arith)) (λ t. rw t (omega (arith, whiteBack-low e (whiteBefore s (suc e) - 1))))
+  whiteBack-low (suc e) zero = by-test (eqb (whiteBefore s (suc e)) 0) (λ t. rw t (omega arith))
+      (λ t. rw t (omega (arith, whiteBack-low e (whiteBefore s (suc e) - 1))))
 
   pub whiteStart-low : whiteStart s ≤ length s
   unfolding whiteStart
@@ -237,7 +242,8 @@ wordEnd-placed s p h = placed (length s) (wordTurn s) (λ r. whiteAt s r ≡ 0 �
 
 module _ (s : List ℕ) (p : ℕ) where
   pub wordEnd-low : p ≤ wordEnd s p
-  wordEnd-low = by-test (leb p (length s)) (λ t. wordEnd-placed s p (leb-true p (length s) t) .after) (λ t. omega (arith, wordEnd-out s p (omega (arith, leb-false p (length s) t))))
+  wordEnd-low = by-test (leb p (length s)) (λ t. wordEnd-placed s p (leb-true p (length s) t) .after)
+      (λ t. omega (arith, wordEnd-out s p (omega (arith, leb-false p (length s) t))))
 
   pub wordEnd-high : p ≤ length s → wordEnd s p ≤ length s
   wordEnd-high h = wordEnd-placed s p h .within-text
@@ -254,13 +260,16 @@ module _ (s : List ℕ) (p : ℕ) (ws : List (List ℕ)) where
   pub wordsFrom-none : length s ≤ whiteEnd s p → wordsFrom s p ws ≡ ws
   unfolding wordsFrom
   wordsFrom-none h =
-      by-test (ltb p (length s)) (λ t. loop-halt (length s) (wordsTurn s) (λ i ws. ws) p ws ws (ltb-true p (length s) t) (rw (le-ltb (whiteEnd s p) (length s) h)))
+      by-test (ltb p (length s))
+      (λ t. loop-halt (length s) (wordsTurn s) (λ i ws. ws) p ws ws (ltb-true p (length s) t) (rw (le-ltb (whiteEnd s p) (length s) h)))
       (λ t. loop-out (length s) (wordsTurn s) (λ i ws. ws) p ws (ltb-false p (length s) t))
 
-  pub wordsFrom-next : whiteEnd s p < length s → wordsFrom s p ws ≡ wordsFrom s (wordEnd s (whiteEnd s p)) (ws ++ (part (whiteEnd s p) (wordEnd s (whiteEnd s p)) s ∷ []))
+  pub wordsFrom-next : whiteEnd s p < length s
+      → wordsFrom s p ws ≡ wordsFrom s (wordEnd s (whiteEnd s p)) (ws ++ (part (whiteEnd s p) (wordEnd s (whiteEnd s p)) s ∷ []))
   unfolding wordsFrom
   wordsFrom-next h =
-      loop-more (length s) (wordsTurn s) (λ i ws. ws) p ws (wordEnd s (whiteEnd s p)) (ws ++ (part (whiteEnd s p) (wordEnd s (whiteEnd s p)) s ∷ [])) (omega (arith, whiteEnd-low s p)) (rw (lt-ltb (whiteEnd s p) (length s) h))
+      loop-more (length s) (wordsTurn s) (λ i ws. ws) p ws (wordEnd s (whiteEnd s p))
+      (ws ++ (part (whiteEnd s p) (wordEnd s (whiteEnd s p)) s ∷ [])) (omega (arith, whiteEnd-low s p)) (rw (lt-ltb (whiteEnd s p) (length s) h))
       (omega (arith, whiteEnd-low s p, wordEnd-some s (whiteEnd s p) h (whiteEnd-stops s p h)))
 
 words-none : (s : List ℕ) (p : ℕ) (ws : List (List ℕ)) → length s ≤ whiteEnd s p → wordsFrom s p ws ≡ ws ++ wordsFrom s p []
@@ -269,14 +278,18 @@ words-none s p ws o = wordsFrom-none s p ws o ∙ rw (wordsFrom-none s p [] o) (
 words-move : (s : List ℕ) (n p : ℕ) (ws : List (List ℕ)) → length s ≤ p + n → wordsFrom s p ws ≡ ws ++ wordsFrom s p []
 words-move s zero p ws b = words-none s p ws (omega (arith, whiteEnd-low s p))
 words-move s (suc n) p ws b =
-    by-test (ltb (whiteEnd s p) (length s)) (λ t. goes (ltb-true (whiteEnd s p) (length s) t) (λ l vs. words-move s n (wordEnd s (whiteEnd s p)) vs l))
+    by-test (ltb (whiteEnd s p) (length s))
+    (λ t. goes (ltb-true (whiteEnd s p) (length s) t) (λ l vs. words-move s n (wordEnd s (whiteEnd s p)) vs l))
     (λ t. words-none s p ws (ltb-false (whiteEnd s p) (length s) t))
   where
-    goes : whiteEnd s p < length s → (length s ≤ wordEnd s (whiteEnd s p) + n → (vs : List (List ℕ)) → wordsFrom s (wordEnd s (whiteEnd s p)) vs ≡ vs ++ wordsFrom s (wordEnd s (whiteEnd s p)) []) → wordsFrom s p ws ≡ ws ++ wordsFrom s p []
+    goes : whiteEnd s p < length s
+        → (length s ≤ wordEnd s (whiteEnd s p) + n → (vs : List (List ℕ))
+        → wordsFrom s (wordEnd s (whiteEnd s p)) vs ≡ vs ++ wordsFrom s (wordEnd s (whiteEnd s p)) []) → wordsFrom s p ws ≡ ws ++ wordsFrom s p []
     goes h k =
         let r = k (omega (arith, whiteEnd-low s p, wordEnd-some s (whiteEnd s p) h (whiteEnd-stops s p h))) in
         let w : List ℕ = part (whiteEnd s p) (wordEnd s (whiteEnd s p)) s in
-        rw (wordsFrom-next s p [] h, r (w ∷ [])) (wordsFrom-next s p ws h ∙ (r (ws ++ (w ∷ [])) ∙ append-assoc ws (w ∷ []) (wordsFrom s (wordEnd s (whiteEnd s p)) [])))
+        rw (wordsFrom-next s p [] h, r (w ∷ []))
+        (wordsFrom-next s p ws h ∙ (r (ws ++ (w ∷ [])) ∙ append-assoc ws (w ∷ []) (wordsFrom s (wordEnd s (whiteEnd s p)) [])))
 
 -- the words before a place stand first
 pub wordsFrom-after : (s : List ℕ) (p : ℕ) (ws : List (List ℕ)) → wordsFrom s p ws ≡ ws ++ wordsFrom s p []

@@ -14,9 +14,11 @@ use Rattle.unicode.specs.WhiteSpace.{WhiteCharacter, WhiteSpace, Bare, P
 use Rattle.unicode.specs.Steps.{WhiteEnd, whiteAt, whiteEnd, wordEnd, wordsFrom}
 use Rattle.unicode.specs.White.{words, WordAt}
 use Rattle.unicode.proofs.Utf8Laws.{by-test}
-use Rattle.unicode.proofs.WhiteLaws.{whiteAt-within, whiteEnd-here, whiteEnd-out, whiteEnd-low, whiteEnd-high, whiteEnd-stops, wordEnd-here, wordEnd-on, wordEnd-out}
+use Rattle.unicode.proofs.WhiteLaws.{whiteAt-within, whiteEnd-here, whiteEnd-out, whiteEnd-low, whiteEnd-high, whiteEnd-stops, wordEnd-here}
+use Rattle.unicode.proofs.WhiteLaws.{wordEnd-on, wordEnd-out}
 use Rattle.unicode.proofs.WhiteLaws.{wordEnd-low, wordEnd-high, wordEnd-stops, wordEnd-some, wordsFrom-none, wordsFrom-next, wordsFrom-after}
-use Rattle.unicode.proofs.Trimming.{there, part-long, whole-part, white-part, white-there, Path, end-path, path-end, path-space, space-path, part-join, stops-before}
+use Rattle.unicode.proofs.Trimming.{there, part-long, whole-part, white-part, white-there, Path, end-path, path-end, path-space, space-path}
+use Rattle.unicode.proofs.Trimming.{part-join, stops-before}
 
 -- ---- where a word ends
 module _ (s : List ℕ) where
@@ -33,7 +35,8 @@ module _ (s : List ℕ) where
   module _ (e : ℕ) (h : e ≤ length s) (stop : e < length s → whiteAt s e ≡ 0 → ⊥) where
     word-here : wordEnd s e ≡ e
     word-here =
-        by-test (ltb e (length s)) (λ t. let l = ltb-true e (length s) t in wordEnd-here s e l (stop l)) (λ t. wordEnd-out s e (ltb-false e (length s) t))
+        by-test (ltb e (length s)) (λ t. let l = ltb-true e (length s) t in wordEnd-here s e l (stop l))
+        (λ t. wordEnd-out s e (ltb-false e (length s) t))
 
     word-to : (n p : ℕ) → e ≤ p + n → p ≤ e → ((i : ℕ) → p ≤ i → i < e → whiteAt s i ≡ 0) → wordEnd s p ≡ e
     word-to zero p b g f = let z : p ≡ e = omega arith in rw z word-here
@@ -53,7 +56,8 @@ module _ (s : List ℕ) where
       by-test (ltb e (length s))
       (λ t.
       let k : ℕ = whiteAt s e in
-      subst Parted (take-append-drop k (drop e s)) (white (take k (drop e s)) (drop k (drop e s)) (white-part s e k h refl (stop (ltb-true e (length s) t)))))
+      subst Parted (take-append-drop k (drop e s))
+      (white (take k (drop e s)) (drop k (drop e s)) (white-part s e k h refl (stop (ltb-true e (length s) t)))))
       (λ t. let z : e ≡ length s = omega (arith, ltb-false e (length s) t) in rw (z, drop-length s) ends)
 
   bare : (a e : ℕ) → a < e → e ≤ length s → ((i : ℕ) → a ≤ i → i < e → whiteAt s i ≡ 0) → Bare (part a e s)
@@ -61,7 +65,8 @@ module _ (s : List ℕ) where
       let long : length (part a e s) ≡ e - a = part-long s a e (omega arith) g in
       let front : length (part 0 a s) ≡ a = part-long s 0 a (omega arith) (omega arith) ∙ sub-zero a in
       let parts : s ≡ part 0 a s ++ (part a e s ++ part e (length s) s) =
-          sym (whole-part s) ∙ part-join s 0 a (length s) (omega arith) (omega arith) ∙ ap (λ x. part 0 a s ++ x) (part-join s a e (length s) (omega arith) g) in
+      sym (whole-part s) ∙ part-join s 0 a (length s) (omega arith) (omega arith)
+      ∙ ap (λ x. part 0 a s ++ x) (part-join s a e (length s) (omega arith) g) in
       record {
         some-byte = omega arith;
         no-white = λ x c y k q.
@@ -69,7 +74,13 @@ module _ (s : List ℕ) where
             let w : s ≡ (part 0 a s ++ x) ++ (c ++ (y ++ part e (length s) s)) = parts ∙ rw q (simp append-assoc) in
             let m : length (part 0 a s ++ x) ≡ a + length x = simp length-append (omega (arith, front)) in
             let b = k .formed .some-byte in
-            omega (arith, b, there s (part 0 a s ++ x) c (y ++ part e (length s) s) (a + length x) w m k, f (a + length x) (omega arith) (omega (arith, b)));
+            omega (
+              arith,
+              b,
+              there s (part 0 a s ++ x) c (y ++ part e (length s) s) (a + length x) w m k,
+              f (a + length x) (omega arith)
+                  (omega (arith, b)),
+            );
       }
 
   words-last : (p : ℕ) → p ≤ length s → length s ≤ whiteEnd s p → Splits (drop p s) (wordsFrom s p [])
@@ -78,7 +89,8 @@ module _ (s : List ℕ) where
       let w : WhiteSpace (drop p s) = rw (z, to-end p) at (path-space s (end-path s p h) h) in
       rw (wordsFrom-none s p [] g) (no-word w)
 
-  words-more : (p : ℕ) → p ≤ length s → whiteEnd s p < length s → ((e : ℕ) → p < e → e ≤ length s → Splits (drop e s) (wordsFrom s e [])) → Splits (drop p s) (wordsFrom s p [])
+  words-more : (p : ℕ) → p ≤ length s → whiteEnd s p < length s → ((e : ℕ) → p < e → e ≤ length s → Splits (drop e s) (wordsFrom s e []))
+      → Splits (drop p s) (wordsFrom s p [])
   words-more p h l rec =
       let a : ℕ = whiteEnd s p in
       let e : ℕ = wordEnd s a in
@@ -86,7 +98,8 @@ module _ (s : List ℕ) where
       let g : e ≤ length s = wordEnd-high s a (omega arith) in
       let some : a < e = wordEnd-some s a l (whiteEnd-stops s p l) in
       let parts : drop p s ≡ part p a s ++ (part a e s ++ drop e s) =
-          sym (to-end p) ∙ part-join s p a (length s) low (omega arith) ∙ ap (λ x. part p a s ++ x) (part-join s a e (length s) (omega arith) g ∙ rw (to-end e)) in
+      sym (to-end p) ∙ part-join s p a (length s) low (omega arith)
+      ∙ ap (λ x. part p a s ++ x) (part-join s a e (length s) (omega arith) g ∙ rw (to-end e)) in
       let inside : (i : ℕ) → a ≤ i → i < e → whiteAt s i ≡ 0 = λ i k m. word-inside s (length s) a i (omega arith) k m (omega arith) in
       rw (parts, wordsFrom-next s p [] l, wordsFrom-after s e (part a e s ∷ []))
       (word (path-space s (end-path s p h) h) (bare a e some g inside) (parted e g (wordEnd-stops s a)) (rec e (omega arith) g))
@@ -134,7 +147,8 @@ module _ (c a w r : List ℕ) (white-a : WhiteSpace a) (x : Bare w) (y : Parted 
   stop : to < length text → whiteAt text to ≡ 0 → ⊥
   stop = at-stop y text-is long
     where
-      at-stop : {r : List ℕ} → Parted r → text ≡ ((c ++ a) ++ w) ++ r → length text ≡ length c + length a + length w + length r → to < length text → whiteAt text to ≡ 0 → ⊥
+      at-stop : {r : List ℕ} → Parted r → text ≡ ((c ++ a) ++ w) ++ r → length text ≡ length c + length a + length w + length r → to < length text
+          → whiteAt text to ≡ 0 → ⊥
       at-stop ends e l h z = omega arith
       at-stop (white v t f) e l h z = omega (arith, f .formed .some-byte, there text ((c ++ a) ++ w) v t to e front f)
 

@@ -23,15 +23,19 @@ cast-result : tie.Need-cast-result
 unfolding ofBits
 cast-result c =
     let c3 = c .before .before .before in
-    record { sfits = (cut-whole (c3 .args .x) (sym (at-least 0 (c3 .args .x)) ∙ c .before .if2 .taken) (sym (at-least 63 (c3 .args .x))
-    ∙ c .before .before .if1 .left) (c .whole-part .ensures)) .small }
+    record {
+      sfits = (cut-whole (c3 .args .x) (sym (at-least 0 (c3 .args .x)) ∙ c .before .if2 .taken) (sym (at-least 63 (c3 .args .x))
+          ∙ c .before .before .if1 .left) (c .whole-part .ensures)) .small;
+    }
 
 returns-2 : tie.Need-returns-2
 unfolding ofBits
 returns-2 c =
     let c3 = c .before .before .before in
     toZ-pos w64 _ ((cut-whole (c3 .args .x) (sym (at-least 0 (c3 .args .x)) ∙ c .before .if2 .taken) (sym (at-least 63 (c3 .args .x))
-    ∙ c .before .before .if1 .left) (c .whole-part .ensures)) .small) ∙ (cut-whole (c3 .args .x) (sym (at-least 0 (c3 .args .x)) ∙ c .before .if2 .taken) (sym (at-least 63 (c3 .args .x)) ∙ c .before .before .if1 .left) (c .whole-part .ensures)) .is
+    ∙ c .before .before .if1 .left) (c .whole-part .ensures)) .small)
+    ∙ (cut-whole (c3 .args .x) (sym (at-least 0 (c3 .args .x)) ∙ c .before .if2 .taken)
+    (sym (at-least 63 (c3 .args .x)) ∙ c .before .before .if1 .left) (c .whole-part .ensures)) .is
 
 sub-result : tie.Need-sub-result
 sub-result c = search needs
@@ -50,22 +54,37 @@ cast-result-2 : tie.Need-cast-result-2
 unfolding ofBits neg
 cast-result-2 c =
     let c5 = c .before .before .before .before .before in
-    record { sfits = (cut-minus (c5 .args .x) (sym (at-most 0 (c5 .args .x)) ∙ c .before .if4 .taken) (sym (at-most 63 (c5 .args .x))
-    ∙ c .before .before .if3 .left) (c .whole-part2 .ensures)) .small }
+    record {
+      sfits = (cut-minus (c5 .args .x) (sym (at-most 0 (c5 .args .x)) ∙ c .before .if4 .taken) (sym (at-most 63 (c5 .args .x))
+          ∙ c .before .before .if3 .left) (c .whole-part2 .ensures)) .small;
+    }
 
 sub-result-2 : tie.Need-sub-result-2
 unfolding ofBits neg
 sub-result-2 c =
     let c5 = c .before .before .before .before .before in
-    rw (toZ-pos w64 _ ((cut-minus (c5 .args .x) (sym (at-most 0 (c5 .args .x)) ∙ c .before .if4 .taken) (sym (at-most 63 (c5 .args .x))
-    ∙ c .before .before .if3 .left) (c .whole-part2 .ensures)) .small), +ℤ-idl) (minus-fits _ ((cut-minus (c5 .args .x) (sym (at-most 0 (c5 .args .x)) ∙ c .before .if4 .taken) (sym (at-most 63 (c5 .args .x)) ∙ c .before .before .if3 .left) (c .whole-part2 .ensures)) .small))
+    rw (
+      toZ-pos w64 _ ((cut-minus (c5 .args .x) (sym (at-most 0 (c5 .args .x)) ∙ c .before .if4 .taken) (sym (at-most 63 (c5 .args .x))
+          ∙ c .before .before .if3 .left) (c .whole-part2 .ensures)) .small),
+      +ℤ-idl,
+    )
+    (minus-fits _ ((cut-minus (c5 .args .x) (sym (at-most 0 (c5 .args .x)) ∙ c .before .if4 .taken)
+    (sym (at-most 63 (c5 .args .x)) ∙ c .before .before .if3 .left) (c .whole-part2 .ensures)) .small))
 
 returns-4 : tie.Need-returns-4
 unfolding ofBits neg
 returns-4 c =
     let c5 = c .before .before .before .before .before in
-    rw (toZ-pos w64 _ ((cut-minus (c5 .args .x) (sym (at-most 0 (c5 .args .x)) ∙ c .before .if4 .taken) (sym (at-most 63 (c5 .args .x))
-    ∙ c .before .before .if3 .left) (c .whole-part2 .ensures)) .small), +ℤ-idl) (toZ-ofZ w64 _ (minus-fits _ ((cut-minus (c5 .args .x) (sym (at-most 0 (c5 .args .x)) ∙ c .before .if4 .taken) (sym (at-most 63 (c5 .args .x)) ∙ c .before .before .if3 .left) (c .whole-part2 .ensures)) .small)) ∙ (cut-minus (c5 .args .x) (sym (at-most 0 (c5 .args .x)) ∙ c .before .if4 .taken) (sym (at-most 63 (c5 .args .x)) ∙ c .before .before .if3 .left) (c .whole-part2 .ensures)) .is)
+    rw (
+      toZ-pos w64 _ ((cut-minus (c5 .args .x) (sym (at-most 0 (c5 .args .x)) ∙ c .before .if4 .taken) (sym (at-most 63 (c5 .args .x))
+          ∙ c .before .before .if3 .left) (c .whole-part2 .ensures)) .small),
+      +ℤ-idl,
+    )
+    (toZ-ofZ w64 _ (minus-fits _
+    ((cut-minus (c5 .args .x) (sym (at-most 0 (c5 .args .x)) ∙ c .before .if4 .taken)
+    (sym (at-most 63 (c5 .args .x)) ∙ c .before .before .if3 .left) (c .whole-part2 .ensures)) .small))
+    ∙ (cut-minus (c5 .args .x) (sym (at-most 0 (c5 .args .x)) ∙ c .before .if4 .taken)
+    (sym (at-most 63 (c5 .args .x)) ∙ c .before .before .if3 .left) (c .whole-part2 .ensures)) .is)
 
 returns-5 : tie.Need-returns-5
 unfolding ofBits neg

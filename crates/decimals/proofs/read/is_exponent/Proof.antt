@@ -45,7 +45,9 @@ only-digits-requires : tie.Need-only-digits-requires
 only-digits-requires c κs = search needs
 
 -- the first byte is an e
-is-e : (c : tie.Joined2) → (eqb (getD (c .before .before .before .before .args .text .now) (c .before .before .before .before .args .from) 0) 101 || eqb (getD (c .before .before .before .before .args .text .now) (c .before .before .before .before .args .from) 0) 69) ≡ true
+is-e : (c : tie.Joined2)
+    → (eqb (getD (c .before .before .before .before .args .text .now) (c .before .before .before .before .args .from) 0) 101 || eqb
+    (getD (c .before .before .before .before .args .text .now) (c .before .before .before .before .args .from) 0) 69) ≡ true
 is-e c =
     let c4 = c .before .before .before .before in
     ⊎-elim (λ w. is-second (getD (c4 .args .text .now) (c4 .args .from) 0) 101 69 (not-false _ (w .2 .left))) (λ w. is-first (getD

@@ -39,7 +39,9 @@ returns-2 c =
     let c7 = c4 .before .before .before in
     c .eq-ignore-ascii-case3 .ensures
     ∙ sym (⊎-elim (λ w. absurd (true≢false (sym (w .0 .taken) ∙ sym (w .1)
-    ∙ c .before .before .if2 .left))) (λ w. word-last (c7 .args .text .now) (sym (c4 .eq-ignore-ascii-case .ensures) ∙ w .0 .left) (sym (w .2 .ensures) ∙ (sym (w .3) ∙ c .before .before .if2 .left))) (c3 .if1 .came))
+    ∙ c .before .before .if2 .left)))
+    (λ w. word-last (c7 .args .text .now) (sym (c4 .eq-ignore-ascii-case .ensures) ∙ w .0 .left)
+    (sym (w .2 .ensures) ∙ (sym (w .3) ∙ c .before .before .if2 .left))) (c3 .if1 .came))
 
 pub is-word-spec : {M : Type 1} → statement M
 is-word-spec =

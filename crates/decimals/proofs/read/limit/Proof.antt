@@ -24,7 +24,9 @@ count-digits-requires c κs =
 count-digits-requires-2 : tie.Need-count-digits-requires-2
 count-digits-requires-2 c κs = search needs
 
-counted : (c : tie.After-count-digits2) → Counted (take (c .before .before .before .before .args .whole) (c .before .before .before .before .args .text .now) ++ drop (c .before .before .before .before .args .from) (c .before .before .before .before .args .text .now)) (c .count-digits2 .result)
+counted : (c : tie.After-count-digits2)
+    → Counted (take (c .before .before .before .before .args .whole) (c .before .before .before .before .args .text .now) ++ drop
+    (c .before .before .before .before .args .from) (c .before .before .before .before .args .text .now)) (c .count-digits2 .result)
 counted c =
     let c4 = c .before .before .before .before in
     let a = c4 .args in

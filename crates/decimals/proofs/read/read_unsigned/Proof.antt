@@ -19,7 +19,8 @@ over-requires-2 c κs = search needs
 is-word-requires : tie.Need-is-word-requires
 is-word-requires c κs = search needs
 
-shape : (c : tie.Joined1) → Shape (c .before .before .before .before .args .text .now) (c .before .before .over .result) (c .before .fraction-start .result) (c .if1 .end)
+shape : (c : tie.Joined1) → Shape (c .before .before .before .before .args .text .now) (c .before .before .over .result)
+    (c .before .fraction-start .result) (c .if1 .end)
 shape c =
     let c4 = c .before .before .before .before in
     let s = c4 .args .text .now in
@@ -41,7 +42,9 @@ returns c =
     let c6 = c5 .before in
     let c8 = c6 .before .before in
     sym (shape-empty (c8 .args .negative) (c8 .args .text .now) (c8 .args .digits) (c8 .args .decimals) (c6 .over .result)
-    (c5 .fraction-start .result) (c4 .if1 .end) (shape (c4)) (c3 .if2 .taken) (eqb-true (c4 .if1 .end) (c5 .fraction-start .result) (c .before .before .if3 .taken)) ∙ rw (sym (c .before .is-word .ensures) ∙ c .if4 .taken))
+    (c5 .fraction-start .result) (c4 .if1 .end) (shape (c4)) (c3 .if2 .taken)
+    (eqb-true (c4 .if1 .end) (c5 .fraction-start .result) (c .before .before .if3 .taken))
+    ∙ rw (sym (c .before .is-word .ensures) ∙ c .if4 .taken))
 
 returns-2 : tie.Need-returns-2
 returns-2 c =
@@ -51,7 +54,9 @@ returns-2 c =
     let c6 = c5 .before in
     let c8 = c6 .before .before in
     sym (shape-empty (c8 .args .negative) (c8 .args .text .now) (c8 .args .digits) (c8 .args .decimals) (c6 .over .result)
-    (c5 .fraction-start .result) (c4 .if1 .end) (shape (c4)) (c3 .if2 .taken) (eqb-true (c4 .if1 .end) (c5 .fraction-start .result) (c .before .before .if3 .taken)) ∙ rw (sym (c .before .is-word .ensures) ∙ c .if4 .left))
+    (c5 .fraction-start .result) (c4 .if1 .end) (shape (c4)) (c3 .if2 .taken)
+    (eqb-true (c4 .if1 .end) (c5 .fraction-start .result) (c .before .before .if3 .taken))
+    ∙ rw (sym (c .before .is-word .ensures) ∙ c .if4 .left))
 
 is-exponent-requires : tie.Need-is-exponent-requires
 is-exponent-requires c κs = search needs
@@ -64,7 +69,8 @@ returns-3 c =
     let c6 = c5 .before in
     let c8 = c6 .before .before in
     sym (shape-rest (c8 .args .negative) (c8 .args .text .now) (c8 .args .digits) (c8 .args .decimals) (c6 .over .result)
-    (c5 .fraction-start .result) (c4 .if1 .end) (shape (c4)) (some (c3)) (c .before .before .if5 .taken) ∙ rw (sym (c .before .is-exponent .ensures) ∙ c .if6 .taken))
+    (c5 .fraction-start .result) (c4 .if1 .end) (shape (c4)) (some (c3)) (c .before .before .if5 .taken)
+    ∙ rw (sym (c .before .is-exponent .ensures) ∙ c .if6 .taken))
 
 returns-4 : tie.Need-returns-4
 returns-4 c =
@@ -74,15 +80,19 @@ returns-4 c =
     let c6 = c5 .before in
     let c8 = c6 .before .before in
     sym (shape-rest (c8 .args .negative) (c8 .args .text .now) (c8 .args .digits) (c8 .args .decimals) (c6 .over .result)
-    (c5 .fraction-start .result) (c4 .if1 .end) (shape (c4)) (some (c3)) (c .before .before .if5 .taken) ∙ rw (sym (c .before .is-exponent .ensures) ∙ c .if6 .left))
+    (c5 .fraction-start .result) (c4 .if1 .end) (shape (c4)) (some (c3)) (c .before .before .if5 .taken)
+    ∙ rw (sym (c .before .is-exponent .ensures) ∙ c .if6 .left))
 
 limit-requires : tie.Need-limit-requires
 limit-requires c κs =
     let c3 = c .before .before .before in
     let c4 = c3 .before in
-    let c6 = c4 .before .before in
-    (shape-digital (c6 .args .negative) (c6 .args .text .now) (c6 .args .digits) (c6 .args .decimals) (c4 .over .result)
-    (c3 .fraction-start .result) (c .before .before .if1 .end) (shape (c .before .before)) (c .if5 .left), c6 .pre .0, c6 .pre .1)
+    let c6 = c4 .before .before in (
+      shape-digital (c6 .args .negative) (c6 .args .text .now) (c6 .args .digits) (c6 .args .decimals) (c4 .over .result)
+          (c3 .fraction-start .result) (c .before .before .if1 .end) (shape (c .before .before)) (c .if5 .left),
+      c6 .pre .0,
+      c6 .pre .1,
+    )
 
 returns-5 : tie.Need-returns-5
 returns-5 c =

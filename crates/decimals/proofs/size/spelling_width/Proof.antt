@@ -27,7 +27,10 @@ decimal-width-requires c κs = search needs
 signs : (c : tie.Joined1) → (c .if1 .sign ≡ length (lead (c .before .args .s .negative))) × (c .if1 .sign ≤ 1)
 signs c = ⊎-elim (λ w. (rw (w .0 .taken) (w .1), omega (arith, w .1))) (λ w. (rw (w .0 .left) (w .1), omega (arith, w .1))) (c .if1 .came)
 
-wide : (c : tie.After-decimal-width) → (c .decimal-width .result ≡ decimalWidth (c .before .before .before .before .args .s .digits / 10 ^ (c .before .before .before .before .args .s .scale))) × (c .decimal-width .result ≤ 20)
+wide : (c : tie.After-decimal-width)
+    → (c .decimal-width .result ≡ decimalWidth
+    (c .before .before .before .before .args .s .digits / 10 ^ (c .before .before .before .before .args .s .scale))) ×
+    (c .decimal-width .result ≤ 20)
 wide c =
     let c4 = c .before .before .before .before in
     let e : c .decimal-width .result ≡ decimalWidth (c4 .args .s .digits / 10 ^ (c4 .args .s .scale)) = rw (c .before .power .ensures) at

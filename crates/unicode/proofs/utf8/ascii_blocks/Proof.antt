@@ -39,7 +39,7 @@ loop-again c =
       after = omega arith;
       within-text = omega arith;
       ascii = bounded-join (a .before .before .args .src .now) _ (a .loop .i + 16) (a .loop .i) 0x7F (a .loop .inv .ascii) (bounded-up
-    (a .before .before .args .src .now) (a .loop .i) _ _ _ (c .if1 .left) (c .before .largest .ensures));
+          (a .before .before .args .src .now) (a .loop .i) _ _ _ (c .if1 .left) (c .before .largest .ensures));
     }
 
 returns-2 : tie.Need-returns-2 Inv-loop μ-loop

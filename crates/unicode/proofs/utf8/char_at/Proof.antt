@@ -63,8 +63,12 @@ unfolding charAt
 returns-3 c =
     let c4 = c .before .before .before .before in
     let c6 = c4 .before .before in
-    rw (ne-eqb (c6 .args .width) 1 (c4 .if1 .left), ne-eqb (c6 .args .width) 2 (c .before .before .if2 .left), eq-eqb (c6 .args .width) 3
-    (c .if3 .taken))
+    rw (
+      ne-eqb (c6 .args .width) 1 (c4 .if1 .left),
+      ne-eqb (c6 .args .width) 2 (c .before .before .if2 .left),
+      eq-eqb (c6 .args .width) 3
+          (c .if3 .taken),
+    )
 
 add-d : tie.Need-add-d
 add-d c = search needs

@@ -10,7 +10,8 @@ use Rattle.unicode.proofs.utf8.follow.Statement.{statement}
 use Rattle.unicode.proofs.utf8.follow.Tie as tie
 
 abbrev Inv-loop : tie.InvT-loop
-Inv-loop src pos width low high i₀ i = (2 ≤ i) × (i ≤ width) × (followed src pos width low high ≡ cond (fitsAt src (pos + i) (tails (width - i))) width 0)
+Inv-loop src pos width low high i₀ i = (2 ≤ i) × (i ≤ width) ×
+    (followed src pos width low high ≡ cond (fitsAt src (pos + i) (tails (width - i))) width 0)
 
 abbrev μ-loop : tie.MeasureT-loop
 μ-loop src pos width low high i₀ i = width - i
@@ -79,9 +80,12 @@ loop-again : tie.Need-loop-again Inv-loop μ-loop
 loop-again c =
     let c4 = c .before .before .before .before in
     let c5 = c4 .before in
-    let c11 = c5 .before .before .before .before .before .before in
-    (omega arith, omega arith, c5 .loop .inv .2 ∙ rest-in (c11 .args .src .now) _ _ _ (c4 .loop-test .taken) (omega arith)
-    (c .before .before .if4 .left) (c .if5 .left))
+    let c11 = c5 .before .before .before .before .before .before in (
+      omega arith,
+      omega arith,
+      c5 .loop .inv .2 ∙ rest-in (c11 .args .src .now) _ _ _ (c4 .loop-test .taken) (omega arith)
+          (c .before .before .if4 .left) (c .if5 .left),
+    )
 
 returns-6 : tie.Need-returns-6 Inv-loop μ-loop
 returns-6 c =

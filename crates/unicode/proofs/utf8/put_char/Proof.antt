@@ -22,8 +22,15 @@ same-length c = search needs
 
 returns : tie.Need-returns
 returns c =
-    rw (encode-1 (c .before .args .c) (c .if1 .taken)) (record { next = refl; within = omega (arith, ap length (encode-1 (c .before .args .c)
-    (c .if1 .taken))); laid = refl })
+    rw (encode-1 (c .before .args .c) (c .if1 .taken)) (record {
+      next = refl;
+      within = omega (
+        arith,
+        ap length (encode-1 (c .before .args .c)
+            (c .if1 .taken)),
+      );
+      laid = refl;
+    })
 
 add-out : tie.Need-add-out
 add-out c = search needs
@@ -54,8 +61,15 @@ same-length-2 c = search needs
 
 returns-2 : tie.Need-returns-2
 returns-2 c =
-    rw (encode-2 (c .before .before .args .c) (c .before .if1 .left) (c .if2 .taken)) (record { next = refl; within = omega (arith, ap length
-    (encode-2 (c .before .before .args .c) (c .before .if1 .left) (c .if2 .taken))); laid = simp add-one })
+    rw (encode-2 (c .before .before .args .c) (c .before .if1 .left) (c .if2 .taken)) (record {
+      next = refl;
+      within = omega (
+        arith,
+        ap length
+            (encode-2 (c .before .before .args .c) (c .before .if1 .left) (c .if2 .taken)),
+      );
+      laid = simp add-one;
+    })
 
 add-out-4 : tie.Need-add-out-4
 add-out-4 c = search needs
@@ -103,8 +117,15 @@ same-length-3 c = search needs
 returns-3 : tie.Need-returns-3
 returns-3 c =
     let c3 = c .before .before .before in
-    rw (encode-3 (c3 .args .c) (c .before .if2 .left) (c .if3 .taken)) (record { next = refl; within = omega (arith, ap length (encode-3
-    (c3 .args .c) (c .before .if2 .left) (c .if3 .taken))); laid = simp (add-one, add-two) })
+    rw (encode-3 (c3 .args .c) (c .before .if2 .left) (c .if3 .taken)) (record {
+      next = refl;
+      within = omega (
+        arith,
+        ap length (encode-3
+            (c3 .args .c) (c .before .if2 .left) (c .if3 .taken)),
+      );
+      laid = simp (add-one, add-two);
+    })
 
 add-out-9 : tie.Need-add-out-9
 add-out-9 c = search needs
@@ -160,8 +181,15 @@ same-length-4 c = search needs
 returns-4 : tie.Need-returns-4
 returns-4 c =
     let c3 = c .before .before .before in
-    rw (encode-4 (c3 .args .c) (c .if3 .left)) (record { next = refl; within = omega (arith, ap length (encode-4 (c3 .args .c)
-    (c .if3 .left))); laid = simp (add-one, add-two, add-three) })
+    rw (encode-4 (c3 .args .c) (c .if3 .left)) (record {
+      next = refl;
+      within = omega (
+        arith,
+        ap length (encode-4 (c3 .args .c)
+            (c .if3 .left)),
+      );
+      laid = simp (add-one, add-two, add-three);
+    })
 
 pub put-char-spec : {M : Type 1} → statement M
 put-char-spec =

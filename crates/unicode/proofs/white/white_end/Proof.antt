@@ -25,8 +25,14 @@ returns : tie.Need-returns Inv-loop μ-loop
 returns c =
     let c3 = c .before .before .before in
     let c5 = c3 .before .before in
-    record { is = sym (c3 .loop .inv .2 ∙ whiteEnd-here (c5 .args .src .now) _ (c .before .before .loop-test .taken) (sym
-    (c .before .white-at .ensures .is) ∙ c .if1 .taken)); after = search needs; within-text = search needs; stops = λ h. sym (c .before .white-at .ensures .is) ∙ c .if1 .taken }
+    record {
+      is = sym (c3 .loop .inv .2 ∙ whiteEnd-here (c5 .args .src .now) _ (c .before .before .loop-test .taken) (sym
+          (c .before .white-at .ensures .is) ∙ c .if1 .taken));
+      after = search needs;
+      within-text = search needs;
+      stops =
+          λ h. sym (c .before .white-at .ensures .is) ∙ c .if1 .taken;
+    }
 
 add-i : tie.Need-add-i Inv-loop μ-loop
 add-i c = search needs
@@ -38,15 +44,23 @@ loop-again : tie.Need-loop-again Inv-loop μ-loop
 loop-again c =
     let c3 = c .before .before .before in
     let c5 = c3 .before .before in
-    let e = c .before .white-at .ensures .is in
-    (search needs, search needs, c3 .loop .inv .2 ∙ (whiteEnd-on (c5 .args .src .now) _ (c .before .before .loop-test .taken) (λ z. c .if1 .left (e
-    ∙ z)) ∙ rw e))
+    let e = c .before .white-at .ensures .is in (
+      search needs,
+      search needs,
+      c3 .loop .inv .2 ∙ (whiteEnd-on (c5 .args .src .now) _ (c .before .before .loop-test .taken) (λ z. c .if1 .left (e
+          ∙ z)) ∙ rw e),
+    )
 
 returns-2 : tie.Need-returns-2 Inv-loop μ-loop
 returns-2 c =
     let c3 = c .before .before .before in
-    record { is = sym (c .before .loop .inv .2 ∙ whiteEnd-out (c3 .args .src .now) _
-    (c .loop-test .left)); after = search needs; within-text = search needs; stops = λ h. absurd (omega arith) }
+    record {
+      is = sym (c .before .loop .inv .2 ∙ whiteEnd-out (c3 .args .src .now) _
+          (c .loop-test .left));
+      after = search needs;
+      within-text = search needs;
+      stops = λ h. absurd (omega arith);
+    }
 
 pub white-end-spec : {M : Type 1} → statement M
 white-end-spec =

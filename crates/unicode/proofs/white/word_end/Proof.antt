@@ -24,9 +24,12 @@ white-at-requires c κs = search needs
 returns : tie.Need-returns Inv-loop μ-loop
 returns c =
     let c3 = c .before .before .before in
-    let c5 = c3 .before .before in
-    (sym (c3 .loop .inv .2 ∙ wordEnd-here (c5 .args .src .now) (c3 .loop .i) (c .before .before .loop-test .taken)
-    (λ z. omega arith)), search needs, search needs)
+    let c5 = c3 .before .before in (
+      sym (c3 .loop .inv .2 ∙ wordEnd-here (c5 .args .src .now) (c3 .loop .i) (c .before .before .loop-test .taken)
+          (λ z. omega arith)),
+      search needs,
+      search needs,
+    )
 
 add-i : tie.Need-add-i Inv-loop μ-loop
 add-i c = search needs
