@@ -18,7 +18,7 @@ use Rattle.numerals.specs.Numerals.{valueFrom}
 use Rattle.numerals.proofs.Numerals.{value-append, digit-byte}
 use Rattle.decimals.specs.declared.read.Count.{Count}
 use Rattle.decimals.specs.Decimal.{significant}
-use Rattle.decimals.specs.Counted.{Counted, OneMore, Room, Further}
+use Rattle.decimals.specs.Steps.{Counted, OneMore, Room, Further}
 
 -- ---- digits after leading zeros
 sig-zero : (ds : List ℕ) (b : ℕ) → significant ds ≡ 0 → b ≡ 48 → significant (ds ++ (b ∷ [])) ≡ 0
@@ -26,7 +26,8 @@ unfolding significant
 sig-zero [] b n e = rw (eq-eqb b 48 e)
 sig-zero (x ∷ ds) b n e = by (eqb x 48) (λ z. sig-zero ds b z e) n
   where
-    by : (t : Bool) → (significant ds ≡ 0 → significant (ds ++ (b ∷ [])) ≡ 0) → cond t (significant ds) (length (x ∷ ds)) ≡ 0 → cond t (significant (ds ++ (b ∷ []))) (length (x ∷ (ds ++ (b ∷ [])))) ≡ 0
+    by : (t : Bool) → (significant ds ≡ 0 → significant (ds ++ (b ∷ [])) ≡ 0) → cond t (significant ds) (length (x ∷ ds)) ≡ 0
+        → cond t (significant (ds ++ (b ∷ []))) (length (x ∷ (ds ++ (b ∷ [])))) ≡ 0
     by true r n = r n
     by false r n = absurd (omega arith)
 
@@ -35,7 +36,9 @@ unfolding significant
 sig-more [] b n = rw (ne-eqb b 48 (n refl))
 sig-more (x ∷ ds) b n = by (eqb x 48) (sig-more ds b) n
   where
-    by : (t : Bool) → ((significant ds ≡ 0 → b ≡ 48 → ⊥) → significant (ds ++ (b ∷ [])) ≡ significant ds + 1) → (cond t (significant ds) (length (x ∷ ds)) ≡ 0 → b ≡ 48 → ⊥) → cond t (significant (ds ++ (b ∷ []))) (length (x ∷ (ds ++ (b ∷ [])))) ≡ cond t (significant ds) (length (x ∷ ds)) + 1
+    by : (t : Bool) → ((significant ds ≡ 0 → b ≡ 48 → ⊥) → significant (ds ++ (b ∷ [])) ≡ significant ds + 1)
+        → (cond t (significant ds) (length (x ∷ ds)) ≡ 0 → b ≡ 48 → ⊥)
+        → cond t (significant (ds ++ (b ∷ []))) (length (x ∷ (ds ++ (b ∷ [])))) ≡ cond t (significant ds) (length (x ∷ ds)) + 1
     by true r n = r n
     by false r n = omega (arith, length-append ds (b ∷ []))
 
@@ -79,7 +82,8 @@ module _ (c : Count) (b : ℕ) where
       grown = omega arith;
     }
 
-    pub one-more : 48 ≤ b → b ≤ 57 → c .value < 10 ^ (c .significant) → OneMore c b (record { value = c .value * 10 + (b - 48); significant = c .significant + 1 })
+    pub one-more : 48 ≤ b → b ≤ 57 → c .value < 10 ^ (c .significant)
+        → OneMore c b (record { value = c .value * 10 + (b - 48); significant = c .significant + 1 })
     one-more l h s = record {
       counted = λ ds k. record {
         count = more ds k;
@@ -133,7 +137,8 @@ module _ (before : Count) (s : List ℕ) (a e : ℕ) (r : Room before s a e) whe
       within = omega arith;
       read = record {
         counted = λ ds k.
-            rw (part-more s a i (g .after) (omega (arith, r .within)), ← (append-assoc ds (part a i s) (getD s i 0 ∷ []))) (o .counted (ds ++ part a i s) (g .read .counted ds k));
+            rw (part-more s a i (g .after) (omega (arith, r .within)), ← (append-assoc ds (part a i s) (getD s i 0 ∷ [])))
+            (o .counted (ds ++ part a i s) (g .read .counted ds k));
         small = o .small;
         grown = omega (arith, g .read .grown, o .grown, g .after);
       };

@@ -10,7 +10,7 @@
 --     value-limit, decimal-limits    a decimal is within the limits that it was read by
 use Prim.Native.Nat.{ℕ, suc, _+_, _-_, _*_, _≤_, _<_, _^_}
 use mathlib.Core.Path.{_≡_, refl, ap, _∙_}
-use mathlib.Core.Bool.{Bool, true, false, cond, _&&_, _||_, and-false, or-true}
+use mathlib.Core.Bool.{Bool, true, false, cond, _&&_, _||_, and-false, or-true, and-eq-true-iff}
 use mathlib.Core.List.{List, [], _∷_, _++_}
 use native.Mathlib.Omega.{arith}
 use native.Mathlib.Numerals.{add-one}
@@ -26,12 +26,12 @@ use Rattle.scan.proofs.Runs.{run-length, run-all, run-high}
 use Rattle.numerals.specs.Numerals.{valueFrom, digitOf}
 use Rattle.numerals.proofs.Numerals.{digit-byte}
 use Rattle.decimals.proofs.Counting.{digit-bounds}
-use Rattle.decimals.proofs.Tests.{both}
 use Rattle.decimals.specs.declared.read.Count.{Count}
 use Rattle.decimals.specs.declared.read.Digits.{Digits}
 use Rattle.decimals.specs.declared.read.Decimal.the-variants.{Is, Nothing, Beyond}
-use Rattle.decimals.specs.Decimal.{onlyDigits, isExponent, isWord, unsigned, negative, fraction, afterFraction, allDigits, restOf, scaleOf, digitsAt, afterDigits, significant, limited, unsignedDecimal, decimalOf}
-use Rattle.decimals.specs.Counted.{Counted, Further, Digital, PointAt, Room}
+use Rattle.decimals.specs.Decimal.{onlyDigits, isExponent, isWord, unsigned, negative, fraction, afterFraction, allDigits, restOf, scaleOf}
+use Rattle.decimals.specs.Decimal.{digitsAt, afterDigits, significant, limited, unsignedDecimal, decimalOf}
+use Rattle.decimals.specs.Steps.{Counted, Further, Digital, PointAt, Room}
 
 -- ---- only digits
 module _ (s : List ℕ) (p : ℕ) where
@@ -47,7 +47,8 @@ module _ (s : List ℕ) (p : ℕ) where
       let w : r ≡ p + runLength digitByte (drop p s) = e ∙ run-length digitByte s p (omega arith) in
       rw (lt-ltb 0 (length (drop p s)) k) (by (eqb (runLength digitByte (drop p s)) (length (drop p s))) refl n w)
     where
-      by : (t : Bool) → eqb (runLength digitByte (drop p s)) (length (drop p s)) ≡ t → length (drop p s) ≡ length s - p → r ≡ p + runLength digitByte (drop p s) → eqb r (length s) ≡ t
+      by : (t : Bool) → eqb (runLength digitByte (drop p s)) (length (drop p s)) ≡ t → length (drop p s) ≡ length s - p
+          → r ≡ p + runLength digitByte (drop p s) → eqb r (length s) ≡ t
       by true z n w = eq-eqb r (length s) (omega (arith, eqb-true (runLength digitByte (drop p s)) (length (drop p s)) z))
       by false z n w = ne-eqb r (length s) (λ g. eqb-false (runLength digitByte (drop p s)) (length (drop p s)) z (omega arith))
 
@@ -72,7 +73,8 @@ module _ (s : List ℕ) where
   unfolding isWord
   word-second e = rw (e, or-true)
 
-  pub word-last : sameFolded s (105 ∷ 110 ∷ 102 ∷ []) ≡ false → sameFolded s (105 ∷ 110 ∷ 102 ∷ 105 ∷ 110 ∷ 105 ∷ 116 ∷ 121 ∷ []) ≡ false → isWord s ≡ sameFolded s (110 ∷ 97 ∷ 110 ∷ [])
+  pub word-last : sameFolded s (105 ∷ 110 ∷ 102 ∷ []) ≡ false → sameFolded s (105 ∷ 110 ∷ 102 ∷ 105 ∷ 110 ∷ 105 ∷ 116 ∷ 121 ∷ []) ≡ false
+      → isWord s ≡ sameFolded s (110 ∷ 97 ∷ 110 ∷ [])
   unfolding isWord
   word-last e f = rw (e, f)
 
@@ -99,11 +101,13 @@ module _ (s : List ℕ) (p : ℕ) where
     unfolding isExponent
     exponent-on = rw (drop-cons s p 0 h, m, add-one p)
 
-    pub exponent-signed : p + 1 < length s → (eqb (getD s (p + 1) 0) 43 || eqb (getD s (p + 1) 0) 45) ≡ true → isExponent (drop p s) ≡ onlyDigits (drop (p + 1 + 1) s)
+    pub exponent-signed : p + 1 < length s → (eqb (getD s (p + 1) 0) 43 || eqb (getD s (p + 1) 0) 45) ≡ true
+        → isExponent (drop p s) ≡ onlyDigits (drop (p + 1 + 1) s)
     unfolding unsigned
     exponent-signed l e = exponent-on ∙ rw (drop-cons s (p + 1) 0 l, e, add-one (p + 1))
 
-    pub exponent-bare : (p + 1 < length s → (eqb (getD s (p + 1) 0) 43 || eqb (getD s (p + 1) 0) 45) ≡ false) → isExponent (drop p s) ≡ onlyDigits (drop (p + 1) s)
+    pub exponent-bare : (p + 1 < length s → (eqb (getD s (p + 1) 0) 43 || eqb (getD s (p + 1) 0) 45) ≡ false)
+        → isExponent (drop p s) ≡ onlyDigits (drop (p + 1) s)
     exponent-bare n = exponent-on ∙ ap onlyDigits (unsigned-at s (p + 1) n)
 
 -- ---- the digits, by the places that the program finds: those before the point end at `whole`, those behind it stand from `from` to `end`
@@ -128,7 +132,8 @@ fraction-none s p n = by (ltb p (length s)) refl
         (rw (drop-cons s p 0 l, m), rw (drop-cons s p 0 l, m))
     by false e = let z : drop p s ≡ [] = drop-of-length-le s (ltb-false p (length s) e) in (rw z, rw z)
 
-fraction-some : (s : List ℕ) (p : ℕ) → p < length s → getD s p 0 ≡ 46 → (fraction (drop p s) ≡ digitsAt (drop (p + 1) s)) × (afterFraction (drop p s) ≡ afterDigits (drop (p + 1) s))
+fraction-some : (s : List ℕ) (p : ℕ) → p < length s → getD s p 0 ≡ 46
+    → (fraction (drop p s) ≡ digitsAt (drop (p + 1) s)) × (afterFraction (drop p s) ≡ afterDigits (drop (p + 1) s))
 unfolding fraction afterFraction
 fraction-some s p l e = (rw (add-one p, drop-cons s p 0 l, eq-eqb (getD s p 0) 46 e), rw (add-one p, drop-cons s p 0 l, eq-eqb (getD s p 0) 46 e))
 
@@ -198,7 +203,8 @@ module _ (minus : Bool) (s : List ℕ) (digits decimals whole from end : ℕ) (f
     unfolding unsignedDecimal
     shape-rest h = rw (some, ne-eqb (length (restOf s)) 0 (λ z. omega (arith, rest-long)), rest-are)
 
-    pub shape-whole : length s ≤ end → unsignedDecimal minus s digits decimals ≡ limited minus (take whole s ++ drop from s) (length s - from) digits decimals
+    pub shape-whole : length s ≤ end → unsignedDecimal minus s digits decimals
+        ≡ limited minus (take whole s ++ drop from s) (length s - from) digits decimals
     unfolding unsignedDecimal
     shape-whole h =
         let g : end ≡ length s = omega (arith, f .within) in
@@ -225,7 +231,8 @@ module _ (minus : Bool) (ds : List ℕ) (scale digits decimals : ℕ) where
   unfolding limited
   limited-long h = rw (lt-leb (significant ds) digits h)
 
-  pub limited-is : significant ds ≤ digits → scale ≤ decimals → limited minus ds scale digits decimals ≡ Is (record { negative = minus; digits = valueFrom 10 0 ds; scale = scale })
+  pub limited-is : significant ds ≤ digits → scale ≤ decimals
+      → limited minus ds scale digits decimals ≡ Is (record { negative = minus; digits = valueFrom 10 0 ds; scale = scale })
   unfolding limited
   limited-is h l = rw (le-leb (significant ds) digits h, le-leb scale decimals l)
 
@@ -239,7 +246,8 @@ module _ (s : List ℕ) (whole from : ℕ) (g : Digital s whole from) where
     few = omega (arith, g .order, g .within);
   }
 
-  pub both-read : (c d : Count) → Further (record { value = 0; significant = 0 }) s 0 whole c → Further c s from (length s) d → Counted (take whole s ++ drop from s) d
+  pub both-read : (c d : Count) → Further (record { value = 0; significant = 0 }) s 0 whole c → Further c s from (length s) d
+      → Counted (take whole s ++ drop from s) d
   unfolding significant valueFrom
   both-read c d f h =
       let z : whole - 0 ≡ whole = omega arith in
@@ -264,7 +272,8 @@ module _ (digits decimals : ℕ) where
   decimal-plus [] h e = absurd (omega arith)
   decimal-plus (b ∷ s) h e = rw (eq-eqb b 43 e, ne-eqb b 45 (λ w. omega arith))
 
-  pub decimal-bare : (s : List ℕ) → 1 ≤ length s → (getD s 0 0 ≡ 43 → ⊥) → (getD s 0 0 ≡ 45 → ⊥) → decimalOf s digits decimals ≡ unsignedDecimal false s digits decimals
+  pub decimal-bare : (s : List ℕ) → 1 ≤ length s → (getD s 0 0 ≡ 43 → ⊥) → (getD s 0 0 ≡ 45 → ⊥)
+      → decimalOf s digits decimals ≡ unsignedDecimal false s digits decimals
   unfolding decimalOf
   decimal-bare [] h m n = absurd (omega arith)
   decimal-bare (b ∷ s) h m n = rw (ne-eqb b 43 m, ne-eqb b 45 n)
@@ -277,7 +286,7 @@ every (b ∷ s) = digitByte b && every s
 
 pub every-append : (a b : List ℕ) → every a ≡ true → every b ≡ true → every (a ++ b) ≡ true
 every-append [] b p q = q
-every-append (x ∷ a) b p q = let h = both (digitByte x) (every a) p in rw (h .0) (every-append a b (h .1) q)
+every-append (x ∷ a) b p q = let h = and-eq-true-iff (digitByte x) (every a) .0 p in rw (h .0) (every-append a b (h .1) q)
 
 every-run : (s : List ℕ) → every (digitsAt s) ≡ true
 unfolding runLength
@@ -301,7 +310,7 @@ value-bound : (s : List ℕ) (v : ℕ) → every s ≡ true → valueFrom 10 v s
 unfolding valueFrom
 value-bound [] v e = rw (mul-one (v + 1)) (omega arith)
 value-bound (b ∷ s) v e =
-    let h = both (digitByte b) (every s) e in
+    let h = and-eq-true-iff (digitByte b) (every s) .0 e in
     let d = digit-bounds b (h .0) in
     let t : digitOf b ≡ b - 48 = digit-byte b (d .0) (d .1) in
     let r : valueFrom 10 (v * 10 + digitOf b) s < (v * 10 + digitOf b + 1) * 10 ^ length s = value-bound s (v * 10 + digitOf b) (h .1) in
@@ -312,9 +321,10 @@ value-bound (b ∷ s) v e =
 pub value-limit : (ds : List ℕ) (n : ℕ) → every ds ≡ true → significant ds ≤ n → valueFrom 10 0 ds < 10 ^ n
 unfolding valueFrom significant
 value-limit [] n e h = one-le-pow n 10 (omega arith)
-value-limit (b ∷ s) n e h = by (eqb b 48) refl (value-limit s n (both (digitByte b) (every s) e .1)) h
+value-limit (b ∷ s) n e h = by (eqb b 48) refl (value-limit s n (and-eq-true-iff (digitByte b) (every s) .0 e .1)) h
   where
-    by : (t : Bool) → eqb b 48 ≡ t → (significant s ≤ n → valueFrom 10 0 s < 10 ^ n) → cond t (significant s) (length (b ∷ s)) ≤ n → valueFrom 10 (0 * 10 + digitOf b) s < 10 ^ n
+    by : (t : Bool) → eqb b 48 ≡ t → (significant s ≤ n → valueFrom 10 0 s < 10 ^ n) → cond t (significant s) (length (b ∷ s)) ≤ n
+        → valueFrom 10 (0 * 10 + digitOf b) s < 10 ^ n
     by true w r h =
         let z : b ≡ 48 = eqb-true b 48 w in
         let d : 0 * 10 + digitOf b ≡ 0 = omega (arith, digit-byte b (omega arith) (omega arith)) in
@@ -330,11 +340,13 @@ pub record Within (digits decimals : ℕ) (d : Digits) : Type 0 where
   pub near : d .scale ≤ decimals
 
 module _ (digits decimals : ℕ) where
-  limited-within : (minus : Bool) (ds : List ℕ) (scale : ℕ) {d : Digits} → every ds ≡ true → limited minus ds scale digits decimals ≡ Is d → Within digits decimals d
+  limited-within : (minus : Bool) (ds : List ℕ) (scale : ℕ) {d : Digits} → every ds ≡ true → limited minus ds scale digits decimals ≡ Is d
+      → Within digits decimals d
   unfolding limited
   limited-within minus ds scale {d} v e = by (leb (significant ds) digits) (leb scale decimals) refl refl e
     where
-      by : (t u : Bool) → leb (significant ds) digits ≡ t → leb scale decimals ≡ u → cond (t && u) (Is (record { negative = minus; digits = valueFrom 10 0 ds; scale = scale })) Beyond ≡ Is d → Within digits decimals d
+      by : (t u : Bool) → leb (significant ds) digits ≡ t → leb scale decimals ≡ u
+          → cond (t && u) (Is (record { negative = minus; digits = valueFrom 10 0 ds; scale = scale })) Beyond ≡ Is d → Within digits decimals d
       by true true t u e =
           let w : record { negative = minus; digits = valueFrom 10 0 ds; scale = scale } ≡ d = cc in
           let a : valueFrom 10 0 ds ≡ d .digits = ap (λ (x : Digits). x .digits) w in
@@ -347,10 +359,12 @@ module _ (digits decimals : ℕ) where
   unfolding unsignedDecimal
   unsigned-within minus s {d} e = by (eqb (length (allDigits s)) 0) (isWord s) (eqb (length (restOf s)) 0) (isExponent (restOf s)) e
     where
-      by : (a w r x : Bool) → cond a (cond w Beyond Nothing) (cond r (limited minus (allDigits s) (scaleOf s) digits decimals) (cond x Beyond Nothing)) ≡ Is d → Within digits decimals d
+      by : (a w r x : Bool) → cond a (cond w Beyond Nothing)
+          (cond r (limited minus (allDigits s) (scaleOf s) digits decimals) (cond x Beyond Nothing)) ≡ Is d → Within digits decimals d
       by true true r x e = let z : _≡_ {A = ℕ} 0 1 = cc in absurd (omega arith)
       by true false r x e = let z : _≡_ {A = ℕ} 0 1 = cc in absurd (omega arith)
-      by false w true x e = limited-within minus (allDigits s) (scaleOf s) (every-append (digitsAt s) (fraction (afterDigits s)) (every-run s) (every-fraction (afterDigits s))) e
+      by false w true x e = limited-within minus (allDigits s) (scaleOf s)
+          (every-append (digitsAt s) (fraction (afterDigits s)) (every-run s) (every-fraction (afterDigits s))) e
       by false w false true e = let z : _≡_ {A = ℕ} 0 1 = cc in absurd (omega arith)
       by false w false false e = let z : _≡_ {A = ℕ} 0 1 = cc in absurd (omega arith)
 

@@ -9,7 +9,7 @@
 --     reduced-value                             the zeros cut off change no value
 use Prim.Native.Nat.{ℕ, zero, suc, _+_, _-_, _*_, _/_, _%_, _≤_, _<_, _^_}
 use mathlib.Core.Path.{_≡_, refl, sym, ap, _∙_}
-use mathlib.Core.Bool.{Bool, true, false, not, cond, Bool·beq, _&&_, _||_, and-false}
+use mathlib.Core.Bool.{Bool, true, false, not, cond, Bool·beq, _&&_, _||_, and-false, and-eq-true-iff}
 use mathlib.Core.List.{List, [], _∷_, _++_, append-assoc, append-nil}
 use native.Mathlib.Omega.{arith}
 use native.Mathlib.Nat.{pow-le-pow-right}
@@ -26,7 +26,6 @@ use Rattle.scan.proofs.Stores.{sets-on}
 use Rattle.numerals.specs.Written.{padded, decimalWidth}
 use Rattle.numerals.proofs.Writing.{padded-length}
 use Rattle.decimals.proofs.Values.{value-zero}
-use Rattle.decimals.proofs.Tests.{both}
 use Rattle.decimals.specs.declared.read.Digits.{Digits}
 use Rattle.decimals.specs.declared.size.Size.{Size}
 use Rattle.decimals.specs.Floats.{valueIn, sameExponent, sameFloat}
@@ -64,7 +63,8 @@ unfolding reducedFrom
 reduced-least minus digits zero = record { sign = refl; fewer = omega arith; nearer = omega arith; trim = λ h e. omega arith }
 reduced-least minus digits (suc k) = by (eqb (digits % 10) 0) refl (reduced-least minus (digits / 10) k)
   where
-    by : (t : Bool) → eqb (digits % 10) 0 ≡ t → Least minus (digits / 10) k (reducedFrom minus (digits / 10) k) → Least minus digits (suc k) (cond t (reducedFrom minus (digits / 10) k) (spelled minus digits (suc k)))
+    by : (t : Bool) → eqb (digits % 10) 0 ≡ t → Least minus (digits / 10) k (reducedFrom minus (digits / 10) k)
+        → Least minus digits (suc k) (cond t (reducedFrom minus (digits / 10) k) (spelled minus digits (suc k)))
     by true e r = record { sign = r .sign; fewer = omega (arith, r .fewer); nearer = omega (arith, r .nearer); trim = r .trim }
     by false e r = record { sign = refl; fewer = omega arith; nearer = omega arith; trim = λ h. eqb-false (digits % 10) 0 e }
 
@@ -118,8 +118,8 @@ same-true (inf s) (fin t n d) h = let z : _≡_ {A = ℕ} 0 1 = cc in absurd (om
 same-true (fin s m e) nan h = let z : _≡_ {A = ℕ} 0 1 = cc in absurd (omega arith)
 same-true (fin s m e) (inf t) h = let z : _≡_ {A = ℕ} 0 1 = cc in absurd (omega arith)
 same-true (fin s m e) (fin t n d) h =
-    let a = both (Bool·beq s t && eqb m n) (sameExponent e d) h in
-    let b = both (Bool·beq s t) (eqb m n) (a .0) in
+    let a = and-eq-true-iff (Bool·beq s t && eqb m n) (sameExponent e d) .0 h in
+    let b = and-eq-true-iff (Bool·beq s t) (eqb m n) .0 (a .0) in
     rw (same-sign s t (b .0), eqb-true m n (b .1), same-exponent e d (a .1))
 
 pub same-itself : (x : Float) → isNan x ≡ false → sameFloat x x ≡ true
@@ -136,7 +136,8 @@ pub same-nan : (x y : Float) → ne x x ≡ true → sameFloat x y ≡ false
 unfolding sameFloat
 same-nan x y e = rw (differs-from-itself x (rw e tt))
 
-pub bits-same : (a b : Float) → fits binary32 a ≡ true → fits binary32 b ≡ true → isNan a ≡ false → eqb (toBits binary32 a) (toBits binary32 b) ≡ sameFloat b a
+pub bits-same : (a b : Float) → fits binary32 a ≡ true → fits binary32 b ≡ true → isNan a ≡ false
+    → eqb (toBits binary32 a) (toBits binary32 b) ≡ sameFloat b a
 bits-same a b f g n = by (sameFloat b a) refl
   where
     by : (t : Bool) → sameFloat b a ≡ t → eqb (toBits binary32 a) (toBits binary32 b) ≡ t
@@ -161,7 +162,8 @@ module _ (s : Size) where
   unfolding isSize
   size-zero h e = rw (ne-eqb (s .scale) 0 (λ z. omega arith), eq-eqb (s .digits % 10) 0 e, and-false)
 
-  pub size-is : s .digits ≤ 999999 → s .scale ≤ 10 → (0 < s .scale → s .digits % 10 ≡ 0 → ⊥) → isSize s ≡ sameFloat (s .value) (valueIn binary32 (s .negative) (s .digits) (s .scale))
+  pub size-is : s .digits ≤ 999999 → s .scale ≤ 10 → (0 < s .scale → s .digits % 10 ≡ 0 → ⊥)
+      → isSize s ≡ sameFloat (s .value) (valueIn binary32 (s .negative) (s .digits) (s .scale))
   unfolding isSize
   size-is a b n = rw (le-leb (s .digits) 999999 a, le-leb (s .scale) 10 b, by (eqb (s .scale) 0) refl)
     where
@@ -211,13 +213,15 @@ pub record Begun (minus : Bool) (at : ℕ) (t : List ℕ) (start : ℕ) (t′ : 
   pub place : start ≡ at + length (lead minus)
   pub laid : t′ ≡ sets t at (lead minus)
 
-pub begun-minus : (minus : Bool) {at : ℕ} {t : List ℕ} {start : ℕ} {t′ : List ℕ} → minus ≡ true → start ≡ at + 1 → t′ ≡ set t at 45 → Begun minus at t start t′
+pub begun-minus : (minus : Bool) {at : ℕ} {t : List ℕ} {start : ℕ} {t′ : List ℕ} → minus ≡ true → start ≡ at + 1 → t′ ≡ set t at 45
+    → Begun minus at t start t′
 begun-minus minus m e f = record { place = rw m e; laid = rw m f }
 
 pub begun-plain : (minus : Bool) {at : ℕ} {t : List ℕ} {start : ℕ} {t′ : List ℕ} → minus ≡ false → start ≡ at → t′ ≡ t → Begun minus at t start t′
 begun-plain minus m e f = record { place = rw m (omega arith); laid = rw m f }
 
-module _ (minus : Bool) (digits scale at : ℕ) (t : List ℕ) (start : ℕ) (t1 : List ℕ) (b : Begun minus at t start t1) (room : at + length (spelling minus digits scale) ≤ length t) where
+module _ (minus : Bool) (digits scale at : ℕ) (t : List ℕ) (start : ℕ) (t1 : List ℕ) (b : Begun minus at t start t1)
+    (room : at + length (spelling minus digits scale) ≤ length t) where
   long-one : length t1 ≡ length t
   long-one = ap length (b .laid) ∙ simp length-sets
 
@@ -247,13 +251,24 @@ module _ (minus : Bool) (digits scale at : ℕ) (t : List ℕ) (start : ℕ) (t1
 
     module _ (n : scale ≡ 0 → ⊥) where
       pub room-point : end + 1 + scale ≤ length t
-      room-point = omega (arith, long-parts minus digits scale n, w .next, b .place, padded-length 10 (decimalWidth (digits / 10 ^ scale)) (digits / 10 ^ scale))
+      room-point = omega (
+        arith,
+        long-parts minus digits scale n,
+        w .next,
+        b .place,
+        padded-length 10 (decimalWidth (digits / 10 ^ scale))
+            (digits / 10 ^ scale),
+      )
 
-      pub put-parts : (t4 : List ℕ) (r : ℕ) → Appended (behind digits scale) (end + 1) (set t2 end 46) t4 r → Appended (spelling minus digits scale) at t t4 r
+      pub put-parts : (t4 : List ℕ) (r : ℕ) → Appended (behind digits scale) (end + 1) (set t2 end 46) t4 r
+          → Appended (spelling minus digits scale) at t t4 r
       put-parts t4 r v =
-          let three : set t2 end 46 ≡ sets t at (lead minus ++ before digits scale ++ (46 ∷ [])) = sets-on (lead minus ++ before digits scale) (46 ∷ []) t t2 (set t2 end 46) at end two refl two-end in
-          let three-end : end + 1 ≡ at + length (lead minus ++ before digits scale ++ (46 ∷ [])) = rw (length-append (lead minus ++ before digits scale) (46 ∷ [])) (omega (arith, two-end)) in
-          let four : t4 ≡ sets t at (lead minus ++ before digits scale ++ (46 ∷ []) ++ behind digits scale) = sets-on (lead minus ++ before digits scale ++ (46 ∷ [])) (behind digits scale) t (set t2 end 46) t4 at (end + 1) three (v .laid) three-end in
+          let three : set t2 end 46 ≡ sets t at (lead minus ++ before digits scale ++ (46 ∷ [])) =
+          sets-on (lead minus ++ before digits scale) (46 ∷ []) t t2 (set t2 end 46) at end two refl two-end in
+          let three-end : end + 1 ≡ at + length (lead minus ++ before digits scale ++ (46 ∷ [])) =
+          rw (length-append (lead minus ++ before digits scale) (46 ∷ [])) (omega (arith, two-end)) in
+          let four : t4 ≡ sets t at (lead minus ++ before digits scale ++ (46 ∷ []) ++ behind digits scale) = sets-on
+          (lead minus ++ before digits scale ++ (46 ∷ [])) (behind digits scale) t (set t2 end 46) t4 at (end + 1) three (v .laid) three-end in
           let long : length (set t2 end 46) ≡ length t = simp length-set long-two in
           rw (spelling-parts minus digits scale n, ← (append-assoc (lead minus ++ before digits scale) (46 ∷ []) (behind digits scale))) (record {
             next = v .next ∙ rw (three-end, length-append (lead minus ++ before digits scale ++ (46 ∷ [])) (behind digits scale)) (omega arith);
@@ -281,9 +296,9 @@ pub size-says : (s : Size) → isSize s ≡ true → IsSize s
 unfolding isSize
 size-says s e =
     let v : Bool = sameFloat (s .value) (valueIn binary32 (s .negative) (s .digits) (s .scale)) in
-    let x = both (leb (s .digits) 999999 && leb (s .scale) 10 && (eqb (s .scale) 0 || not (eqb (s .digits % 10) 0))) v e in
-    let y = both (leb (s .digits) 999999 && leb (s .scale) 10) (eqb (s .scale) 0 || not (eqb (s .digits % 10) 0)) (x .0) in
-    let z = both (leb (s .digits) 999999) (leb (s .scale) 10) (y .0) in
+    let x = and-eq-true-iff (leb (s .digits) 999999 && leb (s .scale) 10 && (eqb (s .scale) 0 || not (eqb (s .digits % 10) 0))) v .0 e in
+    let y = and-eq-true-iff (leb (s .digits) 999999 && leb (s .scale) 10) (eqb (s .scale) 0 || not (eqb (s .digits % 10) 0)) .0 (x .0) in
+    let z = and-eq-true-iff (leb (s .digits) 999999) (leb (s .scale) 10) .0 (y .0) in
     record {
       few = leb-true (s .digits) 999999 (z .0);
       near = leb-true (s .scale) 10 (z .1);
@@ -304,7 +319,8 @@ size-again s e =
     let r : reducedFrom (s .negative) (s .digits) (s .scale) ≡ spelled (s .negative) (s .digits) (s .scale) = by (ltb 0 (s .scale)) refl (i .trim) in
     ap sized r ∙ rw (← (i .value-is))
   where
-    by : (t : Bool) → ltb 0 (s .scale) ≡ t → (0 < s .scale → s .digits % 10 ≡ 0 → ⊥) → reducedFrom (s .negative) (s .digits) (s .scale) ≡ spelled (s .negative) (s .digits) (s .scale)
+    by : (t : Bool) → ltb 0 (s .scale) ≡ t → (0 < s .scale → s .digits % 10 ≡ 0 → ⊥)
+        → reducedFrom (s .negative) (s .digits) (s .scale) ≡ spelled (s .negative) (s .digits) (s .scale)
     by true t n = let h : 0 < s .scale = ltb-true 0 (s .scale) t in reduced-stop (s .negative) (s .digits) (s .scale) h (n h)
     by false t n = reduced-end (s .negative) (s .digits) (s .scale) (ltb-false 0 (s .scale) t)
 
@@ -317,8 +333,11 @@ reduced-value f minus digits zero = refl
 reduced-value f minus digits (suc k) = by (eqb (digits % 10) 0) refl (reduced-value f minus (digits / 10) k)
   where
     by : (t : Bool) → eqb (digits % 10) 0 ≡ t
-        → valueIn f (reducedFrom minus (digits / 10) k .negative) (reducedFrom minus (digits / 10) k .digits) (reducedFrom minus (digits / 10) k .scale) ≡ valueIn f minus (digits / 10) k
-        → valueIn f (cond t (reducedFrom minus (digits / 10) k) (spelled minus digits (suc k)) .negative) (cond t (reducedFrom minus (digits / 10) k) (spelled minus digits (suc k)) .digits) (cond t (reducedFrom minus (digits / 10) k) (spelled minus digits (suc k)) .scale) ≡ valueIn f minus digits (suc k)
+        → valueIn f (reducedFrom minus (digits / 10) k .negative) (reducedFrom minus (digits / 10) k .digits)
+        (reducedFrom minus (digits / 10) k .scale) ≡ valueIn f minus (digits / 10) k
+        → valueIn f (cond t (reducedFrom minus (digits / 10) k) (spelled minus digits (suc k)) .negative)
+        (cond t (reducedFrom minus (digits / 10) k) (spelled minus digits (suc k)) .digits)
+        (cond t (reducedFrom minus (digits / 10) k) (spelled minus digits (suc k)) .scale) ≡ valueIn f minus digits (suc k)
     by true e r =
         let z : digits / 10 * 10 ≡ digits = omega (arith, eqb-true (digits % 10) 0 e) in
         r ∙ sym (value-zero f minus (digits / 10) k) ∙ rw z

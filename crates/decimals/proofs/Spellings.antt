@@ -2,10 +2,11 @@
 --     read-back    the decimal that a spelling spells is the one that was spelled
 use Prim.Native.Nat.{ℕ, suc, _+_, _-_, _*_, _/_, _%_, _≤_, _<_, _^_}
 use mathlib.Core.Path.{_≡_, refl, ap, _∙_}
-use mathlib.Core.Bool.{Bool, true, false, cond}
+use mathlib.Core.Bool.{Bool, true, false, cond, and-eq-true-iff}
 use mathlib.Core.List.{List, [], _∷_, _++_, append-assoc, append-nil}
 use native.Mathlib.Omega.{arith}
-use native.Mathlib.Nat.{add-mul, mul-assoc, mul-comm, mul-left-comm, pow-suc, pow-le-pow-right, one-le-pow, mod-lt, div-add-mod', div-le-self, mul-le-mul-right}
+use native.Mathlib.Nat.{add-mul, mul-assoc, mul-comm, mul-left-comm, pow-suc, pow-le-pow-right, one-le-pow, mod-lt, div-add-mod', div-le-self}
+use native.Mathlib.Nat.{mul-le-mul-right}
 use lib.Dec.{eqb, leb, lit≤}
 use lib.ListN.{length, getD, length-append, List·getD-append}
 use lib.Seq.{take-append-seam, drop-append-seam}
@@ -16,9 +17,9 @@ use Rattle.numerals.specs.Numerals.{valueFrom, digitOf}
 use Rattle.numerals.specs.Written.{padded, decimalWidth}
 use Rattle.numerals.proofs.Numerals.{value-append, digit-byte}
 use Rattle.numerals.proofs.Writing.{padded-length, padded-byte, padded-value, width-fits, width-some}
-use Rattle.decimals.proofs.Tests.{both}
 use Rattle.decimals.specs.declared.read.Decimal.the-variants.{Is}
-use Rattle.decimals.specs.Decimal.{fraction, afterFraction, allDigits, restOf, scaleOf, digitsAt, afterDigits, significant, limited, unsignedDecimal, decimalOf}
+use Rattle.decimals.specs.Decimal.{fraction, afterFraction, allDigits, restOf, scaleOf, digitsAt, afterDigits, significant, limited}
+use Rattle.decimals.specs.Decimal.{unsignedDecimal, decimalOf}
 use Rattle.decimals.specs.Size.{spelled, spelling}
 use Rattle.decimals.proofs.Counting.{digit-bounds}
 use Rattle.decimals.proofs.Reading.{every, every-append, limited-is, decimal-minus, decimal-bare}
@@ -37,7 +38,7 @@ every-padded w n = every-bytes (padded 10 w n) (λ k l. padded-byte w n k (omega
 run-split : (a b : List ℕ) → every a ≡ true → runLength digitByte b ≡ 0 → runLength digitByte (a ++ b) ≡ length a
 unfolding runLength
 run-split [] b e z = z
-run-split (x ∷ a) b e z = let h = both (digitByte x) (every a) e in rw (h .0, run-split a b (h .1) z)
+run-split (x ∷ a) b e z = let h = and-eq-true-iff (digitByte x) (every a) .0 e in rw (h .0, run-split a b (h .1) z)
 
 digits-split : (a b : List ℕ) → every a ≡ true → runLength digitByte b ≡ 0 → (digitsAt (a ++ b) ≡ a) × (afterDigits (a ++ b) ≡ b)
 digits-split a b e z = (rw (run-split a b e z) (take-append-seam a b), rw (run-split a b e z) (drop-append-seam a b))
@@ -66,7 +67,7 @@ few-digits [] n e h = omega arith
 few-digits (b ∷ s) n e h = by (eqb b 48) refl (few-digits s n (q .1))
   where
     q : (digitByte b ≡ true) × (every s ≡ true)
-    q = both (digitByte b) (every s) e
+    q = and-eq-true-iff (digitByte b) (every s) .0 e
 
     d : digitOf b ≡ b - 48
     d = let k = digit-bounds b (q .0) in digit-byte b (k .0) (k .1)
@@ -145,33 +146,45 @@ module _ (digits scale : ℕ) where
   value-is : digits < 2 ^ 64 → valueFrom 10 0 (before digits scale ++ behind digits scale) ≡ digits
   value-is wide =
       let w = digits / 10 ^ scale in
-      let a : valueFrom 10 0 (before digits scale) ≡ w = padded-value 10 (lit≤ tt) (lit≤ tt) (decimalWidth w) w (width-fits w (omega (arith, div-le-self digits (10 ^ scale)))) in
-      let b : valueFrom 10 0 (behind digits scale) ≡ digits % 10 ^ scale = padded-value 10 (lit≤ tt) (lit≤ tt) scale (digits % 10 ^ scale) (mod-lt digits (one-le-pow scale 10 (lit≤ tt))) in
+      let a : valueFrom 10 0 (before digits scale) ≡ w = padded-value 10 (lit≤ tt) (lit≤ tt) (decimalWidth w) w
+      (width-fits w (omega (arith, div-le-self digits (10 ^ scale)))) in
+      let b : valueFrom 10 0 (behind digits scale) ≡ digits % 10 ^ scale = padded-value 10 (lit≤ tt) (lit≤ tt) scale (digits % 10 ^ scale)
+      (mod-lt digits (one-le-pow scale 10 (lit≤ tt))) in
       value-append 10 0 (before digits scale) (behind digits scale)
       ∙ (value-shift (behind digits scale) (valueFrom 10 0 (before digits scale)) ∙ rw (a, b, long-behind) (div-add-mod' digits (10 ^ scale)))
 
 module _ (minus : Bool) (digits scale limit decimals : ℕ) (wide : digits < 2 ^ 64) (few : digits < 10 ^ limit) (near : scale ≤ decimals) where
-  limited-all : limited minus (before digits scale ++ behind digits scale) (length (behind digits scale)) limit decimals ≡ Is (spelled minus digits scale)
+  limited-all : limited minus (before digits scale ++ behind digits scale) (length (behind digits scale)) limit decimals
+      ≡ Is (spelled minus digits scale)
   limited-all =
       let ds : List ℕ = before digits scale ++ behind digits scale in
       let e : every ds ≡ true = every-append (before digits scale) (behind digits scale) (every-before digits scale) (every-behind digits scale) in
-      limited-is minus ds (length (behind digits scale)) limit decimals (few-digits ds limit e (omega (arith, value-is digits scale wide))) (omega (arith, long-behind digits scale))
+      limited-is minus ds (length (behind digits scale)) limit decimals (few-digits ds limit e (omega (arith, value-is digits scale wide)))
+      (omega (arith, long-behind digits scale))
       ∙ rw (value-is digits scale wide, long-behind digits scale)
 
   unsigned-is : unsignedDecimal minus (plain digits scale) limit decimals ≡ Is (spelled minus digits scale)
   unsigned-is = by (eqb scale 0) refl ∙ limited-all
     where
-      by : (t : Bool) → eqb scale 0 ≡ t → unsignedDecimal minus (before digits scale ++ cond t [] ((46 ∷ []) ++ behind digits scale)) limit decimals ≡ limited minus (before digits scale ++ behind digits scale) (length (behind digits scale)) limit decimals
+      by : (t : Bool) → eqb scale 0 ≡ t → unsignedDecimal minus (before digits scale ++ cond t [] ((46 ∷ []) ++ behind digits scale)) limit decimals
+          ≡ limited minus (before digits scale ++ behind digits scale) (length (behind digits scale)) limit decimals
       by true e =
           let z : length (behind digits scale) ≡ 0 = omega (arith, long-behind digits scale, eqb-true scale 0 e) in
-          rw (append-nil (before digits scale)) (unsigned-whole minus (before digits scale) (behind digits scale) limit decimals (every-before digits scale) (every-behind digits scale) (some digits scale) z)
-      by false e = unsigned-parts minus (before digits scale) (behind digits scale) limit decimals (every-before digits scale) (every-behind digits scale) (some digits scale)
+          rw (append-nil (before digits scale))
+          (unsigned-whole minus (before digits scale) (behind digits scale) limit decimals (every-before digits scale)
+          (every-behind digits scale) (some digits scale) z)
+      by false e = unsigned-parts minus (before digits scale) (behind digits scale) limit decimals (every-before digits scale)
+          (every-behind digits scale) (some digits scale)
 
-pub read-back : (minus : Bool) (digits scale limit decimals : ℕ) → digits < 2 ^ 64 → digits < 10 ^ limit → scale ≤ decimals → decimalOf (spelling minus digits scale) limit decimals ≡ Is (spelled minus digits scale)
+pub read-back : (minus : Bool) (digits scale limit decimals : ℕ) → digits < 2 ^ 64 → digits < 10 ^ limit → scale ≤ decimals
+    → decimalOf (spelling minus digits scale) limit decimals ≡ Is (spelled minus digits scale)
 read-back true digits scale limit decimals wide few near =
-    rw (spelling-is true digits scale) (decimal-minus limit decimals (45 ∷ plain digits scale) (omega arith) refl ∙ unsigned-is true digits scale limit decimals wide few near)
+    rw (spelling-is true digits scale)
+    (decimal-minus limit decimals (45 ∷ plain digits scale) (omega arith) refl ∙ unsigned-is true digits scale limit decimals wide few near)
 read-back false digits scale limit decimals wide few near =
     let b = first-byte digits scale in
-    let l : 1 ≤ length (plain digits scale) = omega (arith, length-append (before digits scale) (cond (eqb scale 0) [] ((46 ∷ []) ++ behind digits scale)), some digits scale) in
+    let l : 1 ≤ length (plain digits scale) =
+    omega (arith, length-append (before digits scale) (cond (eqb scale 0) [] ((46 ∷ []) ++ behind digits scale)), some digits scale) in
     rw (spelling-is false digits scale)
-    (decimal-bare limit decimals (plain digits scale) l (λ e. omega (arith, b)) (λ e. omega (arith, b)) ∙ unsigned-is false digits scale limit decimals wide few near)
+    (decimal-bare limit decimals (plain digits scale) l (λ e. omega (arith, b)) (λ e. omega (arith, b))
+    ∙ unsigned-is false digits scale limit decimals wide few near)

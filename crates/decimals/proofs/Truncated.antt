@@ -5,9 +5,11 @@
 --     cut-high, cut-low, cut-none, cut-whole, cut-minus   the float as an i64, by those comparisons
 use Prim.Native.Nat.{ℕ, zero, suc, _+_, _-_, _*_, _/_, _%_, _^_, _≤_, _<_, min}
 use mathlib.Core.Path.{_≡_, refl, sym, ap, _∙_}
-use mathlib.Core.Bool.{Bool, true, false, not, cond, _&&_, _||_, and-true, or-true}
+use mathlib.Core.Bool.{Bool, true, false, not, cond, _&&_, _||_, and-true, or-true, true≢false}
 use native.Mathlib.Omega.{arith}
-use native.Mathlib.Nat.{lt-of-not-le, add-sub-of-le, mod-lt, mod-eq-of-lt, mul-assoc, mul-div-cancel, lt-irrefl, lt-of-lt-of-le, le-trans, le-of-eq, mul-one, one-mul, mul-pos, mul-comm, mul-right-comm, mul-le-mul-right, mul-lt-mul-of-pos-right, lt-of-mul-lt-mul-right, le-of-mul-le-mul-right, le-div-iff-mul-le, div-lt-iff-lt-mul}
+use native.Mathlib.Nat.{lt-of-not-le, add-sub-of-le, mod-lt, mod-eq-of-lt, mul-assoc, mul-div-cancel, lt-irrefl, lt-of-lt-of-le, le-trans, le-of-eq}
+use native.Mathlib.Nat.{mul-one, one-mul, mul-pos, mul-comm, mul-right-comm, mul-le-mul-right, mul-lt-mul-of-pos-right, lt-of-mul-lt-mul-right}
+use native.Mathlib.Nat.{le-of-mul-le-mul-right, le-div-iff-mul-le, div-lt-iff-lt-mul}
 use lib.IntN.{ℤ, pos, negsuc, negℤ}
 use lib.Pow.{pow-pos, pow-mono, pow-add, shl-lt}
 use lib.Dec.{T, eqb, leb, ltb, leb→le, ltb→lt}
@@ -22,8 +24,7 @@ use lib.Ieee.Scale.{finite}
 use mir.Syntax.{w64}
 use mir.Val.{SFits}
 use borrow.Author.Tests.{leb-true, leb-false, lt-ltb, le-ltb, eq-eqb, ne-eqb, eqb-true, eqb-false}
-use Rattle.decimals.proofs.Tests.{no}
-use Rattle.decimals.specs.Floats.{Middling}
+use Rattle.decimals.specs.Steps.{Middling}
 
 -- ---- the whole part, without its sign
 abbrev pub wholeOf : ℕ → ℤ → ℕ
@@ -88,15 +89,16 @@ module _ (h : ℕ) where
   at-most (inf false) = refl
   at-most (fin false m e) = not-level (m * up e * 1) (1 * 2 ^ h * down e) (omega (arith, power-pos e))
   at-most (fin true m e) =
-      rw (one-mul (2 ^ h), mul-one (m * up e), and-true, eqb-sym (m * up e) (2 ^ h * down e)) (below-or-level (2 ^ h) (m * up e) (down e) (down-pos e))
+      rw (one-mul (2 ^ h), mul-one (m * up e), and-true, eqb-sym (m * up e) (2 ^ h * down e))
+      (below-or-level (2 ^ h) (m * up e) (down e) (down-pos e))
 
 -- ---- between 1 and 2 ^ 63
 pub middling : (x : Float) → reaches 0 x ≡ true → reaches 63 x ≡ false → Middling x
 unfolding lt
-middling nan a b = no (sym a)
-middling (inf true) a b = no (sym a)
-middling (inf false) a b = no b
-middling (fin true m e) a b = no (sym a)
+middling nan a b = absurd (true≢false (sym a))
+middling (inf true) a b = absurd (true≢false (sym a))
+middling (inf false) a b = absurd (true≢false b)
+middling (fin true m e) a b = absurd (true≢false (sym a))
 middling (fin false m e) a b = record {
   large = rw (at-least 0 (fin false m e), a) tt;
   small =
@@ -113,26 +115,29 @@ not-nan (fin s m e) g = tt
 -- ---- as an i64
 pub cut-high : (x : Float) → reaches 63 x ≡ true → pos 9223372036854775807 ≡ toSigned 63 x
 unfolding toSigned
-cut-high nan a = no (sym a)
-cut-high (inf true) a = no (sym a)
+cut-high nan a = absurd (true≢false (sym a))
+cut-high (inf true) a = absurd (true≢false (sym a))
 cut-high (inf false) a = refl
-cut-high (fin true m e) a = no (sym a)
-cut-high (fin false m e) a = let z : 9223372036854775807 ≡ min (wholeOf m e) (2 ^ 63 - 1) = omega (arith, leb-true (2 ^ 63) (wholeOf m e) a) in ap pos z
+cut-high (fin true m e) a = absurd (true≢false (sym a))
+cut-high (fin false m e) a = let z : 9223372036854775807 ≡ min (wholeOf m e) (2 ^ 63 - 1) = omega (arith, leb-true (2 ^ 63) (wholeOf m e) a) in
+    ap pos z
 
 pub cut-low : (x : Float) → reaches 63 (neg x) ≡ true → negsuc 9223372036854775807 ≡ toSigned 63 x
 unfolding toSigned neg
-cut-low nan a = no (sym a)
+cut-low nan a = absurd (true≢false (sym a))
 cut-low (inf true) a = refl
-cut-low (inf false) a = no (sym a)
-cut-low (fin true m e) a = let z : 9223372036854775808 ≡ min (wholeOf m e) (2 ^ 63) = omega (arith, leb-true (2 ^ 63) (wholeOf m e) a) in ap (λ (k : ℕ). negℤ (pos k)) z
-cut-low (fin false m e) a = no (sym a)
+cut-low (inf false) a = absurd (true≢false (sym a))
+cut-low (fin true m e) a = let z : 9223372036854775808 ≡ min (wholeOf m e) (2 ^ 63) = omega (arith, leb-true (2 ^ 63) (wholeOf m e) a) in
+    ap (λ (k : ℕ). negℤ (pos k)) z
+cut-low (fin false m e) a = absurd (true≢false (sym a))
 
 pub cut-none : (x : Float) → reaches 0 x ≡ false → reaches 0 (neg x) ≡ false → pos 0 ≡ toSigned 63 x
 unfolding toSigned neg
 cut-none nan a b = refl
-cut-none (inf true) a b = no b
-cut-none (inf false) a b = no a
-cut-none (fin true m e) a b = let z : 0 ≡ min (wholeOf m e) (2 ^ 63) = omega (arith, leb-false (2 ^ 0) (wholeOf m e) b) in ap (λ (k : ℕ). negℤ (pos k)) z
+cut-none (inf true) a b = absurd (true≢false b)
+cut-none (inf false) a b = absurd (true≢false a)
+cut-none (fin true m e) a b = let z : 0 ≡ min (wholeOf m e) (2 ^ 63) = omega (arith, leb-false (2 ^ 0) (wholeOf m e) b) in
+    ap (λ (k : ℕ). negℤ (pos k)) z
 cut-none (fin false m e) a b = let z : 0 ≡ min (wholeOf m e) (2 ^ 63 - 1) = omega (arith, leb-false (2 ^ 0) (wholeOf m e) a) in ap pos z
 
 -- r is the whole part of x, and x as an i64 is z
@@ -142,10 +147,10 @@ pub record Cut (z : ℤ) (r : ℕ) (x : Float) : Type 0 where
 
 pub cut-whole : (x : Float) {r : ℕ} → reaches 0 x ≡ true → reaches 63 x ≡ false → r ≡ toUnsigned 64 x → Cut (pos r) r x
 unfolding toSigned toUnsigned
-cut-whole nan a b w = no (sym a)
-cut-whole (inf true) a b w = no (sym a)
-cut-whole (inf false) a b w = no b
-cut-whole (fin true m e) a b w = no (sym a)
+cut-whole nan a b w = absurd (true≢false (sym a))
+cut-whole (inf true) a b w = absurd (true≢false (sym a))
+cut-whole (inf false) a b w = absurd (true≢false b)
+cut-whole (fin true m e) a b w = absurd (true≢false (sym a))
 cut-whole (fin false m e) {r} a b w =
     let l : wholeOf m e < 2 ^ 63 = leb-false (2 ^ 63) (wholeOf m e) b in
     let z : r ≡ min (wholeOf m e) (2 ^ 63 - 1) = omega arith in
@@ -153,14 +158,14 @@ cut-whole (fin false m e) {r} a b w =
 
 pub cut-minus : (x : Float) {r : ℕ} → reaches 0 (neg x) ≡ true → reaches 63 (neg x) ≡ false → r ≡ toUnsigned 64 (neg x) → Cut (negℤ (pos r)) r x
 unfolding toSigned toUnsigned neg
-cut-minus nan a b w = no (sym a)
-cut-minus (inf true) a b w = no b
-cut-minus (inf false) a b w = no (sym a)
+cut-minus nan a b w = absurd (true≢false (sym a))
+cut-minus (inf true) a b w = absurd (true≢false b)
+cut-minus (inf false) a b w = absurd (true≢false (sym a))
 cut-minus (fin true m e) {r} a b w =
     let l : wholeOf m e < 2 ^ 63 = leb-false (2 ^ 63) (wholeOf m e) b in
     let z : r ≡ min (wholeOf m e) (2 ^ 63) = omega arith in
     record { small = omega arith; is = ap (λ (k : ℕ). negℤ (pos k)) z }
-cut-minus (fin false m e) a b w = no (sym a)
+cut-minus (fin false m e) a b w = absurd (true≢false (sym a))
 
 pub minus-fits : (r : ℕ) → r < 2 ^ 63 → SFits w64 (negℤ (pos r))
 minus-fits zero h = record { sfits = pow-pos 63 }
@@ -168,7 +173,8 @@ minus-fits (suc r) h = record { sfits = omega arith }
 
 -- ---- from the bits
 -- what a value between 1 and 2 ^ 63 is as a fraction
-fraction : (x : Float) (s : Bool) (a c : ℕ) → 0 < c → Middling x → HasValue x s a c → (s ≡ false) × (c ≤ a) × (a < 2 ^ 63 * c) × (toUnsigned 64 x ≡ a / c)
+fraction : (x : Float) (s : Bool) (a c : ℕ) → 0 < c → Middling x → HasValue x s a c
+    → (s ≡ false) × (c ≤ a) × (a < 2 ^ 63 * c) × (toUnsigned 64 x ≡ a / c)
 unfolding lt toUnsigned
 fraction nan s a c C g v = absurd v
 fraction (inf t) s a c C g v = absurd v
@@ -196,7 +202,7 @@ unfolding le lt
 not-finite nan n g = g .large
 not-finite (inf true) n g = g .large
 not-finite (inf false) n g = g .small
-not-finite (fin s m e) n g = no n
+not-finite (fin s m e) n g = absurd (true≢false n)
 
 no-field : (t : ℕ) → t < 2 ^ 52 → 2 ^ 1074 ≤ t * 2 ^ 0 → ⊥
 no-field t h k = absurd (lt-irrefl t (lt-of-lt-of-le h (le-trans (pow-mono wide) (le-trans k (le-of-eq (mul-one t))))))
@@ -210,7 +216,8 @@ read-fields s zero t h g =
     absurd (no-field t h (fraction (odd 53 s t 0 1074) s (t * 2 ^ 0) (2 ^ 1074) (pow-pos 1074) g (odd-sign 53 s t 0 1074) .1))
 read-fields s (suc p) t h g = by (eqb (suc p) 2047) (eqb t 0) g
   where
-    by : (u w : Bool) → Middling (cond u (cond w (inf s) nan) (odd 53 s (2 ^ 52 + t) p 1074)) → (s ≡ false) × Fields (suc p) (t + 2 ^ 52) (cond u (cond w (inf s) nan) (odd 53 s (2 ^ 52 + t) p 1074))
+    by : (u w : Bool) → Middling (cond u (cond w (inf s) nan) (odd 53 s (2 ^ 52 + t) p 1074))
+        → (s ≡ false) × Fields (suc p) (t + 2 ^ 52) (cond u (cond w (inf s) nan) (odd 53 s (2 ^ 52 + t) p 1074))
     by true true g = absurd (not-finite (inf s) refl g)
     by true false g = absurd (not-finite nan refl g)
     by false w g =
@@ -233,10 +240,14 @@ module _ (q a l : ℕ) where
   low-bound h k = lt-of-not-le (λ (g : 53 + a ≤ l). lt-irrefl (q * 2 ^ a) (lt-of-lt-of-le (shl-lt 53 a k) (le-trans (pow-mono g) h)))
 
   high-bound : q * 2 ^ a < 2 ^ 63 * 2 ^ l → 2 ^ 52 ≤ q → 52 + a < 63 + l
-  high-bound h k = lt-of-not-le (λ (g : 63 + l ≤ 52 + a). lt-irrefl (q * 2 ^ a) (lt-of-lt-of-le h (le-trans (le-of-eq (sym (pow-add 2 63 l))) (le-trans (pow-mono g) (le-trans (le-of-eq (pow-add 2 52 a)) (mul-le-mul-right (2 ^ a) k))))))
+  high-bound h k = lt-of-not-le
+      (λ (g : 63 + l ≤ 52 + a). lt-irrefl (q * 2 ^ a)
+      (lt-of-lt-of-le h (le-trans (le-of-eq (sym (pow-add 2 63 l)))
+      (le-trans (pow-mono g) (le-trans (le-of-eq (pow-add 2 52 a)) (mul-le-mul-right (2 ^ a) k))))))
 
   shift-right : a ≤ l → q * 2 ^ a / 2 ^ l ≡ q / 2 ^ (l - a)
-  shift-right h = div-same (q * 2 ^ a) (2 ^ l) q (2 ^ (l - a)) (pow-pos l) (pow-pos (l - a)) (mul-assoc q (2 ^ a) (2 ^ (l - a)) ∙ rw (← (pow-add 2 a (l - a)), add-sub-of-le h))
+  shift-right h = div-same (q * 2 ^ a) (2 ^ l) q (2 ^ (l - a)) (pow-pos l) (pow-pos (l - a))
+      (mul-assoc q (2 ^ a) (2 ^ (l - a)) ∙ rw (← (pow-add 2 a (l - a)), add-sub-of-le h))
 
   shift-left : l ≤ a → q * 2 ^ a / 2 ^ l ≡ q * 2 ^ (a - l)
   shift-left h =
@@ -244,7 +255,8 @@ module _ (q a l : ℕ) where
       rw e (mul-div-cancel (q * 2 ^ (a - l)) (pow-pos l))
 
 module _ (x : Float) (p q : ℕ) (g : Middling x) (f : Fields p q x) where
-  is-fraction : (false ≡ false) × (2 ^ 1074 ≤ q * 2 ^ (p - 1)) × (q * 2 ^ (p - 1) < 2 ^ 63 * 2 ^ 1074) × (toUnsigned 64 x ≡ q * 2 ^ (p - 1) / 2 ^ 1074)
+  is-fraction : (false ≡ false) × (2 ^ 1074 ≤ q * 2 ^ (p - 1)) × (q * 2 ^ (p - 1) < 2 ^ 63 * 2 ^ 1074)
+      × (toUnsigned 64 x ≡ q * 2 ^ (p - 1) / 2 ^ 1074)
   is-fraction = fraction x false (q * 2 ^ (p - 1)) (2 ^ 1074) (pow-pos 1074) g (f .value)
 
   pub bits-near : (1023 ≤ p) × (p < 1086)

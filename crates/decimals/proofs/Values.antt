@@ -5,7 +5,7 @@
 --     value-zero      a zero at a decimal's end changes nothing
 use Prim.Native.Nat.{ℕ, zero, suc, _+_, _*_, _^_, _≤_, _<_}
 use mathlib.Core.Path.{_≡_, refl, sym, ap, _∙_}
-use mathlib.Core.Bool.{Bool, true, false, not, cond, _&&_}
+use mathlib.Core.Bool.{Bool, true, false, not, cond, _&&_, and-eq-true-iff}
 use mathlib.Core.List.{List, [], _∷_}
 use native.Mathlib.Omega.{arith}
 use native.Mathlib.Nat.{mul-one, mul-comm, mul-assoc, mul-left-comm, mul-pos, add-zero, one-le-pow, pow-suc, zero-mul}
@@ -18,7 +18,6 @@ use lib.Ieee.Exact.{HasValue}
 use lib.Ieee.Fits.{down-pos}
 use lib.Ieee.Scale.{round-same}
 use borrow.Author.Tests.{eqb-true, ne-eqb}
-use Rattle.decimals.proofs.Tests.{both}
 use Rattle.decimals.specs.Floats.{valueIn}
 
 -- ---- the quotient of two whole numbers
@@ -37,7 +36,8 @@ whole-div f (fin s m e) (fin t n d) a b v w h =
     let l : 0 < n * up d = rw q (mul-pos h (down-pos d)) in
     let z : n ≡ 0 → ⊥ = λ k. let g : n * up d ≡ 0 = rw k (zero-mul (up d)) in omega arith in
     rw (v .0, w .0, ne-eqb n 0 z)
-    (round-same f false (m * up e * down d) (n * up d * down e) a b (mul-pos l (down-pos e)) h (cross a b (m * up e) (n * up d) (down d) (down e) p q))
+    (round-same f false (m * up e * down d) (n * up d * down e) a b (mul-pos l (down-pos e)) h
+    (cross a b (m * up e) (n * up d) (down d) (down e) p q))
 
 -- ---- a table of powers of ten
 -- x is the whole number n
@@ -59,10 +59,10 @@ powersFrom k (x ∷ t) = isWhole x (10 ^ k) && powersFrom (suc k) t
 
 power-at : (t : List Float) (k i : ℕ) → powersFrom k t ≡ true → i < length t → HasValue (getD t i nan) false (10 ^ (k + i)) 1
 power-at [] k i e h = absurd (omega arith)
-power-at (x ∷ t) k zero e h = rw (add-zero k) (is-whole x (10 ^ k) (both (isWhole x (10 ^ k)) (powersFrom (suc k) t) e .0))
+power-at (x ∷ t) k zero e h = rw (add-zero k) (is-whole x (10 ^ k) (and-eq-true-iff (isWhole x (10 ^ k)) (powersFrom (suc k) t) .0 e .0))
 power-at (x ∷ t) k (suc i) e h =
     let g : k + suc i ≡ suc k + i = omega arith in
-    rw g (power-at t (suc k) i (both (isWhole x (10 ^ k)) (powersFrom (suc k) t) e .1) (omega arith))
+    rw g (power-at t (suc k) i (and-eq-true-iff (isWhole x (10 ^ k)) (powersFrom (suc k) t) .0 e .1) (omega arith))
 
 -- the program's tables: 1, 10, 100, .. as floats, as many as are exact
 abbrev tensFrom : Format → ℕ → ℕ → List Float
@@ -85,7 +85,8 @@ pub quotient : (f : Format) (n k : ℕ) → k < exactTens f → n ≤ 2 ^ prec f
 unfolding ofInt
 quotient f n k h l =
     let z : 0 + k ≡ k = omega arith in
-    whole-div f (round f false n 1) (getD (tens f) k nan) n (10 ^ k) (round-whole f false n l) (rw z at (power-at (tens f) 0 k (tens-exact f .0) (omega (arith, tens-exact f .1)))) (one-le-pow k 10 (omega arith))
+    whole-div f (round f false n 1) (getD (tens f) k nan) n (10 ^ k) (round-whole f false n l)
+    (rw z at (power-at (tens f) 0 k (tens-exact f .0) (omega (arith, tens-exact f .1)))) (one-le-pow k 10 (omega arith))
 
 -- ---- the sign
 odd-neg : (d : ℕ) (s : Bool) (q k l : ℕ) → neg (odd d s q k l) ≡ odd d (not s) q k l
@@ -105,7 +106,8 @@ pub round-neg : (f : Format) (s : Bool) (a b : ℕ) → neg (round f s a b) ≡ 
 unfolding round
 round-neg f s a b = units-neg f s _ _
 
-pub minus-quotient : (f : Format) (n k : ℕ) → k < exactTens f → n ≤ 2 ^ prec f → neg (div f (ofInt f (pos n)) (getD (tens f) k nan)) ≡ valueIn f true n k
+pub minus-quotient : (f : Format) (n k : ℕ) → k < exactTens f → n ≤ 2 ^ prec f
+    → neg (div f (ofInt f (pos n)) (getD (tens f) k nan)) ≡ valueIn f true n k
 minus-quotient f n k h l = ap neg (quotient f n k h l) ∙ round-neg f false n (10 ^ k)
 
 -- ---- a zero at the end behind the point

@@ -4,8 +4,10 @@
 --     Number ::= ( Digit+ | Digit+ '.' Digit* | Digit* '.' Digit+ ) Exp?
 --     Exp    ::= 'e' Sign? Digit+
 use Prim.Native.Nat.{ℕ}
-use mathlib.Core.Bool.{Bool, true, false, cond, _&&_, _||_}
+use mathlib.Core.Path.{_≡_}
+use mathlib.Core.Bool.{Bool, true, false, cond, not, _&&_, _||_}
 use mathlib.Core.List.{List, [], _∷_, _++_}
+use mathlib.Core.Option.{Option, none, some}
 use lib.ListN.{length, take, drop}
 use lib.Dec.{eqb, leb, ltb}
 use Rattle.scan.specs.Bytes.{digitByte, runLength}
@@ -74,12 +76,6 @@ isWord s =
 
 -- ---- document 01, "Times and numbers"
 
--- document 01's number for each answer; 0 where it has none
-abbrev pub numberOf : Decimal → ℕ
-numberOf (Is d) = 0
-numberOf Nothing = 0
-numberOf Beyond = 14
-
 -- "digits after leading zeros": before and behind the point together, zeros at the end counting
 unfoldable pub significant : List ℕ → ℕ
 significant [] = 0
@@ -109,3 +105,42 @@ unsignedDecimal minus s digits decimals =
 unfoldable pub decimalOf : List ℕ → ℕ → ℕ → Decimal
 unfolding negative unsigned unsignedDecimal
 decimalOf s digits decimals = unsignedDecimal (negative s) (unsigned s) digits decimals
+
+-- ---- each answer's number and value
+
+-- document 01's number for each answer, 0 where it has none, and the decimal, where there is one
+abbrev pub numberOf : Decimal → ℕ
+numberOf (Is d) = 0
+numberOf Nothing = 0
+numberOf Beyond = 14
+
+abbrev pub valueOf : Decimal → Option Digits
+valueOf (Is d) = some d
+valueOf Nothing = none
+valueOf Beyond = none
+
+-- Rust's parser takes the text
+unfoldable pub parses : List ℕ → Bool
+unfolding unsigned fraction afterFraction isWord isExponent
+parses s =
+    cond (eqb (length (allDigits (unsigned s))) 0)
+    (isWord (unsigned s))
+    (eqb (length (restOf (unsigned s))) 0 || isExponent (restOf (unsigned s)))
+
+-- it is a decimal, and keeps the limits
+unfoldable pub keepsLimits : List ℕ → ℕ → ℕ → Bool
+unfolding unsigned fraction afterFraction significant
+keepsLimits s digits decimals =
+    not (eqb (length (allDigits (unsigned s))) 0) && eqb (length (restOf (unsigned s))) 0
+    && (leb (significant (allDigits (unsigned s))) digits && leb (scaleOf (unsigned s)) decimals)
+
+-- its sign, its digits as a whole number, and how many of them stand behind the point
+unfoldable pub digitsOf : List ℕ → Digits
+unfolding negative unsigned fraction
+digitsOf s = record { negative = negative s; digits = valueFrom 10 0 (allDigits (unsigned s)); scale = scaleOf (unsigned s) }
+
+-- What `read_decimal` ensures: number 14 exactly where Rust's parser takes the text and the limits do not, and a decimal exactly where they do.
+pub record Reads (s : List ℕ) (digits decimals : ℕ) (r : Decimal) : Type 0 where
+  pub is : r ≡ decimalOf s digits decimals
+  pub number : numberOf r ≡ cond (parses s && not (keepsLimits s digits decimals)) 14 0
+  pub value : valueOf r ≡ cond (keepsLimits s digits decimals) (some (digitsOf s)) none

@@ -3,19 +3,14 @@ use Prim.Native.Nat.{ℕ, _^_}
 use mathlib.Core.Path.{_≡_}
 use mathlib.Core.Bool.{Bool, true, false, Bool·beq, _&&_}
 use lib.IntN.{ℤ, pos, negsuc}
-use lib.Dec.{T, eqb}
-use lib.Ieee.{Float, Format, nan, inf, fin, round, le, lt}
+use lib.Dec.{eqb}
+use lib.Ieee.{Float, Format, nan, inf, fin, round}
 
 -- digits / 10 ^ scale, with its sign, rounded once to the nearest value of the format (IEEE 754, ties to even): what Rust's parser gives.
 -- Document 01, "Times and numbers", makes it by one division: "the digits as a whole number divided once by the power of ten". Within the
 -- limits both operands of that division are exact, so the two are the same: that is what the program's contract shows.
 abbrev pub valueIn : Format → Bool → ℕ → ℕ → Float
 valueIn f negative digits scale = round f negative digits (10 ^ scale)
-
--- at least 1 and below 2 ^ 63
-pub record Middling (x : Float) : Type 0 where
-  pub large : T (le (fin false 1 (pos 0)) x)
-  pub small : T (lt x (fin false 1 (pos 63)))
 
 -- the same value, the sign of zero counting; no NaN is the same as another
 abbrev pub sameExponent : ℤ → ℤ → Bool

@@ -1,4 +1,4 @@
 pub mod Decimal
-pub mod Counted
 pub mod Floats
 pub mod Size
+pub mod Steps

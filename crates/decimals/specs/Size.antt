@@ -30,7 +30,8 @@ unfolding reduced
 sizeOf d = sized (reduced d)
 
 -- Cells that mean a size (document 01, number 17): a spelling of at most 6 digits, at most 10 of them behind the point, with no zero at the
--- end there, and the f32 that it spells. Within these limits that spelling is the shortest that reads back as the f32, which `{}` prints.
+-- end there, and the f32 that it spells. Within these limits no other spelling has that f32 (`one-spelling`, proofs/OneSpelling), so this one is
+-- the shortest that reads back as it, which `{}` prints.
 unfoldable pub isSize : Size → Bool
 isSize s =
     leb (s .digits) 999999 && leb (s .scale) 10 && (eqb (s .scale) 0 || not (eqb (s .digits % 10) 0))

@@ -3,7 +3,8 @@ ghost use mathlib.Core.Path.{_≡_};
 ghost use Prim.Native.Nat.{_≤_, _<_, _^_};
 ghost use lib.Ieee as Ieee;
 ghost use lib.Ieee.{binary32, binary64};
-ghost use Rattle.decimals.specs.Floats.{valueIn, Middling};
+ghost use Rattle.decimals.specs.Floats.{valueIn};
+ghost use Rattle.decimals.specs.Steps.{Middling};
 use crate::read::Digits;
 
 // Each is a float exactly: 10^22 has 52 binary digits after its factors of two, 10^10 has 24.

@@ -3,8 +3,8 @@ ghost use mathlib.Core.Path.{_≡_};
 ghost use mathlib.Core.List.{_++_};
 ghost use Prim.Native.Nat.{_-_, _≤_, _<_, _^_};
 ghost use lib.ListN.{length, take, drop};
-ghost use Rattle.decimals.specs.Decimal.{onlyDigits, isExponent, isWord, limited, unsignedDecimal, decimalOf};
-ghost use Rattle.decimals.specs.Counted.{OneMore, Room, Further, Digital, PointAt};
+ghost use Rattle.decimals.specs.Decimal.{onlyDigits, isExponent, isWord, limited, unsignedDecimal, Reads};
+ghost use Rattle.decimals.specs.Steps.{OneMore, Room, Further, Digital, PointAt};
 use scan::Class;
 
 // digits / 10^scale, negative or not
@@ -112,7 +112,8 @@ fn limit(
     decimals: usize,
 ) -> Decimal
     requires { ⌜ Digital (now text) whole from × (digits ≤ 18) × (decimals < 2 ^ 32) ⌝ }
-    ensures { λ r. ⌜ r ≡ limited negative (take whole (now (text .entry)) ++ drop from (now (text .entry))) (length (now (text .entry)) - from) digits decimals ⌝ }
+    ensures { λ r. ⌜ r ≡ limited negative (take whole (now (text .entry)) ++ drop from (now (text .entry)))
+        (length (now (text .entry)) - from) digits decimals ⌝ }
 {
     let scale = text.len() - from;
     if decimals < scale {
@@ -175,7 +176,7 @@ fn read_unsigned(text: &[u8], negative: bool, digits: usize, decimals: usize) ->
 // many behind the point.
 pub fn read_decimal(text: &[u8], digits: usize, decimals: usize) -> Decimal
     requires { ⌜ (digits ≤ 18) × (decimals < 2 ^ 32) ⌝ }
-    ensures { λ r. ⌜ r ≡ decimalOf (now (text .entry)) digits decimals ⌝ }
+    ensures { λ r. ⌜ Reads (now (text .entry)) digits decimals r ⌝ }
 {
     if text.len() == 0 {
         return Decimal::Nothing;

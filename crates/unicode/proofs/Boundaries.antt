@@ -61,7 +61,11 @@ module _ (s : List ℕ) where
   fits-inside p ((a to b) ∷ rs) d f zero l =
       let e = and-eq-true-iff (leb 0x80 a) (leb b 0xBF) .0 (and-eq-true-iff (leb 0x80 a && leb b 0xBF) (goesOn rs) .0 d .0) in
       let g = fits-first s p (a to b) rs f .1 in
-      rw (add-zero p) (omega (arith, leb-true 0x80 a (e .0), range-low (getD s p 0) a b g), omega (arith, leb-true b 0xBF (e .1), range-high (getD s p 0) a b g))
+      rw (add-zero p) (
+        omega (arith, leb-true 0x80 a (e .0), range-low (getD s p 0) a b g),
+        omega
+            (arith, leb-true b 0xBF (e .1), range-high (getD s p 0) a b g),
+      )
   fits-inside p ((a to b) ∷ rs) d f (suc i) l =
       let z : p + suc i ≡ p + 1 + i = omega arith in
       rw z (fits-inside (p + 1) rs (and-eq-true-iff (leb 0x80 a && leb b 0xBF) (goesOn rs) .0 d .1) (fits-first s p (a to b) rs f .2) i (omega arith))
@@ -77,7 +81,7 @@ module _ (s : List ℕ) where
       (λ f. rw z (fits-inside (p + 1) rs (e .0) (fits-first s p r rs f .2) i (omega (arith, rw f at l))))
       (λ f. first-inside p rows (e .1) i (rw f at l))
 
-  sequence-inside : (p i : ℕ) → suc i < sequenceAt s p → Inside s (p + suc i)
+  pub sequence-inside : (p i : ℕ) → suc i < sequenceAt s p → Inside s (p + suc i)
   unfolding sequenceAt
   sequence-inside p i l = first-inside p table refl i l
 
@@ -98,7 +102,12 @@ boundary-on a b k h =
     let m = eqb-false k (length b) g in
     let n = eqb-false k 0 e in
     rw (e, g)
-    (rw (ne-eqb (length a + k) 0 (λ z. n (omega arith)), ne-eqb (length a + k) (length (a ++ b)) (λ z. m (omega (arith, length-append a b))), getD-append-add a b k 0) at h)))
+    (rw (
+      ne-eqb (length a + k) 0 (λ z. n (omega arith)),
+      ne-eqb (length a + k) (length (a ++ b))
+          (λ z. m (omega (arith, length-append a b))),
+      getD-append-add a b k 0,
+    ) at h)))
 
 pub utf8-cut : {s : List ℕ} → Utf8 s → (k : ℕ) → k ≤ length s → boundary s k ≡ true → Utf8 (take k s) × Utf8 (drop k s)
 utf8-cut empty k h b =

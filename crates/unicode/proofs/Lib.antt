@@ -2,3 +2,6 @@
 pub mod Utf8Laws
 pub mod WhiteLaws
 pub mod Boundaries
+pub mod Trimming
+pub mod Wording
+pub mod Characters

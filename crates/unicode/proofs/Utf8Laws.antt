@@ -11,15 +11,14 @@ use lib.Dec.{eqb, leb, ltb}
 use borrow.Author.Tests.{ltb-true, ltb-false, leb-true, lt-ltb, le-ltb, le-leb, lt-leb, ne-eqb, eqb-true, eqb-false}
 use Rattle.scan.specs.Loop.{halt, more, loop}
 use Rattle.scan.proofs.Loop.{loop-out, loop-halt, loop-more, loop-ind, halt-inj, more-inj, halt≢more, more≢halt}
-use Rattle.unicode.specs.Utf8.{Range, _to_, within, table, fitsAt, firstFit, sequenceAt, WellFormed, Utf8, empty, sequence, utf8Turn, utf8End, Bounded, AsciiTo, LongestValid, Sequence, tails, followed, scalar, encode, charAt}
+use Rattle.unicode.specs.Utf8.{Range, _to_, within, table, fitsAt, firstFit, sequenceAt, WellFormed, Utf8, empty, sequence, utf8Turn}
+use Rattle.unicode.specs.Utf8.{utf8End, LongestValid, Sequence, scalar, encode, charAt}
+use Rattle.unicode.specs.Steps.{Bounded, AsciiTo, tails, followed}
 
 -- ---- tests
 pub by-test : {A : Type 0} (t : Bool) → (t ≡ true → A) → (t ≡ false → A) → A
 by-test true f g = f refl
 by-test false f g = g refl
-
-both : (a b : Bool) → a && b ≡ true → (a ≡ true) × (b ≡ true)
-both a b h = and-eq-true-iff a b .0 h
 
 either : {A : Type 0} (a b : Bool) → a || b ≡ true → (a ≡ true → A) → (b ≡ true → A) → A
 either true b h f g = f refl
@@ -36,10 +35,10 @@ pub above-range : (b low high : ℕ) → high < b → within b (low to high) ≡
 above-range b low high h = rw (lt-leb b high h) (and-false (leb low b))
 
 pub range-low : (b low high : ℕ) → within b (low to high) ≡ true → low ≤ b
-range-low b low high h = leb-true low b (both (leb low b) (leb b high) h .0)
+range-low b low high h = leb-true low b (and-eq-true-iff (leb low b) (leb b high) .0 h .0)
 
 pub range-high : (b low high : ℕ) → within b (low to high) ≡ true → b ≤ high
-range-high b low high h = leb-true b high (both (leb low b) (leb b high) h .1)
+range-high b low high h = leb-true b high (and-eq-true-iff (leb low b) (leb b high) .0 h .1)
 
 -- ---- a row at a place
 module _ (s : List ℕ) (p : ℕ) (r : Range) (rs : List Range) where
@@ -54,8 +53,8 @@ module _ (s : List ℕ) (p : ℕ) (r : Range) (rs : List Range) where
   pub fits-first : fitsAt s p (r ∷ rs) ≡ true → (p < length s) × (within (getD s p 0) r ≡ true) × (fitsAt s (p + 1) rs ≡ true)
   unfolding fitsAt
   fits-first h =
-      let a = both (ltb p (length s) && within (getD s p 0) r) (fitsAt s (p + 1) rs) h in
-      let b = both (ltb p (length s)) (within (getD s p 0) r) (a .0) in
+      let a = and-eq-true-iff (ltb p (length s) && within (getD s p 0) r) (fitsAt s (p + 1) rs) .0 h in
+      let b = and-eq-true-iff (ltb p (length s)) (within (getD s p 0) r) .0 (a .0) in
       (ltb-true p (length s) (b .0), b .1, a .1)
 
 fits-none : (s : List ℕ) (p : ℕ) → fitsAt s p [] ≡ true
@@ -72,7 +71,8 @@ pub fits-short : (s : List ℕ) (p : ℕ) (rs : List Range) → p ≤ length s �
 fits-short s p rs h g = by-test (fitsAt s p rs) (λ e. absurd (omega (arith, fits-within s p rs h e))) (λ e. e)
 
 -- a row depends on the bytes that it covers alone
-pub fits-same : (s t : List ℕ) (p q : ℕ) (rs : List Range) → q + length rs ≤ length t → ((i : ℕ) → i < length rs → getD s (p + i) 0 ≡ getD t (q + i) 0)
+pub fits-same : (s t : List ℕ) (p q : ℕ) (rs : List Range) → q + length rs ≤ length t
+    → ((i : ℕ) → i < length rs → getD s (p + i) 0 ≡ getD t (q + i) 0)
     → fitsAt s p rs ≡ true → fitsAt t q rs ≡ true
 unfolding fitsAt
 fits-same s t p q [] h e g = refl
@@ -103,7 +103,8 @@ disjoint ((r ∷ rs) ∷ rows) = alone r rows && disjoint rows
 
 apart-not : (b : ℕ) (q r : Range) → apart r q ≡ true → within b r ≡ true → within b q ≡ false
 apart-not b (c to d) (l to h) w g =
-    either (ltb d l) (ltb h c) w (λ e. above-range b c d (omega (arith, ltb-true d l e, range-low b l h g))) (λ e. below-range b c d (omega (arith, ltb-true h c e, range-high b l h g)))
+    either (ltb d l) (ltb h c) w (λ e. above-range b c d (omega (arith, ltb-true d l e, range-low b l h g)))
+    (λ e. below-range b c d (omega (arith, ltb-true h c e, range-high b l h g)))
 
 module _ (s : List ℕ) (p : ℕ) where
   first-skip : (row : List Range) (rows : List (List Range)) → fitsAt s p row ≡ false → firstFit s p (row ∷ rows) ≡ firstFit s p rows
@@ -119,20 +120,23 @@ module _ (s : List ℕ) (p : ℕ) where
   first-none r [] a g = refl
   first-none r ([] ∷ rows) a g = absurd (true≢false (sym a))
   first-none r ((q ∷ qs) ∷ rows) a g =
-      let d = both (apart r q) (alone r rows) a in
+      let d = and-eq-true-iff (apart r q) (alone r rows) .0 a in
       first-skip (q ∷ qs) rows (fits-not s p q qs (apart-not (getD s p 0) q r (d .0) g)) ∙ first-none r rows (d .1) g
 
   -- the one row that can fit
-  first-only : (before after : List (List Range)) (r : Range) (rs : List Range) → alone r before ≡ true → alone r after ≡ true → p < length s → within (getD s p 0) r ≡ true
+  first-only : (before after : List (List Range)) (r : Range) (rs : List Range) → alone r before ≡ true → alone r after ≡ true → p < length s
+      → within (getD s p 0) r ≡ true
       → firstFit s p (before ++ (r ∷ rs) ∷ after) ≡ cond (fitsAt s (p + 1) rs) (suc (length rs)) 0
   unfolding firstFit
   first-only [] after r rs a b h g = rw (fits-in s p r rs h g, first-none r after b g)
   first-only ([] ∷ before) after r rs a b h g = absurd (true≢false (sym a))
   first-only ((q ∷ qs) ∷ before) after r rs a b h g =
-      let d = both (apart r q) (alone r before) a in
-      first-skip (q ∷ qs) (before ++ (r ∷ rs) ∷ after) (fits-not s p q qs (apart-not (getD s p 0) q r (d .0) g)) ∙ first-only before after r rs (d .1) b h g
+      let d = and-eq-true-iff (apart r q) (alone r before) .0 a in
+      first-skip (q ∷ qs) (before ++ (r ∷ rs) ∷ after) (fits-not s p q qs (apart-not (getD s p 0) q r (d .0) g))
+      ∙ first-only before after r rs (d .1) b h g
 
-  pub at-row : (i : ℕ) (r : Range) (rs : List Range) → table ≡ take i table ++ (r ∷ rs) ∷ drop (suc i) table → alone r (take i table) ≡ true → alone r (drop (suc i) table) ≡ true
+  pub at-row : (i : ℕ) (r : Range) (rs : List Range) → table ≡ take i table ++ (r ∷ rs) ∷ drop (suc i) table → alone r (take i table) ≡ true
+      → alone r (drop (suc i) table) ≡ true
       → p < length s → within (getD s p 0) r ≡ true → sequenceAt s p ≡ cond (fitsAt s (p + 1) rs) (suc (length rs)) 0
   unfolding sequenceAt
   at-row i r rs e a b h g = ap (firstFit s p) e ∙ first-only (take i table) (drop (suc i) table) r rs a b h g
@@ -152,14 +156,16 @@ module _ (s : List ℕ) (p : ℕ) where
   unfolding firstFit
   first-short [] d = omega arith
   first-short (row ∷ rows) d =
-      let e = both (leb (length row) 4) (short rows) d in
-      by-test (fitsAt s p row) (λ f. rw (first-here s p row rows f) (leb-true (length row) 4 (e .0))) (λ f. rw (first-skip s p row rows f) (first-short rows (e .1)))
+      let e = and-eq-true-iff (leb (length row) 4) (short rows) .0 d in
+      by-test (fitsAt s p row) (λ f. rw (first-here s p row rows f) (leb-true (length row) 4 (e .0)))
+      (λ f. rw (first-skip s p row rows f) (first-short rows (e .1)))
 
   first-within : (rows : List (List Range)) → p ≤ length s → p + firstFit s p rows ≤ length s
   unfolding firstFit
   first-within [] h = omega arith
   first-within (row ∷ rows) h =
-      by-test (fitsAt s p row) (λ f. rw (first-here s p row rows f) (fits-within s p row h f)) (λ f. rw (first-skip s p row rows f) (first-within rows h))
+      by-test (fitsAt s p row) (λ f. rw (first-here s p row rows f) (fits-within s p row h f))
+      (λ f. rw (first-skip s p row rows f) (first-within rows h))
 
   pub sequence-short : sequenceAt s p ≤ 4
   unfolding sequenceAt
@@ -185,7 +191,7 @@ module _ (s t : List ℕ) (p q n : ℕ) (l : 0 < n) (h : q + n ≤ length t) (e 
   first-same [] d w = w
   first-same ([] ∷ rows) d w = absurd (true≢false (sym d))
   first-same ((r ∷ rs) ∷ rows) d w =
-      let a = both (alone r rows) (disjoint rows) d in
+      let a = and-eq-true-iff (alone r rows) (disjoint rows) .0 d in
       by-test (fitsAt s p (r ∷ rs))
       (λ f. let m : length (r ∷ rs) ≡ n = sym (first-here s p (r ∷ rs) rows f) ∙ w in first-here t q (r ∷ rs) rows (row-same (r ∷ rs) m f) ∙ m)
       (λ f.
@@ -208,10 +214,10 @@ well-at w a t f =
 
 -- what stands at a place is a well-formed sequence
 module _ (s : List ℕ) (p n : ℕ) (h : p ≤ length s) (w : sequenceAt s p ≡ n) (l : 0 < n) where
-  part-length : length (take n (drop p s)) ≡ n
+  pub part-length : length (take n (drop p s)) ≡ n
   part-length = length-take-le n (drop p s) (simp length-drop (omega (arith, sequence-within s p h)))
 
-  part-agrees : (i : ℕ) → i < n → getD s (p + i) 0 ≡ getD (take n (drop p s)) (0 + i) 0
+  pub part-agrees : (i : ℕ) → i < n → getD s (p + i) 0 ≡ getD (take n (drop p s)) (0 + i) 0
   part-agrees i k = rw (zero-add i, getD-take n (drop p s) i 0 k, getD-drop p s i 0)
 
   pub well-part : WellFormed (take n (drop p s))
@@ -336,7 +342,11 @@ utf8-rest {b = b} (sequence {w} {s} f u) v = utf8-rest u (first-split v w (s ++ 
 pub ascii-formed : (b : ℕ) → b < 128 → WellFormed (b ∷ [])
 unfolding fitsAt
 ascii-formed b h =
-    record { some-byte = omega arith; whole = at-row (b ∷ []) 0 0 (0x00 to 0x7F) [] refl refl refl (omega arith) (in-range b 0x00 0x7F (omega arith) (omega arith)) }
+    record {
+      some-byte = omega arith;
+      whole = at-row (b ∷ []) 0 0 (0x00 to 0x7F) [] refl refl refl (omega arith)
+          (in-range b 0x00 0x7F (omega arith) (omega arith));
+    }
 
 pub utf8-byte : (b : ℕ) → b < 128 → Utf8 (b ∷ [])
 utf8-byte b h = utf8-one (ascii-formed b h)
@@ -363,10 +373,10 @@ module _ (s : List ℕ) where
   fits-high : (p : ℕ) (rs : List Range) → high rs ≡ true → fitsAt s p rs ≡ true → (i : ℕ) → i < length rs → 128 ≤ getD s (p + i) 0
   fits-high p [] d f i l = absurd (omega arith)
   fits-high p ((a to b) ∷ rs) d f zero l =
-      let e = both (leb 128 a) (high rs) d in
+      let e = and-eq-true-iff (leb 128 a) (high rs) .0 d in
       rw (add-zero p) (omega (arith, leb-true 128 a (e .0), range-low (getD s p 0) a b (fits-first s p (a to b) rs f .1)))
   fits-high p ((a to b) ∷ rs) d f (suc i) l =
-      let e = both (leb 128 a) (high rs) d in
+      let e = and-eq-true-iff (leb 128 a) (high rs) .0 d in
       let z : p + suc i ≡ p + 1 + i = omega arith in
       rw z (fits-high (p + 1) rs (e .1) (fits-first s p (a to b) rs f .2) i (omega arith))
 
@@ -375,7 +385,7 @@ module _ (s : List ℕ) where
   first-high p [] d h i l = absurd (omega arith)
   first-high p ([] ∷ rows) d h i l = absurd (omega (arith, rw (first-here s p [] rows (fits-none s p)) at l))
   first-high p (((a to b) ∷ rs) ∷ rows) d h i l =
-      let e = both (ltb b 128 || high ((a to b) ∷ rs)) (clear rows) d in
+      let e = and-eq-true-iff (ltb b 128 || high ((a to b) ∷ rs)) (clear rows) .0 d in
       by-test (fitsAt s p ((a to b) ∷ rs))
       (λ f.
       either (ltb b 128) (high ((a to b) ∷ rs)) (e .0)
@@ -405,7 +415,8 @@ module _ (s : List ℕ) (p width low high : ℕ) where
   unfolding followed
   followed-not g = rw (fits-not s (p + 1) (low to high) (tails (width - 2)) g)
 
-  pub followed-in : p + 1 < length s → low ≤ getD s (p + 1) 0 → getD s (p + 1) 0 ≤ high → followed s p width low high ≡ cond (fitsAt s (p + 2) (tails (width - 2))) width 0
+  pub followed-in : p + 1 < length s → low ≤ getD s (p + 1) 0 → getD s (p + 1) 0 ≤ high
+      → followed s p width low high ≡ cond (fitsAt s (p + 2) (tails (width - 2))) width 0
   unfolding followed
   followed-in h g k =
       let z : p + 1 + 1 ≡ p + 2 = omega arith in
@@ -432,8 +443,10 @@ module _ (s : List ℕ) (p width i : ℕ) where
 -- ---- what stands at a place, by the lead byte
 -- a lead byte from a to b, of the row with that range: the bytes after it decide
 module _ (s : List ℕ) (p i a b width low high : ℕ) where
-  pub sequence-row : table ≡ take i table ++ (a to b ∷ low to high ∷ tails (width - 2)) ∷ drop (suc i) table → alone (a to b) (take i table) ≡ true → alone (a to b) (drop (suc i) table) ≡ true
-      → length (a to b ∷ low to high ∷ tails (width - 2)) ≡ width → p < length s → a ≤ getD s p 0 → getD s p 0 ≤ b → (r : ℕ) → r ≡ followed s p width low high → Sequence s p r
+  pub sequence-row : table ≡ take i table ++ (a to b ∷ low to high ∷ tails (width - 2)) ∷ drop (suc i) table → alone (a to b) (take i table) ≡ true
+      → alone (a to b) (drop (suc i) table) ≡ true
+      → length (a to b ∷ low to high ∷ tails (width - 2)) ≡ width → p < length s → a ≤ getD s p 0 → getD s p 0 ≤ b → (r : ℕ)
+      → r ≡ followed s p width low high → Sequence s p r
   unfolding followed
   sequence-row e f g l h k m r w =
       sequenced s p r (omega arith)
@@ -445,7 +458,8 @@ sequence-ascii s p h g =
     (sym (at-row s p 0 (0x00 to 0x7F) [] refl refl refl h (in-range (getD s p 0) 0x00 0x7F (omega arith) g) ∙ rw (fits-none s (p + 1))))
 
 -- no row's first range reaches from low to high
-pub sequence-none : (s : List ℕ) (p low high : ℕ) → alone (low to high) table ≡ true → p < length s → low ≤ getD s p 0 → getD s p 0 ≤ high → Sequence s p 0
+pub sequence-none : (s : List ℕ) (p low high : ℕ) → alone (low to high) table ≡ true → p < length s → low ≤ getD s p 0 → getD s p 0 ≤ high
+    → Sequence s p 0
 sequence-none s p low high a h g k = sequenced s p 0 (omega arith) (sym (no-row s p (low to high) a (in-range (getD s p 0) low high g k)))
 
 -- ---- the bytes of a character
@@ -475,7 +489,8 @@ pub encoded : (P : List ℕ → Type 0) (c : ℕ)
 encoded P c one two three four =
     by-test (ltb c 0x80) (λ e. let h = ltb-true c 0x80 e in rw (encode-1 c h) (one h)) (λ e. let h = ltb-false c 0x80 e in
     by-test (ltb c 0x800) (λ f. let g = ltb-true c 0x800 f in rw (encode-2 c h g) (two h g)) (λ f. let g = ltb-false c 0x800 f in
-    by-test (ltb c 0x10000) (λ d. let k = ltb-true c 0x10000 d in rw (encode-3 c g k) (three g k)) (λ d. let k = ltb-false c 0x10000 d in rw (encode-4 c k) (four k))))
+    by-test (ltb c 0x10000) (λ d. let k = ltb-true c 0x10000 d in rw (encode-3 c g k) (three g k))
+    (λ d. let k = ltb-false c 0x10000 d in rw (encode-4 c k) (four k))))
 
 pub encode-some : (c : ℕ) → 0 < length (encode c)
 encode-some c = encoded (λ w. 0 < length w) c (λ h. omega arith) (λ h g. omega arith) (λ h g. omega arith) (λ h. omega arith)
@@ -486,12 +501,14 @@ encode-short c = encoded (λ w. length w ≤ 4) c (λ h. omega arith) (λ h g. o
 pub scalar-small : (c : ℕ) → scalar c ≡ true → c < 0x110000
 unfolding scalar
 scalar-small c h =
-    either (ltb c 0xD800) (leb 0xE000 c && ltb c 0x110000) h (λ e. omega (arith, ltb-true c 0xD800 e)) (λ e. ltb-true c 0x110000 (both (leb 0xE000 c) (ltb c 0x110000) e .1))
+    either (ltb c 0xD800) (leb 0xE000 c && ltb c 0x110000) h (λ e. omega (arith, ltb-true c 0xD800 e))
+    (λ e. ltb-true c 0x110000 (and-eq-true-iff (leb 0xE000 c) (ltb c 0x110000) .0 e .1))
 
 pub scalar-apart : (c : ℕ) → scalar c ≡ true → 0xD800 ≤ c → 0xE000 ≤ c
 unfolding scalar
 scalar-apart c h g =
-    either (ltb c 0xD800) (leb 0xE000 c && ltb c 0x110000) h (λ e. absurd (omega (arith, ltb-true c 0xD800 e))) (λ e. leb-true 0xE000 c (both (leb 0xE000 c) (ltb c 0x110000) e .0))
+    either (ltb c 0xD800) (leb 0xE000 c && ltb c 0x110000) h (λ e. absurd (omega (arith, ltb-true c 0xD800 e)))
+    (λ e. leb-true 0xE000 c (and-eq-true-iff (leb 0xE000 c) (ltb c 0x110000) .0 e .0))
 
 -- a character is read back from its bytes
 tail-bits : (x : ℕ) → (0x80 + x % 64) % 64 ≡ x % 64
@@ -520,7 +537,8 @@ char-encode c k =
     (λ h. rw (lead-bits-4 (c / 262144) (omega arith), tail-bits (c / 4096), tail-bits (c / 64), tail-bits c) (join-4 c))
 
 -- bytes that lie in the ranges of a row, as many as it has
-module _ (i : ℕ) (r : Range) (rs : List Range) (e : table ≡ take i table ++ (r ∷ rs) ∷ drop (suc i) table) (a : alone r (take i table) ≡ true) (b : alone r (drop (suc i) table) ≡ true) where
+module _ (i : ℕ) (r : Range) (rs : List Range) (e : table ≡ take i table ++ (r ∷ rs) ∷ drop (suc i) table) (a : alone r (take i table) ≡ true)
+    (b : alone r (drop (suc i) table) ≡ true) where
   formed-row : (w : List ℕ) → length w ≡ suc (length rs) → fitsAt w 0 (r ∷ rs) ≡ true → WellFormed w
   formed-row w l f =
       let d = fits-first w 0 r rs f in
@@ -534,7 +552,8 @@ fits-3 : (a b c : ℕ) (q r s : Range) → within a q ≡ true → within b r �
 unfolding fitsAt
 fits-3 a b c q r s g h k = rw (g, h, k)
 
-fits-4 : (a b c d : ℕ) (q r s t : Range) → within a q ≡ true → within b r ≡ true → within c s ≡ true → within d t ≡ true → fitsAt (a ∷ b ∷ c ∷ d ∷ []) 0 (q ∷ r ∷ s ∷ t ∷ []) ≡ true
+fits-4 : (a b c d : ℕ) (q r s t : Range) → within a q ≡ true → within b r ≡ true → within c s ≡ true → within d t ≡ true
+    → fitsAt (a ∷ b ∷ c ∷ d ∷ []) 0 (q ∷ r ∷ s ∷ t ∷ []) ≡ true
 unfolding fitsAt
 fits-4 a b c d q r s t g h k l = rw (g, h, k, l)
 
@@ -543,7 +562,8 @@ tail-in x = in-range (0x80 + x % 64) 0x80 0xBF (omega arith) (omega arith)
 
 -- three bytes and four, of the row i, whose first range is from a to b and whose second from low to high
 module _ (c i a b low high : ℕ) where
-  formed-3 : table ≡ take i table ++ (a to b ∷ low to high ∷ 0x80 to 0xBF ∷ []) ∷ drop (suc i) table → alone (a to b) (take i table) ≡ true → alone (a to b) (drop (suc i) table) ≡ true
+  formed-3 : table ≡ take i table ++ (a to b ∷ low to high ∷ 0x80 to 0xBF ∷ []) ∷ drop (suc i) table → alone (a to b) (take i table) ≡ true
+      → alone (a to b) (drop (suc i) table) ≡ true
       → a ≤ 0xE0 + c / 4096 → 0xE0 + c / 4096 ≤ b → low ≤ 0x80 + c / 64 % 64 → 0x80 + c / 64 % 64 ≤ high
       → WellFormed ((0xE0 + c / 4096) ∷ (0x80 + c / 64 % 64) ∷ (0x80 + c % 64) ∷ [])
   formed-3 e f g h k l m =
@@ -551,7 +571,8 @@ module _ (c i a b low high : ℕ) where
       (fits-3 (0xE0 + c / 4096) (0x80 + c / 64 % 64) (0x80 + c % 64) (a to b) (low to high) (0x80 to 0xBF)
       (in-range (0xE0 + c / 4096) a b h k) (in-range (0x80 + c / 64 % 64) low high l m) (tail-in c))
 
-  formed-4 : table ≡ take i table ++ (a to b ∷ low to high ∷ 0x80 to 0xBF ∷ 0x80 to 0xBF ∷ []) ∷ drop (suc i) table → alone (a to b) (take i table) ≡ true → alone (a to b) (drop (suc i) table) ≡ true
+  formed-4 : table ≡ take i table ++ (a to b ∷ low to high ∷ 0x80 to 0xBF ∷ 0x80 to 0xBF ∷ []) ∷ drop (suc i) table
+      → alone (a to b) (take i table) ≡ true → alone (a to b) (drop (suc i) table) ≡ true
       → a ≤ 0xF0 + c / 262144 → 0xF0 + c / 262144 ≤ b → low ≤ 0x80 + c / 4096 % 64 → 0x80 + c / 4096 % 64 ≤ high
       → WellFormed ((0xF0 + c / 262144) ∷ (0x80 + c / 4096 % 64) ∷ (0x80 + c / 64 % 64) ∷ (0x80 + c % 64) ∷ [])
   formed-4 e f g h k l m =
@@ -563,22 +584,31 @@ module _ (c : ℕ) (k : scalar c ≡ true) where
   encoded-2 : 0x80 ≤ c → c < 0x800 → WellFormed ((0xC0 + c / 64) ∷ (0x80 + c % 64) ∷ [])
   encoded-2 h g =
       formed-row 1 (0xC2 to 0xDF) (0x80 to 0xBF ∷ []) refl refl refl _ refl
-      (fits-2 (0xC0 + c / 64) (0x80 + c % 64) (0xC2 to 0xDF) (0x80 to 0xBF) (in-range (0xC0 + c / 64) 0xC2 0xDF (omega arith) (omega arith)) (tail-in c))
+      (fits-2 (0xC0 + c / 64) (0x80 + c % 64) (0xC2 to 0xDF) (0x80 to 0xBF) (in-range (0xC0 + c / 64) 0xC2 0xDF (omega arith) (omega arith))
+      (tail-in c))
 
   encoded-3 : 0x800 ≤ c → c < 0x10000 → WellFormed ((0xE0 + c / 4096) ∷ (0x80 + c / 64 % 64) ∷ (0x80 + c % 64) ∷ [])
   encoded-3 h g =
-      by-test (ltb c 0x1000) (λ e. let l = ltb-true c 0x1000 e in formed-3 c 2 0xE0 0xE0 0xA0 0xBF refl refl refl (omega arith) (omega arith) (omega arith) (omega arith)) (λ e. let l = ltb-false c 0x1000 e in
-      by-test (ltb c 0xD000) (λ f. let m = ltb-true c 0xD000 f in formed-3 c 3 0xE1 0xEC 0x80 0xBF refl refl refl (omega arith) (omega arith) (omega arith) (omega arith)) (λ f. let m = ltb-false c 0xD000 f in
+      by-test (ltb c 0x1000)
+      (λ e. let l = ltb-true c 0x1000 e in formed-3 c 2 0xE0 0xE0 0xA0 0xBF refl refl refl (omega arith) (omega arith) (omega arith)
+      (omega arith)) (λ e. let l = ltb-false c 0x1000 e in
+      by-test (ltb c 0xD000)
+      (λ f. let m = ltb-true c 0xD000 f in formed-3 c 3 0xE1 0xEC 0x80 0xBF refl refl refl (omega arith) (omega arith) (omega arith)
+      (omega arith)) (λ f. let m = ltb-false c 0xD000 f in
       by-test (ltb c 0xD800)
       (λ d. let n = ltb-true c 0xD800 d in formed-3 c 4 0xED 0xED 0x80 0x9F refl refl refl (omega arith) (omega arith) (omega arith) (omega arith))
-      (λ d. let n = scalar-apart c k (ltb-false c 0xD800 d) in formed-3 c 5 0xEE 0xEF 0x80 0xBF refl refl refl (omega arith) (omega arith) (omega arith) (omega arith))))
+      (λ d. let n = scalar-apart c k (ltb-false c 0xD800 d) in formed-3 c 5 0xEE 0xEF 0x80 0xBF refl refl refl (omega arith) (omega arith)
+      (omega arith) (omega arith))))
 
   encoded-4 : 0x10000 ≤ c → WellFormed ((0xF0 + c / 262144) ∷ (0x80 + c / 4096 % 64) ∷ (0x80 + c / 64 % 64) ∷ (0x80 + c % 64) ∷ [])
   encoded-4 h =
-      by-test (ltb c 0x40000) (λ e. let l = ltb-true c 0x40000 e in formed-4 c 6 0xF0 0xF0 0x90 0xBF refl refl refl (omega arith) (omega arith) (omega arith) (omega arith)) (λ e. let l = ltb-false c 0x40000 e in
+      by-test (ltb c 0x40000)
+      (λ e. let l = ltb-true c 0x40000 e in formed-4 c 6 0xF0 0xF0 0x90 0xBF refl refl refl (omega arith) (omega arith) (omega arith)
+      (omega arith)) (λ e. let l = ltb-false c 0x40000 e in
       by-test (ltb c 0x100000)
       (λ f. let m = ltb-true c 0x100000 f in formed-4 c 7 0xF1 0xF3 0x80 0xBF refl refl refl (omega arith) (omega arith) (omega arith) (omega arith))
-      (λ f. let m = ltb-false c 0x100000 f in let n = scalar-small c k in formed-4 c 8 0xF4 0xF4 0x80 0x8F refl refl refl (omega arith) (omega arith) (omega arith) (omega arith)))
+      (λ f. let m = ltb-false c 0x100000 f in let n = scalar-small c k in
+      formed-4 c 8 0xF4 0xF4 0x80 0x8F refl refl refl (omega arith) (omega arith) (omega arith) (omega arith)))
 
   pub encode-formed : WellFormed (encode c)
   encode-formed = encoded WellFormed c (λ h. ascii-formed c h) encoded-2 encoded-3 encoded-4

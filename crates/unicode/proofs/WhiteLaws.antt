@@ -14,48 +14,46 @@ use Rattle.scan.specs.Loop.{Next, halt, more, loop}
 use Rattle.scan.specs.Part.{part}
 use Rattle.scan.proofs.Loop.{loop-out, loop-halt, loop-more}
 use Rattle.unicode.specs.Utf8.{sequenceAt, charAt}
-use Rattle.unicode.proofs.Utf8Laws.{sequence-within}
-use Rattle.unicode.specs.White.{whiteSpace, isIn, isWhite, whiteAt, endsWith, whiteBefore, whiteTurn, whiteEnd, whiteBack, whiteStart, wordTurn, wordEnd, trimmed, wordsTurn, wordsFrom, WhiteEnd, Trimmed, WordAt}
-
--- either way of a test
-by-test : {X : Type 0} (b : Bool) → (b ≡ true → X) → (b ≡ false → X) → X
-by-test true f g = f refl
-by-test false f g = g refl
+use Rattle.unicode.proofs.Utf8Laws.{by-test, sequence-within, sequence-ascii}
+use Rattle.unicode.specs.WhiteSpace.{whiteSpace, isAmong, isWhite}
+use Rattle.unicode.specs.Steps.{whiteAt, endsWith, whiteBefore, whiteTurn, whiteEnd, whiteBack, whiteStart, wordTurn, wordEnd, wordsTurn}
+use Rattle.unicode.specs.Steps.{wordsFrom}
+use Rattle.unicode.specs.White.{trimmed}
 
 -- ---- a number in a list, from its j-th on
 module _ (b : ℕ) (cs : List ℕ) (j : ℕ) where
-  pub isIn-here : j < length cs → getD cs j 0 ≡ b → isIn b (drop j cs) ≡ true
-  unfolding isIn
-  isIn-here h e = rw (drop-cons cs j 0 h, eq-eqb b (getD cs j 0) (sym e))
+  pub isAmong-here : j < length cs → getD cs j 0 ≡ b → isAmong b (drop j cs) ≡ true
+  unfolding isAmong
+  isAmong-here h e = rw (drop-cons cs j 0 h, eq-eqb b (getD cs j 0) (sym e))
 
-  pub isIn-on : j < length cs → (getD cs j 0 ≡ b → ⊥) → isIn b (drop j cs) ≡ isIn b (drop (j + 1) cs)
-  unfolding isIn
-  isIn-on h e = rw (add-one j, drop-cons cs j 0 h, ne-eqb b (getD cs j 0) (λ w. e (sym w)))
+  pub isAmong-on : j < length cs → (getD cs j 0 ≡ b → ⊥) → isAmong b (drop j cs) ≡ isAmong b (drop (j + 1) cs)
+  unfolding isAmong
+  isAmong-on h e = rw (add-one j, drop-cons cs j 0 h, ne-eqb b (getD cs j 0) (λ w. e (sym w)))
 
-  pub isIn-none : length cs ≤ j → isIn b (drop j cs) ≡ false
-  unfolding isIn
-  isIn-none h = rw (drop-of-length-le cs h)
+  pub isAmong-none : length cs ≤ j → isAmong b (drop j cs) ≡ false
+  unfolding isAmong
+  isAmong-none h = rw (drop-of-length-le cs h)
 
 -- no number of a list stands between two
 abbrev apart : ℕ → ℕ → List ℕ → Bool
 apart low high [] = true
 apart low high (c ∷ cs) = cond (ltb low c && ltb c high) false (apart low high cs)
 
-isIn-apart : (low high b : ℕ) (cs : List ℕ) → low < b → b < high → apart low high cs ≡ true → isIn b cs ≡ false
-unfolding isIn
-isIn-apart low high b [] l h t = refl
-isIn-apart low high b (c ∷ cs) l h t = by-test (ltb low c && ltb c high) between (λ w. off w (isIn-apart low high b cs l h (rw w at t)))
+isAmong-apart : (low high b : ℕ) (cs : List ℕ) → low < b → b < high → apart low high cs ≡ true → isAmong b cs ≡ false
+unfolding isAmong
+isAmong-apart low high b [] l h t = refl
+isAmong-apart low high b (c ∷ cs) l h t = by-test (ltb low c && ltb c high) between (λ w. off w (isAmong-apart low high b cs l h (rw w at t)))
   where
-    between : ltb low c && ltb c high ≡ true → isIn b (c ∷ cs) ≡ false
+    between : ltb low c && ltb c high ≡ true → isAmong b (c ∷ cs) ≡ false
     between w = absurd (true≢false (sym (rw w at t)))
 
-    off : ltb low c && ltb c high ≡ false → isIn b cs ≡ false → isIn b (c ∷ cs) ≡ false
+    off : ltb low c && ltb c high ≡ false → isAmong b cs ≡ false → isAmong b (c ∷ cs) ≡ false
     off w r = rw (ne-eqb b c (λ e. true≢false (rw (lt-ltb low c (omega arith), lt-ltb c high (omega arith)) at w))) r
 
 -- the visible ASCII characters are no white space
 pub isWhite-visible : (c : ℕ) → 0x20 < c → c < 0x80 → isWhite c ≡ false
 unfolding isWhite
-isWhite-visible c l h = isIn-apart 0x20 0x80 c whiteSpace l h refl
+isWhite-visible c l h = isAmong-apart 0x20 0x80 c whiteSpace l h refl
 
 -- ---- a white-space character at a place
 module _ (s : List ℕ) (p w : ℕ) (e : w ≡ sequenceAt s p) where
@@ -70,6 +68,11 @@ module _ (s : List ℕ) (p w : ℕ) (e : w ≡ sequenceAt s p) where
   pub whiteAt-white : (w ≡ 0 → ⊥) → isWhite (charAt s p w) ≡ true → whiteAt s p ≡ w
   unfolding whiteAt
   whiteAt-white n t = rw (← e, ne-eqb w 0 n, t)
+
+-- a visible ASCII character is none
+pub whiteAt-visible : (s : List ℕ) (p : ℕ) → p < length s → 0x20 < getD s p 0 → getD s p 0 < 0x80 → whiteAt s p ≡ 0
+unfolding charAt
+whiteAt-visible s p h l g = whiteAt-other s p 1 (sequence-ascii s p h (omega arith) .is) (isWhite-visible (getD s p 0) l g)
 
 -- it lies within the text
 pub whiteAt-within : (s : List ℕ) (p : ℕ) → p ≤ length s → p + whiteAt s p ≤ length s
@@ -133,14 +136,17 @@ module _ (len : ℕ) (f : ℕ → Unit {0} → Next (Unit {0}) ℕ) (Stop : ℕ 
 
   placed-turn : (i : ℕ) → i < len → ((q : ℕ) → i < q → q ≤ len → Placed len Stop q (place q)) → Turned len f Stop i → Placed len Stop i (place i)
   unfolding place
-  placed-turn i h k (stop e t) = rw (loop-halt len f (λ i x. i) i tt i h e) (record { after = omega arith; within-text = omega arith; stops = λ l. t })
+  placed-turn i h k (stop e t) =
+      rw (loop-halt len f (λ i x. i) i tt i h e) (record { after = omega arith; within-text = omega arith; stops = λ l. t })
   placed-turn i h k (step q e l g) =
       let r : Placed len Stop q (place q) = k q l g in
       rw (loop-more len f (λ i x. i) i tt q tt h e l) (record { after = omega arith; within-text = r .within-text; stops = r .stops })
 
   placed : (n i : ℕ) → len ≤ i + n → i ≤ len → Placed len Stop i (place i)
   placed zero i b h = placed-out i (omega arith) h
-  placed (suc n) i b h = by-test (ltb i len) (λ t. placed-turn i (ltb-true i len t) (λ q l g. placed n q (omega arith) g) (turned i (ltb-true i len t))) (λ t. placed-out i (ltb-false i len t) h)
+  placed (suc n) i b h =
+      by-test (ltb i len) (λ t. placed-turn i (ltb-true i len t) (λ q l g. placed n q (omega arith) g) (turned i (ltb-true i len t)))
+      (λ t. placed-out i (ltb-false i len t) h)
 
 -- ---- white space from a place on
 module _ (s : List ℕ) (p : ℕ) where
@@ -167,7 +173,8 @@ unfolding whiteEnd place
 whiteEnd-placed s p h = placed (length s) (whiteTurn s) (λ r. whiteAt s r ≡ 0) (whiteTurned s) (length s) p (omega arith) h
 
 pub whiteEnd-low : (s : List ℕ) (p : ℕ) → p ≤ whiteEnd s p
-whiteEnd-low s p = by-test (leb p (length s)) (λ t. whiteEnd-placed s p (leb-true p (length s) t) .after) (λ t. omega (arith, whiteEnd-out s p (omega (arith, leb-false p (length s) t))))
+whiteEnd-low s p = by-test (leb p (length s)) (λ t. whiteEnd-placed s p (leb-true p (length s) t) .after)
+    (λ t. omega (arith, whiteEnd-out s p (omega (arith, leb-false p (length s) t))))
 
 pub whiteEnd-high : (s : List ℕ) (p : ℕ) → p ≤ length s → whiteEnd s p ≤ length s
 whiteEnd-high s p h = whiteEnd-placed s p h .within-text
@@ -203,7 +210,8 @@ module _ (s : List ℕ) where
   unfolding whiteBack
   whiteBack-low zero k = omega arith
   whiteBack-low (suc e) (suc k) = omega (arith, whiteBack-low e k)
-  whiteBack-low (suc e) zero = by-test (eqb (whiteBefore s (suc e)) 0) (λ t. rw t (omega arith)) (λ t. rw t (omega (arith, whiteBack-low e (whiteBefore s (suc e) - 1))))
+  whiteBack-low (suc e) zero = by-test (eqb (whiteBefore s (suc e)) 0) (λ t. rw t (omega arith))
+      (λ t. rw t (omega (arith, whiteBack-low e (whiteBefore s (suc e) - 1))))
 
   pub whiteStart-low : whiteStart s ≤ length s
   unfolding whiteStart
@@ -234,7 +242,8 @@ wordEnd-placed s p h = placed (length s) (wordTurn s) (λ r. whiteAt s r ≡ 0 �
 
 module _ (s : List ℕ) (p : ℕ) where
   pub wordEnd-low : p ≤ wordEnd s p
-  wordEnd-low = by-test (leb p (length s)) (λ t. wordEnd-placed s p (leb-true p (length s) t) .after) (λ t. omega (arith, wordEnd-out s p (omega (arith, leb-false p (length s) t))))
+  wordEnd-low = by-test (leb p (length s)) (λ t. wordEnd-placed s p (leb-true p (length s) t) .after)
+      (λ t. omega (arith, wordEnd-out s p (omega (arith, leb-false p (length s) t))))
 
   pub wordEnd-high : p ≤ length s → wordEnd s p ≤ length s
   wordEnd-high h = wordEnd-placed s p h .within-text
@@ -251,13 +260,16 @@ module _ (s : List ℕ) (p : ℕ) (ws : List (List ℕ)) where
   pub wordsFrom-none : length s ≤ whiteEnd s p → wordsFrom s p ws ≡ ws
   unfolding wordsFrom
   wordsFrom-none h =
-      by-test (ltb p (length s)) (λ t. loop-halt (length s) (wordsTurn s) (λ i ws. ws) p ws ws (ltb-true p (length s) t) (rw (le-ltb (whiteEnd s p) (length s) h)))
+      by-test (ltb p (length s))
+      (λ t. loop-halt (length s) (wordsTurn s) (λ i ws. ws) p ws ws (ltb-true p (length s) t) (rw (le-ltb (whiteEnd s p) (length s) h)))
       (λ t. loop-out (length s) (wordsTurn s) (λ i ws. ws) p ws (ltb-false p (length s) t))
 
-  pub wordsFrom-next : whiteEnd s p < length s → wordsFrom s p ws ≡ wordsFrom s (wordEnd s (whiteEnd s p)) (ws ++ (part (whiteEnd s p) (wordEnd s (whiteEnd s p)) s ∷ []))
+  pub wordsFrom-next : whiteEnd s p < length s
+      → wordsFrom s p ws ≡ wordsFrom s (wordEnd s (whiteEnd s p)) (ws ++ (part (whiteEnd s p) (wordEnd s (whiteEnd s p)) s ∷ []))
   unfolding wordsFrom
   wordsFrom-next h =
-      loop-more (length s) (wordsTurn s) (λ i ws. ws) p ws (wordEnd s (whiteEnd s p)) (ws ++ (part (whiteEnd s p) (wordEnd s (whiteEnd s p)) s ∷ [])) (omega (arith, whiteEnd-low s p)) (rw (lt-ltb (whiteEnd s p) (length s) h))
+      loop-more (length s) (wordsTurn s) (λ i ws. ws) p ws (wordEnd s (whiteEnd s p))
+      (ws ++ (part (whiteEnd s p) (wordEnd s (whiteEnd s p)) s ∷ [])) (omega (arith, whiteEnd-low s p)) (rw (lt-ltb (whiteEnd s p) (length s) h))
       (omega (arith, whiteEnd-low s p, wordEnd-some s (whiteEnd s p) h (whiteEnd-stops s p h)))
 
 words-none : (s : List ℕ) (p : ℕ) (ws : List (List ℕ)) → length s ≤ whiteEnd s p → wordsFrom s p ws ≡ ws ++ wordsFrom s p []
@@ -266,14 +278,18 @@ words-none s p ws o = wordsFrom-none s p ws o ∙ rw (wordsFrom-none s p [] o) (
 words-move : (s : List ℕ) (n p : ℕ) (ws : List (List ℕ)) → length s ≤ p + n → wordsFrom s p ws ≡ ws ++ wordsFrom s p []
 words-move s zero p ws b = words-none s p ws (omega (arith, whiteEnd-low s p))
 words-move s (suc n) p ws b =
-    by-test (ltb (whiteEnd s p) (length s)) (λ t. goes (ltb-true (whiteEnd s p) (length s) t) (λ l vs. words-move s n (wordEnd s (whiteEnd s p)) vs l))
+    by-test (ltb (whiteEnd s p) (length s))
+    (λ t. goes (ltb-true (whiteEnd s p) (length s) t) (λ l vs. words-move s n (wordEnd s (whiteEnd s p)) vs l))
     (λ t. words-none s p ws (ltb-false (whiteEnd s p) (length s) t))
   where
-    goes : whiteEnd s p < length s → (length s ≤ wordEnd s (whiteEnd s p) + n → (vs : List (List ℕ)) → wordsFrom s (wordEnd s (whiteEnd s p)) vs ≡ vs ++ wordsFrom s (wordEnd s (whiteEnd s p)) []) → wordsFrom s p ws ≡ ws ++ wordsFrom s p []
+    goes : whiteEnd s p < length s
+        → (length s ≤ wordEnd s (whiteEnd s p) + n → (vs : List (List ℕ))
+        → wordsFrom s (wordEnd s (whiteEnd s p)) vs ≡ vs ++ wordsFrom s (wordEnd s (whiteEnd s p)) []) → wordsFrom s p ws ≡ ws ++ wordsFrom s p []
     goes h k =
         let r = k (omega (arith, whiteEnd-low s p, wordEnd-some s (whiteEnd s p) h (whiteEnd-stops s p h))) in
         let w : List ℕ = part (whiteEnd s p) (wordEnd s (whiteEnd s p)) s in
-        rw (wordsFrom-next s p [] h, r (w ∷ [])) (wordsFrom-next s p ws h ∙ (r (ws ++ (w ∷ [])) ∙ append-assoc ws (w ∷ []) (wordsFrom s (wordEnd s (whiteEnd s p)) [])))
+        rw (wordsFrom-next s p [] h, r (w ∷ []))
+        (wordsFrom-next s p ws h ∙ (r (ws ++ (w ∷ [])) ∙ append-assoc ws (w ∷ []) (wordsFrom s (wordEnd s (whiteEnd s p)) [])))
 
 -- the words before a place stand first
 pub wordsFrom-after : (s : List ℕ) (p : ℕ) (ws : List (List ℕ)) → wordsFrom s p ws ≡ ws ++ wordsFrom s p []
@@ -287,38 +303,3 @@ trimmed-none = rw (whiteEnd-out [] 0 (omega arith))
 pub trimmed-all : (s : List ℕ) → 0 < length s → whiteAt s 0 ≡ 0 → whiteBefore s (length s) ≡ 0 → trimmed s ≡ s
 unfolding trimmed whiteStart
 trimmed-all s h a b = rw (whiteEnd-here s 0 h a, whiteBack-here s (length s) b, sub-zero (length s)) (take-length s)
-
--- ---- what the program ensures
-pub word-at : (s : List ℕ) (p a e : ℕ) → WhiteEnd s p a → e ≡ wordEnd s a → a < length s → WordAt s p a e
-word-at s p a e w h l = record {
-  starts = w .is;
-  ends = h;
-  after = w .after;
-  some-byte = rw h (wordEnd-some s a l (w .stops l));
-  within-text = rw h (wordEnd-high s a (w .within-text));
-  next = λ ws. rw (h, w .is) (wordsFrom-next s p ws (rw (w .is) at l));
-}
-
-module _ (s : List ℕ) (a e : ℕ) (w : WhiteEnd s 0 a) (z : e ≡ whiteStart s) where
-  pub trimmed-some : a ≤ e → Trimmed s a e
-  unfolding trimmed
-  trimmed-some h = record {
-    starts = w .is;
-    ends = rw (← (w .is), ← z) (sym (max-eq-right h));
-    order = h;
-    within-text = rw z (whiteStart-low s);
-    is = rw (← (w .is), ← z);
-  }
-
-  pub trimmed-empty : e < a → Trimmed s a a
-  unfolding trimmed
-  trimmed-empty h = record {
-    starts = w .is;
-    ends = rw (← (w .is), ← z) (sym (max-eq-left (omega arith)));
-    order = omega arith;
-    within-text = w .within-text;
-    is =
-        let x : a - a ≡ 0 = omega arith in
-        let y : e - a ≡ 0 = omega arith in
-        rw (← (w .is), ← z, x, y);
-  }

@@ -1,2 +1,4 @@
 pub mod Utf8
+pub mod WhiteSpace
+pub mod Steps
 pub mod White

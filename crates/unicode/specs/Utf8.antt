@@ -55,6 +55,12 @@ pub data Utf8 : List ℕ → Type 0 where
   empty : Utf8 []
   sequence : {w s : List ℕ} → WellFormed w → Utf8 s → Utf8 (w ++ s)
 
+-- a is the first n characters of a text in UTF-8, or all of it where it has fewer (Rust's `chars().take(n)`)
+pub data FirstChars : ℕ → List ℕ → List ℕ → Type 0 where
+  taken : (s : List ℕ) → FirstChars 0 s []
+  ended : (n : ℕ) → FirstChars n [] []
+  next : {n : ℕ} {w s a : List ℕ} → WellFormed w → FirstChars n s a → FirstChars (suc n) (w ++ s) (w ++ a)
+
 -- where the sequences from a text's start on end: at the first place where none stands, or at the text's length
 abbrev pub utf8Turn : List ℕ → ℕ → Unit {0} → Next (Unit {0}) ℕ
 utf8Turn s p x = cond (eqb (sequenceAt s p) 0) (halt p) (more (p + sequenceAt s p) x)
@@ -69,16 +75,6 @@ pub record LongestValid (s : List ℕ) (r : ℕ) : Type 0 where
   pub valid : Utf8 (take r s)
   pub longest : (n : ℕ) → n ≤ length s → Utf8 (take n s) → n ≤ r
 
--- no byte from p up to e is larger than r
-abbrev pub Bounded : List ℕ → ℕ → ℕ → ℕ → Type 0
-Bounded s p e r = (k : ℕ) → p ≤ k → k < e → getD s k 0 ≤ r
-
--- the bytes from p up to r are ASCII
-pub record AsciiTo (s : List ℕ) (p r : ℕ) : Type 0 where
-  pub after : p ≤ r
-  pub within-text : r ≤ length s
-  pub ascii : Bounded s p r 0x7F
-
 -- the sequence at p has r bytes, or none stands there and r is 0
 pub record Sequence (s : List ℕ) (p r : ℕ) : Type 0 where
   pub is : r ≡ sequenceAt s p
@@ -89,16 +85,6 @@ pub record Sequence (s : List ℕ) (p r : ℕ) : Type 0 where
 -- on with a character.
 unfoldable pub boundary : List ℕ → ℕ → Bool
 boundary s i = eqb i 0 || eqb i (length s) || not (leb 0x80 (getD s i 0) && leb (getD s i 0) 0xBF)
-
--- k ranges of bytes that follow the second
-abbrev pub tails : ℕ → List Range
-tails zero = []
-tails (suc k) = 0x80 to 0xBF ∷ tails k
-
--- the width, where the bytes after the first are as many as it says, the second from low to high and the others from 0x80 to 0xBF; or 0
-unfoldable pub followed : List ℕ → ℕ → ℕ → ℕ → ℕ → ℕ
-unfolding fitsAt
-followed s p width low high = cond (fitsAt s (p + 1) (low to high ∷ tails (width - 2))) width 0
 
 -- ---- characters
 

@@ -4,7 +4,8 @@ ghost use mathlib.Core.Path.{_≡_};
 ghost use Prim.Native.Nat.{_+_, _≤_, _<_};
 ghost use lib.ListN.{length};
 ghost use Rattle.scan.specs.Posts.{Appended};
-ghost use Rattle.unicode.specs.Utf8.{boundary, followed, Sequence, charAt, encode, Bounded, AsciiTo, LongestValid};
+ghost use Rattle.unicode.specs.Utf8.{boundary, Sequence, charAt, encode, LongestValid};
+ghost use Rattle.unicode.specs.Steps.{followed, Bounded, AsciiTo};
 
 // The width, where the second byte lies from low to high and those after it from 0x80 to 0xBF; or 0.
 fn follow(src: &[u8], pos: usize, width: usize, low: u8, high: u8) -> usize

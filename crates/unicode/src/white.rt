@@ -3,7 +3,9 @@
 ghost use mathlib.Core.Path.{_≡_};
 ghost use Prim.Native.Nat.{_≤_, _<_};
 ghost use lib.ListN.{length};
-ghost use Rattle.unicode.specs.White.{isWhite, WhiteAt, WhiteBefore, WhiteEnd, whiteStart, wordEnd, Trimmed, NextWord};
+ghost use Rattle.unicode.specs.WhiteSpace.{isWhite};
+ghost use Rattle.unicode.specs.Steps.{WhiteAt, WhiteBefore, WhiteEnd, whiteStart, wordEnd};
+ghost use Rattle.unicode.specs.White.{Trimmed, NextWord};
 
 // The code points with the property White_Space.
 const WHITE_SPACE: [u32; 25] = [
@@ -48,10 +50,6 @@ pub enum Word {
 fn is_white(c: u32) -> bool
     ensures { λ r. ⌜ r ≡ isWhite c ⌝ }
 {
-    // the visible ASCII characters, which are by far the commonest, are answered without the table
-    if 0x20 < c && c < 0x80 {
-        return false;
-    }
     let mut i = 0;
     while i < 25 {
         if WHITE_SPACE[i] == c {
@@ -67,6 +65,11 @@ pub fn white_at(src: &[u8], pos: usize) -> usize
     requires { ⌜ pos < length (now src) ⌝ }
     ensures { λ r. ⌜ WhiteAt (now (src .entry)) pos r ⌝ }
 {
+    // the visible ASCII characters, which are by far the commonest, are answered from their byte
+    let lead = src[pos];
+    if 0x20 < lead && lead < 0x80 {
+        return 0;
+    }
     let width = crate::utf8::sequence_at(src, pos);
     if width == 0 {
         return 0;
@@ -83,6 +86,13 @@ fn white_before(src: &[u8], end: usize) -> usize
     requires { ⌜ end ≤ length (now src) ⌝ }
     ensures { λ r. ⌜ WhiteBefore (now (src .entry)) end r ⌝ }
 {
+    // a visible ASCII character ends no white space
+    if 0 < end {
+        let last = src[end - 1];
+        if 0x20 < last && last < 0x80 {
+            return 0;
+        }
+    }
     let mut k = 1;
     while k < 5 {
         if end < k {

@@ -23,11 +23,17 @@ array-read-size c = search needs
 
 returns : tie.Need-returns
 unfolding ofBits ofInt
-returns c = rw (c .if1 .taken, c .before .nearest-u32-to-f32 .ensures) (minus-quotient binary32 (c .before .before .before .before .args .d .digits) (c .before .before .before .before .args .d .scale) (omega arith) (omega arith))
+returns c =
+    let c4 = c .before .before .before .before in
+    rw (c .if1 .taken, c .before .nearest-u32-to-f32 .ensures) (minus-quotient binary32 (c4 .args .d .digits) (c4 .args .d .scale) (omega arith)
+    (omega arith))
 
 returns-2 : tie.Need-returns-2
 unfolding ofBits ofInt
-returns-2 c = rw (c .if1 .left, c .before .nearest-u32-to-f32 .ensures) (quotient binary32 (c .before .before .before .before .args .d .digits) (c .before .before .before .before .args .d .scale) (omega arith) (omega arith))
+returns-2 c =
+    let c4 = c .before .before .before .before in
+    rw (c .if1 .left, c .before .nearest-u32-to-f32 .ensures) (quotient binary32 (c4 .args .d .digits) (c4 .args .d .scale) (omega arith)
+    (omega arith))
 
 pub to-f32-spec : {M : Type 1} → statement M
 to-f32-spec =

@@ -20,11 +20,17 @@ array-read-size c = search needs
 
 returns : tie.Need-returns
 unfolding ofBits ofInt
-returns c = rw (c .if1 .taken, c .before .nearest-u64-to-f64 .ensures) (minus-quotient binary64 (c .before .before .before .args .d .digits) (c .before .before .before .args .d .scale) (omega arith) (omega arith))
+returns c =
+    let c3 = c .before .before .before in
+    rw (c .if1 .taken, c .before .nearest-u64-to-f64 .ensures) (minus-quotient binary64 (c3 .args .d .digits) (c3 .args .d .scale) (omega arith)
+    (omega arith))
 
 returns-2 : tie.Need-returns-2
 unfolding ofBits ofInt
-returns-2 c = rw (c .if1 .left, c .before .nearest-u64-to-f64 .ensures) (quotient binary64 (c .before .before .before .args .d .digits) (c .before .before .before .args .d .scale) (omega arith) (omega arith))
+returns-2 c =
+    let c3 = c .before .before .before in
+    rw (c .if1 .left, c .before .nearest-u64-to-f64 .ensures) (quotient binary64 (c3 .args .d .digits) (c3 .args .d .scale) (omega arith)
+    (omega arith))
 
 pub to-f64-spec : {M : Type 1} → statement M
 to-f64-spec =

@@ -12,19 +12,23 @@ add-digits : tie.Need-add-digits
 add-digits c = search needs
 
 shr-result : tie.Need-shr-result
-shr-result c = omega (arith, bits-near (c .before .args .x) _ _ (c .before .pre) (bits-fields (c .before .args .x) (c .before .good .0 .1) (c .before .pre)))
+shr-result c =
+    omega (arith, bits-near (c .before .args .x) _ _ (c .before .pre) (bits-fields (c .before .args .x) (c .before .good .0 .1) (c .before .pre)))
 
 sub-result : tie.Need-sub-result
 sub-result c = search needs
 
 shl-result : tie.Need-shl-result
-shl-result c = omega (arith, bits-near (c .before .args .x) _ _ (c .before .pre) (bits-fields (c .before .args .x) (c .before .good .0 .1) (c .before .pre)))
+shl-result c =
+    omega (arith, bits-near (c .before .args .x) _ _ (c .before .pre) (bits-fields (c .before .args .x) (c .before .good .0 .1) (c .before .pre)))
 
 returns : tie.Need-returns
-returns c = bits-right (c .before .args .x) _ _ (c .before .pre) (bits-fields (c .before .args .x) (c .before .good .0 .1) (c .before .pre)) (c .if1 .taken)
+returns c =
+    bits-right (c .before .args .x) _ _ (c .before .pre) (bits-fields (c .before .args .x) (c .before .good .0 .1) (c .before .pre)) (c .if1 .taken)
 
 returns-2 : tie.Need-returns-2
-returns-2 c = bits-left (c .before .args .x) _ _ (c .before .pre) (bits-fields (c .before .args .x) (c .before .good .0 .1) (c .before .pre)) (c .if1 .left)
+returns-2 c =
+    bits-left (c .before .args .x) _ _ (c .before .pre) (bits-fields (c .before .args .x) (c .before .good .0 .1) (c .before .pre)) (c .if1 .left)
 
 pub whole-part-spec : {M : Type 1} → statement M
 whole-part-spec =

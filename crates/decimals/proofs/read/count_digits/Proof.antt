@@ -18,7 +18,10 @@ shared-slice-read-count-digit : tie.Need-shared-slice-read-count-digit Inv-loop 
 shared-slice-read-count-digit c = omega (arith, c .before .before .before .before .pre .within)
 
 count-digit-requires : tie.Need-count-digit-requires Inv-loop μ-loop
-count-digit-requires c κs = going-asks (c .before .before .before .before .args .before) (c .before .before .before .before .args .text .now) (c .before .before .before .before .args .from) (c .before .before .before .before .args .to) (c .before .before .before .before .pre) _ _ (c .before .before .loop .inv) (c .before .loop-test .taken)
+count-digit-requires c κs =
+    let c4 = c .before .before .before .before in
+    going-asks (c4 .args .before) (c4 .args .text .now) (c4 .args .from) (c4 .args .to) (c4 .pre) _ _ (c .before .before .loop .inv)
+    (c .before .loop-test .taken)
 
 add-i : tie.Need-add-i Inv-loop μ-loop
 add-i c = omega (arith, c .before .before .before .before .before .pre .within)
@@ -27,10 +30,16 @@ loop-less : tie.Need-loop-less Inv-loop μ-loop
 loop-less c = omega arith
 
 loop-again : tie.Need-loop-again Inv-loop μ-loop
-loop-again c = going-step (c .before .before .before .before .before .args .before) (c .before .before .before .before .before .args .text .now) (c .before .before .before .before .before .args .from) (c .before .before .before .before .before .args .to) (c .before .before .before .before .before .pre) _ _ (c .before .before .before .loop .inv) _ (c .before .before .loop-test .taken) (c .count-digit .ensures)
+loop-again c =
+    let c3 = c .before .before .before in
+    let c5 = c3 .before .before in
+    going-step (c5 .args .before) (c5 .args .text .now) (c5 .args .from) (c5 .args .to) (c5 .pre) _ _ (c3 .loop .inv) _
+    (c .before .before .loop-test .taken) (c .count-digit .ensures)
 
 returns : tie.Need-returns Inv-loop μ-loop
-returns c = going-done (c .before .before .before .args .before) (c .before .before .before .args .text .now) (c .before .before .before .args .from) (c .before .before .before .args .to) (c .before .before .before .pre) _ _ (c .before .loop .inv) (c .loop-test .left)
+returns c =
+    let c3 = c .before .before .before in
+    going-done (c3 .args .before) (c3 .args .text .now) (c3 .args .from) (c3 .args .to) (c3 .pre) _ _ (c .before .loop .inv) (c .loop-test .left)
 
 pub count-digits-spec : {M : Type 1} → statement M
 count-digits-spec =

@@ -27,13 +27,21 @@ eq-ignore-ascii-case-requires-3 c κs = search needs
 
 returns : tie.Need-returns
 returns c =
+    let c5 = c .before .before .before .before .before in
     c .if2 .taken
-    ∙ sym (⊎-elim (λ w. word-first (c .before .before .before .before .before .args .text .now) (sym (c .before .before .eq-ignore-ascii-case .ensures) ∙ w .0 .taken)) (λ w. word-second (c .before .before .before .before .before .args .text .now) (sym (w .2 .ensures) ∙ (sym (w .3) ∙ c .if2 .taken))) (c .before .if1 .came))
+    ∙ sym (⊎-elim (λ w. word-first (c5 .args .text .now) (sym (c .before .before .eq-ignore-ascii-case .ensures)
+    ∙ w .0 .taken)) (λ w. word-second (c5 .args .text .now) (sym (w .2 .ensures) ∙ (sym (w .3) ∙ c .if2 .taken))) (c .before .if1 .came))
 
 returns-2 : tie.Need-returns-2
 returns-2 c =
+    let c3 = c .before .before .before in
+    let c4 = c3 .before in
+    let c7 = c4 .before .before .before in
     c .eq-ignore-ascii-case3 .ensures
-    ∙ sym (⊎-elim (λ w. absurd (true≢false (sym (w .0 .taken) ∙ sym (w .1) ∙ c .before .before .if2 .left))) (λ w. word-last (c .before .before .before .before .before .before .before .args .text .now) (sym (c .before .before .before .before .eq-ignore-ascii-case .ensures) ∙ w .0 .left) (sym (w .2 .ensures) ∙ (sym (w .3) ∙ c .before .before .if2 .left))) (c .before .before .before .if1 .came))
+    ∙ sym (⊎-elim (λ w. absurd (true≢false (sym (w .0 .taken) ∙ sym (w .1)
+    ∙ c .before .before .if2 .left)))
+    (λ w. word-last (c7 .args .text .now) (sym (c4 .eq-ignore-ascii-case .ensures) ∙ w .0 .left)
+    (sym (w .2 .ensures) ∙ (sym (w .3) ∙ c .before .before .if2 .left))) (c3 .if1 .came))
 
 pub is-word-spec : {M : Type 1} → statement M
 is-word-spec =

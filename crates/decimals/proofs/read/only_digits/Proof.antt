@@ -12,7 +12,9 @@ over-requires : tie.Need-over-requires
 over-requires c κs = search needs
 
 returns-2 : tie.Need-returns-2
-returns-2 c = digits-are (c .before .before .before .args .text .now) (c .before .before .before .args .from) _ (c .before .if1 .left) (c .over .ensures .is)
+returns-2 c =
+    let c3 = c .before .before .before in
+    digits-are (c3 .args .text .now) (c3 .args .from) _ (c .before .if1 .left) (c .over .ensures .is)
 
 pub only-digits-spec : {M : Type 1} → statement M
 only-digits-spec = tie.close (tie.spec returns over-requires returns-2)

@@ -7,12 +7,15 @@ use native.Mathlib.Omega.{arith}
 use Rattle.numerals.proofs.Numerals.{after-sign}
 use Rattle.decimals.specs.Decimal.{unsignedDecimal}
 use Rattle.decimals.proofs.Reading.{decimal-none, decimal-minus, decimal-plus, decimal-bare}
+use Rattle.decimals.proofs.Numbers.{reads}
 use borrow.Author.Needs.{needs}
 use Rattle.decimals.proofs.read.read_decimal.Statement.{statement}
 use Rattle.decimals.proofs.read.read_decimal.Tie as tie
 
 returns : tie.Need-returns
-returns c = let a = c .before .before .args in sym (decimal-none (a .digits) (a .decimals) (a .text .now) (c .if1 .taken))
+returns c =
+    let a = c .before .before .args in
+    reads (a .text .now) (a .digits) (a .decimals) _ (sym (decimal-none (a .digits) (a .decimals) (a .text .now) (c .if1 .taken)))
 
 shared-slice-read-sign : tie.Need-shared-slice-read-sign
 shared-slice-read-sign c = search needs
@@ -47,21 +50,25 @@ read-unsigned-requires-3 c κs = search needs
 returns-2 : tie.Need-returns-2
 returns-2 c =
     let a = c .before .before .before .before .before .before .args in
-    c .read-unsigned .ensures
+    reads (a .text .now) (a .digits) (a .decimals) _
+    (c .read-unsigned .ensures
     ∙ ap (λ (l : List ℕ). unsignedDecimal true l (a .digits) (a .decimals)) (after-sign (a .text .now))
-    ∙ sym (decimal-minus (a .digits) (a .decimals) (a .text .now) (omega arith) (c .before .before .match .keys1))
+    ∙ sym (decimal-minus (a .digits) (a .decimals) (a .text .now) (omega arith) (c .before .before .match .keys1)))
 
 returns-3 : tie.Need-returns-3
 returns-3 c =
     let a = c .before .before .before .before .before .before .args in
-    c .read-unsigned2 .ensures
+    reads (a .text .now) (a .digits) (a .decimals) _
+    (c .read-unsigned2 .ensures
     ∙ ap (λ (l : List ℕ). unsignedDecimal false l (a .digits) (a .decimals)) (after-sign (a .text .now))
-    ∙ sym (decimal-plus (a .digits) (a .decimals) (a .text .now) (omega arith) (c .before .before .match .keys2))
+    ∙ sym (decimal-plus (a .digits) (a .decimals) (a .text .now) (omega arith) (c .before .before .match .keys2)))
 
 returns-4 : tie.Need-returns-4
 returns-4 c =
     let a = c .before .before .before .before .before .args in
-    c .read-unsigned3 .ensures ∙ sym (decimal-bare (a .digits) (a .decimals) (a .text .now) (omega arith) (c .before .match .rest .1) (c .before .match .rest .0 .1))
+    reads (a .text .now) (a .digits) (a .decimals) _
+    (c .read-unsigned3 .ensures
+    ∙ sym (decimal-bare (a .digits) (a .decimals) (a .text .now) (omega arith) (c .before .match .rest .1) (c .before .match .rest .0 .1)))
 
 pub read-decimal-spec : {M : Type 1} → statement M
 read-decimal-spec =

@@ -19,9 +19,11 @@ over-requires-2 c κs = search needs
 is-word-requires : tie.Need-is-word-requires
 is-word-requires c κs = search needs
 
-shape : (c : tie.Joined1) → Shape (c .before .before .before .before .args .text .now) (c .before .before .over .result) (c .before .fraction-start .result) (c .if1 .end)
+shape : (c : tie.Joined1) → Shape (c .before .before .before .before .args .text .now) (c .before .before .over .result)
+    (c .before .fraction-start .result) (c .if1 .end)
 shape c =
-    let s = c .before .before .before .before .args .text .now in
+    let c4 = c .before .before .before .before in
+    let s = c4 .args .text .now in
     let w = c .before .before .over in
     let f = c .before .fraction-start in
     ⊎-elim (λ v. shape-point s (w .result) (f .result) (w .ensures .is) (f .ensures) (c .if1 .end) (v .0 .taken) (v .2 ∙ v .1 .ensures .is))
@@ -33,25 +35,73 @@ some : (c : tie.Joined2) → c .before .before .before .over .result ≡ 0 → c
 some c z e = ⊎-elim (λ w. eqb-false (c .before .if1 .end) (c .before .before .fraction-start .result) (w .1 .left) e) (λ w. w .left z) (c .if2 .came)
 
 returns : tie.Need-returns
-returns c = sym (shape-empty (c .before .before .before .before .before .before .before .before .args .negative) (c .before .before .before .before .before .before .before .before .args .text .now) (c .before .before .before .before .before .before .before .before .args .digits) (c .before .before .before .before .before .before .before .before .args .decimals) (c .before .before .before .before .before .before .over .result) (c .before .before .before .before .before .fraction-start .result) (c .before .before .before .before .if1 .end) (shape (c .before .before .before .before)) (c .before .before .before .if2 .taken) (eqb-true (c .before .before .before .before .if1 .end) (c .before .before .before .before .before .fraction-start .result) (c .before .before .if3 .taken)) ∙ rw (sym (c .before .is-word .ensures) ∙ c .if4 .taken))
+returns c =
+    let c3 = c .before .before .before in
+    let c4 = c3 .before in
+    let c5 = c4 .before in
+    let c6 = c5 .before in
+    let c8 = c6 .before .before in
+    sym (shape-empty (c8 .args .negative) (c8 .args .text .now) (c8 .args .digits) (c8 .args .decimals) (c6 .over .result)
+    (c5 .fraction-start .result) (c4 .if1 .end) (shape (c4)) (c3 .if2 .taken)
+    (eqb-true (c4 .if1 .end) (c5 .fraction-start .result) (c .before .before .if3 .taken))
+    ∙ rw (sym (c .before .is-word .ensures) ∙ c .if4 .taken))
 
 returns-2 : tie.Need-returns-2
-returns-2 c = sym (shape-empty (c .before .before .before .before .before .before .before .before .args .negative) (c .before .before .before .before .before .before .before .before .args .text .now) (c .before .before .before .before .before .before .before .before .args .digits) (c .before .before .before .before .before .before .before .before .args .decimals) (c .before .before .before .before .before .before .over .result) (c .before .before .before .before .before .fraction-start .result) (c .before .before .before .before .if1 .end) (shape (c .before .before .before .before)) (c .before .before .before .if2 .taken) (eqb-true (c .before .before .before .before .if1 .end) (c .before .before .before .before .before .fraction-start .result) (c .before .before .if3 .taken)) ∙ rw (sym (c .before .is-word .ensures) ∙ c .if4 .left))
+returns-2 c =
+    let c3 = c .before .before .before in
+    let c4 = c3 .before in
+    let c5 = c4 .before in
+    let c6 = c5 .before in
+    let c8 = c6 .before .before in
+    sym (shape-empty (c8 .args .negative) (c8 .args .text .now) (c8 .args .digits) (c8 .args .decimals) (c6 .over .result)
+    (c5 .fraction-start .result) (c4 .if1 .end) (shape (c4)) (c3 .if2 .taken)
+    (eqb-true (c4 .if1 .end) (c5 .fraction-start .result) (c .before .before .if3 .taken))
+    ∙ rw (sym (c .before .is-word .ensures) ∙ c .if4 .left))
 
 is-exponent-requires : tie.Need-is-exponent-requires
 is-exponent-requires c κs = search needs
 
 returns-3 : tie.Need-returns-3
-returns-3 c = sym (shape-rest (c .before .before .before .before .before .before .before .before .args .negative) (c .before .before .before .before .before .before .before .before .args .text .now) (c .before .before .before .before .before .before .before .before .args .digits) (c .before .before .before .before .before .before .before .before .args .decimals) (c .before .before .before .before .before .before .over .result) (c .before .before .before .before .before .fraction-start .result) (c .before .before .before .before .if1 .end) (shape (c .before .before .before .before)) (some (c .before .before .before)) (c .before .before .if5 .taken) ∙ rw (sym (c .before .is-exponent .ensures) ∙ c .if6 .taken))
+returns-3 c =
+    let c3 = c .before .before .before in
+    let c4 = c3 .before in
+    let c5 = c4 .before in
+    let c6 = c5 .before in
+    let c8 = c6 .before .before in
+    sym (shape-rest (c8 .args .negative) (c8 .args .text .now) (c8 .args .digits) (c8 .args .decimals) (c6 .over .result)
+    (c5 .fraction-start .result) (c4 .if1 .end) (shape (c4)) (some (c3)) (c .before .before .if5 .taken)
+    ∙ rw (sym (c .before .is-exponent .ensures) ∙ c .if6 .taken))
 
 returns-4 : tie.Need-returns-4
-returns-4 c = sym (shape-rest (c .before .before .before .before .before .before .before .before .args .negative) (c .before .before .before .before .before .before .before .before .args .text .now) (c .before .before .before .before .before .before .before .before .args .digits) (c .before .before .before .before .before .before .before .before .args .decimals) (c .before .before .before .before .before .before .over .result) (c .before .before .before .before .before .fraction-start .result) (c .before .before .before .before .if1 .end) (shape (c .before .before .before .before)) (some (c .before .before .before)) (c .before .before .if5 .taken) ∙ rw (sym (c .before .is-exponent .ensures) ∙ c .if6 .left))
+returns-4 c =
+    let c3 = c .before .before .before in
+    let c4 = c3 .before in
+    let c5 = c4 .before in
+    let c6 = c5 .before in
+    let c8 = c6 .before .before in
+    sym (shape-rest (c8 .args .negative) (c8 .args .text .now) (c8 .args .digits) (c8 .args .decimals) (c6 .over .result)
+    (c5 .fraction-start .result) (c4 .if1 .end) (shape (c4)) (some (c3)) (c .before .before .if5 .taken)
+    ∙ rw (sym (c .before .is-exponent .ensures) ∙ c .if6 .left))
 
 limit-requires : tie.Need-limit-requires
-limit-requires c κs = (shape-digital (c .before .before .before .before .before .before .args .negative) (c .before .before .before .before .before .before .args .text .now) (c .before .before .before .before .before .before .args .digits) (c .before .before .before .before .before .before .args .decimals) (c .before .before .before .before .over .result) (c .before .before .before .fraction-start .result) (c .before .before .if1 .end) (shape (c .before .before)) (c .if5 .left), c .before .before .before .before .before .before .pre .0, c .before .before .before .before .before .before .pre .1)
+limit-requires c κs =
+    let c3 = c .before .before .before in
+    let c4 = c3 .before in
+    let c6 = c4 .before .before in (
+      shape-digital (c6 .args .negative) (c6 .args .text .now) (c6 .args .digits) (c6 .args .decimals) (c4 .over .result)
+          (c3 .fraction-start .result) (c .before .before .if1 .end) (shape (c .before .before)) (c .if5 .left),
+      c6 .pre .0,
+      c6 .pre .1,
+    )
 
 returns-5 : tie.Need-returns-5
-returns-5 c = c .limit .ensures ∙ sym (shape-whole (c .before .before .before .before .before .before .before .args .negative) (c .before .before .before .before .before .before .before .args .text .now) (c .before .before .before .before .before .before .before .args .digits) (c .before .before .before .before .before .before .before .args .decimals) (c .before .before .before .before .before .over .result) (c .before .before .before .before .fraction-start .result) (c .before .before .before .if1 .end) (shape (c .before .before .before)) (some (c .before .before)) (c .before .if5 .left))
+returns-5 c =
+    let c3 = c .before .before .before in
+    let c4 = c3 .before in
+    let c5 = c4 .before in
+    let c7 = c5 .before .before in
+    c .limit .ensures ∙ sym (shape-whole (c7 .args .negative) (c7 .args .text .now) (c7 .args .digits) (c7 .args .decimals) (c5 .over .result)
+    (c4 .fraction-start .result) (c3 .if1 .end) (shape (c3)) (some (c .before .before)) (c .before .if5 .left))
 
 pub read-unsigned-spec : {M : Type 1} → statement M
 read-unsigned-spec =

@@ -27,9 +27,14 @@ decimal-width-requires c κs = search needs
 signs : (c : tie.Joined1) → (c .if1 .sign ≡ length (lead (c .before .args .s .negative))) × (c .if1 .sign ≤ 1)
 signs c = ⊎-elim (λ w. (rw (w .0 .taken) (w .1), omega (arith, w .1))) (λ w. (rw (w .0 .left) (w .1), omega (arith, w .1))) (c .if1 .came)
 
-wide : (c : tie.After-decimal-width) → (c .decimal-width .result ≡ decimalWidth (c .before .before .before .before .args .s .digits / 10 ^ (c .before .before .before .before .args .s .scale))) × (c .decimal-width .result ≤ 20)
+wide : (c : tie.After-decimal-width)
+    → (c .decimal-width .result ≡ decimalWidth
+    (c .before .before .before .before .args .s .digits / 10 ^ (c .before .before .before .before .args .s .scale))) ×
+    (c .decimal-width .result ≤ 20)
 wide c =
-    let e : c .decimal-width .result ≡ decimalWidth (c .before .before .before .before .args .s .digits / 10 ^ (c .before .before .before .before .args .s .scale)) = rw (c .before .power .ensures) at (c .decimal-width .ensures) in
+    let c4 = c .before .before .before .before in
+    let e : c .decimal-width .result ≡ decimalWidth (c4 .args .s .digits / 10 ^ (c4 .args .s .scale)) = rw (c .before .power .ensures) at
+    (c .decimal-width .ensures) in
     (e, rw e (width-few _))
 
 add-result : tie.Need-add-result
@@ -37,8 +42,11 @@ add-result c = omega (arith, signs (c .before .before .before .before .before .b
 
 returns : tie.Need-returns
 returns c =
-    let s = c .before .before .before .before .before .before .before .args .s in
-    omega (arith, signs (c .before .before .before .before .before .before) .0, wide (c .before .before .before) .0, long-whole (s .negative) (s .digits) (s .scale) (c .before .if2 .taken))
+    let c3 = c .before .before .before in
+    let c6 = c3 .before .before .before in
+    let c7 = c6 .before in
+    let s = c7 .args .s in
+    omega (arith, signs (c6) .0, wide (c3) .0, long-whole (s .negative) (s .digits) (s .scale) (c .before .if2 .taken))
 
 add-result-2 : tie.Need-add-result-2
 add-result-2 c = omega (arith, signs (c .before .before .before .before .before .before), wide (c .before .before .before))
@@ -54,8 +62,11 @@ add-result-4 c = omega (arith, signs (c .before .before .before .before .before 
 
 returns-2 : tie.Need-returns-2
 returns-2 c =
-    let s = c .before .before .before .before .before .before .before .before .args .s in
-    omega (arith, signs (c .before .before .before .before .before .before .before) .0, wide (c .before .before .before .before) .0, long-parts (s .negative) (s .digits) (s .scale) (c .before .before .if2 .left))
+    let c4 = c .before .before .before .before in
+    let c7 = c4 .before .before .before in
+    let c8 = c7 .before in
+    let s = c8 .args .s in
+    omega (arith, signs (c7) .0, wide (c4) .0, long-parts (s .negative) (s .digits) (s .scale) (c .before .before .if2 .left))
 
 pub spelling-width-spec : {M : Type 1} → statement M
 spelling-width-spec =

@@ -17,7 +17,7 @@ enum-known-d : tie.Need-enum-known-d
 enum-known-d c = search needs
 
 put-size-requires : tie.Need-put-size-requires
-put-size-requires c κs = let w = decimal-limits 6 10 _ (sym (c .before .before .before .before .before .read-decimal .ensures) ∙ c .before .before .before .d .given .1) in (omega arith, w .small, w .near)
+put-size-requires c κs = let w = decimal-limits 6 10 _ (sym (c .before .before .before .before .before .read-decimal .ensures .is) ∙ c .before .before .before .d .given .1) in (omega arith, w .small, w .near)
 
 enum-told : tie.Need-enum-told
 enum-told c = search needs
@@ -32,13 +32,13 @@ same-length-2 : tie.Need-same-length-2
 same-length-2 c = search needs
 
 returns-2 : tie.Need-returns-2
-returns-2 c = sized-is _ _ _ _ _ _ _ (sym (c .before .before .before .before .before .before .before .before .before .before .read-decimal .ensures) ∙ c .before .before .before .before .before .before .before .before .d .given .1) (omega arith) (c .before .before .before .before .put-size .ensures)
+returns-2 c = sized-is _ _ _ _ _ _ _ (sym (c .before .before .before .before .before .before .before .before .before .before .read-decimal .ensures .is) ∙ c .before .before .before .before .before .before .before .before .d .given .1) (omega arith) (c .before .before .before .before .put-size .ensures)
 
 returns-3 : tie.Need-returns-3
-returns-3 c = sized-none _ _ _ (sym (c .before .before .read-decimal .ensures) ∙ c .enum-told .given .1) (omega arith)
+returns-3 c = sized-none _ _ _ (sym (c .before .before .read-decimal .ensures .is) ∙ c .enum-told .given .1) (omega arith)
 
 returns-4 : tie.Need-returns-4
-returns-4 c = sized-beyond _ _ _ (sym (c .before .before .read-decimal .ensures) ∙ c .enum-told2 .given .1) (omega arith)
+returns-4 c = sized-beyond _ _ _ (sym (c .before .before .read-decimal .ensures .is) ∙ c .enum-told2 .given .1) (omega arith)
 
 pub probe-size-spec : {M : Type 1} → statement M
 probe-size-spec =

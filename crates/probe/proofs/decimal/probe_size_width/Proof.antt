@@ -18,12 +18,12 @@ slice-aggregate-spell c = search needs
 
 size-of-requires : tie.Need-size-of-requires
 size-of-requires c κs =
-    let w = decimal-limits 6 10 _ (sym (c .before .before .before .before .read-decimal .ensures) ∙ c .before .before .d .given .1) in
+    let w = decimal-limits 6 10 _ (sym (c .before .before .before .before .read-decimal .ensures .is) ∙ c .before .before .d .given .1) in
     (w .small, w .near)
 
 spell-requires : tie.Need-spell-requires
 spell-requires c κs =
-    let w = decimal-limits 6 10 _ (sym (c .before .before .before .before .before .read-decimal .ensures) ∙ c .before .before .before .d .given .1) in
+    let w = decimal-limits 6 10 _ (sym (c .before .before .before .before .before .read-decimal .ensures .is) ∙ c .before .before .before .d .given .1) in
     (omega arith, size-scale _ _ (c .size-of .ensures) (w .near))
 
 enum-known-n : tie.Need-enum-known-n
@@ -39,16 +39,16 @@ enum-told-3 : tie.Need-enum-told-3
 enum-told-3 c = search needs
 
 returns : tie.Need-returns
-returns c = width-at _ _ _ _ (c .before .before .before .before .spell .last .0) (c .before .before .before .before .spell .result) _ (sym (c .before .before .before .before .before .before .before .before .before .before .read-decimal .ensures) ∙ c .before .before .before .before .before .before .before .before .d .given .1) (c .before .before .before .before .before .size-of .ensures) (c .before .n .given .1) refl (c .before .before .before .before .spell .ensures)
+returns c = width-at _ _ _ _ (c .before .before .before .before .spell .last .0) (c .before .before .before .before .spell .result) _ (sym (c .before .before .before .before .before .before .before .before .before .before .read-decimal .ensures .is) ∙ c .before .before .before .before .before .before .before .before .d .given .1) (c .before .before .before .before .before .size-of .ensures) (c .before .n .given .1) refl (c .before .before .before .before .spell .ensures)
 
 returns-2 : tie.Need-returns-2
-returns-2 c = width-full _ _ _ _ (c .before .before .before .spell .last .0) (c .before .before .before .spell .result) (sym (c .before .before .before .before .before .before .before .before .before .read-decimal .ensures) ∙ c .before .before .before .before .before .before .before .d .given .1) (c .before .before .before .before .size-of .ensures) (c .enum-told .given .1) refl (c .before .before .before .spell .ensures)
+returns-2 c = width-full _ _ _ _ (c .before .before .before .spell .last .0) (c .before .before .before .spell .result) (sym (c .before .before .before .before .before .before .before .before .before .read-decimal .ensures .is) ∙ c .before .before .before .before .before .before .before .d .given .1) (c .before .before .before .before .size-of .ensures) (c .enum-told .given .1) refl (c .before .before .before .spell .ensures)
 
 returns-3 : tie.Need-returns-3
-returns-3 c = rw (sym (c .before .before .read-decimal .ensures) ∙ c .enum-told2 .given .1)
+returns-3 c = rw (sym (c .before .before .read-decimal .ensures .is) ∙ c .enum-told2 .given .1)
 
 returns-4 : tie.Need-returns-4
-returns-4 c = rw (sym (c .before .before .read-decimal .ensures) ∙ c .enum-told3 .given .1)
+returns-4 c = rw (sym (c .before .before .read-decimal .ensures .is) ∙ c .enum-told3 .given .1)
 
 pub probe-size-width-spec : {M : Type 1} → statement M
 probe-size-width-spec =

@@ -23,7 +23,7 @@ to-f64-requires : tie.Need-to-f64-requires
 to-f64-requires c κs =
     let c4 = c .before .before .before .before in
     let c6 = c4 .before .before in
-    let w = decimal-limits 15 22 _ (sym (c6 .read-decimal .ensures) ∙ c4 .d .given .1) in (w .small, w .near)
+    let w = decimal-limits 15 22 _ (sym (c6 .read-decimal .ensures .is) ∙ c4 .d .given .1) in (w .small, w .near)
 
 truncate-requires : tie.Need-truncate-requires
 truncate-requires c κs = search needs
@@ -44,7 +44,7 @@ returns c =
     let c11 = c9 .before .before in
     let c13 = c11 .before .before in
     let f : lt (float 0) (c13 .args .ctx .«frame_rate») ≡ true = c5 .if2 .taken in
-    rw (sym (c11 .read-decimal .ensures), c9 .d .given .1, c7 .if1 .taken, f)
+    rw (sym (c11 .read-decimal .ensures .is), c9 .d .given .1, c7 .if1 .taken, f)
     (c .time-of .ensures ∙ ap timeOf (c .before .add .ensures .is
     ∙ ap checked (λ i. toZ-ofZ w64 _ (c13 .fits .us) i +ℤ
     (toZ-ofZ w64 _ (record { sfits = c .before .before .truncate .ok })
@@ -64,21 +64,21 @@ returns-2 c =
     let c6 = c4 .before .before in
     let c8 = c6 .before .before in
     let f : lt (float 0) (c8 .args .ctx .«frame_rate») ≡ false = c .if2 .left in
-    rw (sym (c6 .read-decimal .ensures), c4 .d .given .1, c .before .before .if1 .taken, f) (ap Time.Is (toZ-ofZ w64 _ (c8 .fits .us)))
+    rw (sym (c6 .read-decimal .ensures .is), c4 .d .given .1, c .before .before .if1 .taken, f) (ap Time.Is (toZ-ofZ w64 _ (c8 .fits .us)))
 
 returns-3 : tie.Need-returns-3
 returns-3 c =
     let c4 = c .before .before .before .before in
     let c6 = c4 .before .before in
-    rw (sym (c4 .read-decimal .ensures), c .before .before .d .given .1, c .if1 .left) (ap Time.Is (toZ-ofZ w64 _ (c6 .fits .us)))
+    rw (sym (c4 .read-decimal .ensures .is), c .before .before .d .given .1, c .if1 .left) (ap Time.Is (toZ-ofZ w64 _ (c6 .fits .us)))
 
 returns-4 : tie.Need-returns-4
 returns-4 c =
     let c4 = c .before .before .before .before in
-    rw (sym (c .before .before .read-decimal .ensures), c .enum-told .given .1) (ap Time.Is (toZ-ofZ w64 _ (c4 .fits .us)))
+    rw (sym (c .before .before .read-decimal .ensures .is), c .enum-told .given .1) (ap Time.Is (toZ-ofZ w64 _ (c4 .fits .us)))
 
 returns-5 : tie.Need-returns-5
-returns-5 c = rw (sym (c .before .before .read-decimal .ensures), c .enum-told2 .given .1)
+returns-5 c = rw (sym (c .before .before .read-decimal .ensures .is), c .enum-told2 .given .1)
 
 pub framed-spec : {M : Type 1} → statement M
 framed-spec =

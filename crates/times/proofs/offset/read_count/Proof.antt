@@ -21,7 +21,7 @@ read-decimal-requires : tie.Need-read-decimal-requires
 read-decimal-requires c κs = search needs
 
 returns : tie.Need-returns
-returns c = c .read-decimal .ensures ∙ ap timeDecimal (c .before .before .trim .ensures .is)
+returns c = c .read-decimal .ensures .is ∙ ap timeDecimal (c .before .before .trim .ensures .is)
 
 pub read-count-spec : {M : Type 1} → statement M
 read-count-spec =

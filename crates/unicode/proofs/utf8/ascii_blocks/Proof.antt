@@ -2,7 +2,7 @@
 use Prim.Native.Nat.{_+_, _-_}
 use native.Mathlib.Omega.{arith}
 use lib.ListN.{length}
-use Rattle.unicode.specs.Utf8.{AsciiTo}
+use Rattle.unicode.specs.Steps.{AsciiTo}
 use Rattle.unicode.proofs.Utf8Laws.{bounded-up, bounded-join}
 use Rattle.unicode.proofs.utf8.ascii_blocks.Statement.{statement}
 use Rattle.unicode.proofs.utf8.ascii_blocks.Tie as tie
@@ -33,11 +33,13 @@ loop-less c = omega arith
 
 loop-again : tie.Need-loop-again Inv-loop μ-loop
 loop-again c =
-    let a = c .before .before .before in
+    let c3 = c .before .before .before in
+    let a = c3 in
     record {
       after = omega arith;
       within-text = omega arith;
-      ascii = bounded-join (a .before .before .args .src .now) _ (a .loop .i + 16) (a .loop .i) 0x7F (a .loop .inv .ascii) (bounded-up (a .before .before .args .src .now) (a .loop .i) _ _ _ (c .if1 .left) (c .before .largest .ensures));
+      ascii = bounded-join (a .before .before .args .src .now) _ (a .loop .i + 16) (a .loop .i) 0x7F (a .loop .inv .ascii) (bounded-up
+          (a .before .before .args .src .now) (a .loop .i) _ _ _ (c .if1 .left) (c .before .largest .ensures));
     }
 
 returns-2 : tie.Need-returns-2 Inv-loop μ-loop

@@ -3,7 +3,7 @@ use Prim.Native.Nat.{_+_, _-_}
 use mathlib.Core.Path.{refl}
 use native.Mathlib.Omega.{arith}
 use lib.ListN.{length}
-use Rattle.unicode.specs.Utf8.{AsciiTo}
+use Rattle.unicode.specs.Steps.{AsciiTo}
 use Rattle.unicode.proofs.Utf8Laws.{bounded-more}
 use Rattle.unicode.proofs.utf8.ascii_end.Statement.{statement}
 use Rattle.unicode.proofs.utf8.ascii_end.Tie as tie

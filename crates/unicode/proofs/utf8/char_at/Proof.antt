@@ -33,7 +33,9 @@ add-result c = search needs
 
 returns-2 : tie.Need-returns-2
 unfolding charAt
-returns-2 c = rw (ne-eqb (c .before .before .before .before .args .width) 1 (c .before .before .if1 .left), eq-eqb (c .before .before .before .before .args .width) 2 (c .if2 .taken))
+returns-2 c =
+    let c4 = c .before .before .before .before in
+    rw (ne-eqb (c4 .args .width) 1 (c .before .before .if1 .left), eq-eqb (c4 .args .width) 2 (c .if2 .taken))
 
 add-c : tie.Need-add-c
 add-c c = search needs
@@ -58,7 +60,15 @@ add-result-3 c = search needs
 
 returns-3 : tie.Need-returns-3
 unfolding charAt
-returns-3 c = rw (ne-eqb (c .before .before .before .before .before .before .args .width) 1 (c .before .before .before .before .if1 .left), ne-eqb (c .before .before .before .before .before .before .args .width) 2 (c .before .before .if2 .left), eq-eqb (c .before .before .before .before .before .before .args .width) 3 (c .if3 .taken))
+returns-3 c =
+    let c4 = c .before .before .before .before in
+    let c6 = c4 .before .before in
+    rw (
+      ne-eqb (c6 .args .width) 1 (c4 .if1 .left),
+      ne-eqb (c6 .args .width) 2 (c .before .before .if2 .left),
+      eq-eqb (c6 .args .width) 3
+          (c .if3 .taken),
+    )
 
 add-d : tie.Need-add-d
 add-d c = search needs
@@ -89,7 +99,11 @@ add-result-6 c = search needs
 
 returns-4 : tie.Need-returns-4
 unfolding charAt
-returns-4 c = rw (ne-eqb (c .before .before .before .before .before .before .before .args .width) 1 (c .before .before .before .before .before .if1 .left), ne-eqb (c .before .before .before .before .before .before .before .args .width) 2 (c .before .before .before .if2 .left), ne-eqb (c .before .before .before .before .before .before .before .args .width) 3 (c .before .if3 .left))
+returns-4 c =
+    let c3 = c .before .before .before in
+    let c5 = c3 .before .before in
+    let c7 = c5 .before .before in
+    rw (ne-eqb (c7 .args .width) 1 (c5 .if1 .left), ne-eqb (c7 .args .width) 2 (c3 .if2 .left), ne-eqb (c7 .args .width) 3 (c .before .if3 .left))
 
 pub char-at-spec : {M : Type 1} → statement M
 char-at-spec =

@@ -3,13 +3,15 @@ use Prim.Native.Nat.{_+_, _-_, _≤_}
 use mathlib.Core.Path.{_≡_, sym, _∙_}
 use mathlib.Core.Bool.{cond}
 use native.Mathlib.Omega.{arith}
-use Rattle.unicode.specs.Utf8.{fitsAt, tails, followed}
+use Rattle.unicode.specs.Utf8.{fitsAt}
+use Rattle.unicode.specs.Steps.{tails, followed}
 use Rattle.unicode.proofs.Utf8Laws.{below-range, above-range, followed-short, followed-not, followed-in, rest-not, rest-in, rest-out}
 use Rattle.unicode.proofs.utf8.follow.Statement.{statement}
 use Rattle.unicode.proofs.utf8.follow.Tie as tie
 
 abbrev Inv-loop : tie.InvT-loop
-Inv-loop src pos width low high i₀ i = (2 ≤ i) × (i ≤ width) × (followed src pos width low high ≡ cond (fitsAt src (pos + i) (tails (width - i))) width 0)
+Inv-loop src pos width low high i₀ i = (2 ≤ i) × (i ≤ width) ×
+    (followed src pos width low high ≡ cond (fitsAt src (pos + i) (tails (width - i))) width 0)
 
 abbrev μ-loop : tie.MeasureT-loop
 μ-loop src pos width low high i₀ i = width - i
@@ -39,7 +41,9 @@ returns-3 : tie.Need-returns-3 Inv-loop μ-loop
 returns-3 c = sym (followed-not (c .before .before .before .before .before .args .src .now) _ _ _ _ (above-range _ _ _ (c .if3 .taken)))
 
 loop-holds : tie.Need-loop-holds Inv-loop μ-loop
-loop-holds c = (omega arith, omega arith, followed-in (c .before .before .before .before .before .args .src .now) _ _ _ _ (omega arith) (c .before .before .if2 .left) (c .if3 .left))
+loop-holds c =
+    let c5 = c .before .before .before .before .before in
+    (omega arith, omega arith, followed-in (c5 .args .src .now) _ _ _ _ (omega arith) (c .before .before .if2 .left) (c .if3 .left))
 
 add-if4 : tie.Need-add-if4 Inv-loop μ-loop
 add-if4 c = omega arith
@@ -48,7 +52,10 @@ shared-slice-read-if4 : tie.Need-shared-slice-read-if4 Inv-loop μ-loop
 shared-slice-read-if4 c = omega arith
 
 returns-4 : tie.Need-returns-4 Inv-loop μ-loop
-returns-4 c = sym (c .before .before .before .loop .inv .2 ∙ rest-not (c .before .before .before .before .before .before .before .before .before .args .src .now) _ _ _ (c .before .before .loop-test .taken) (below-range _ _ _ (c .if4 .taken)))
+returns-4 c =
+    let c3 = c .before .before .before in
+    let c9 = c3 .before .before .before .before .before .before in
+    sym (c3 .loop .inv .2 ∙ rest-not (c9 .args .src .now) _ _ _ (c .before .before .loop-test .taken) (below-range _ _ _ (c .if4 .taken)))
 
 add-if5 : tie.Need-add-if5 Inv-loop μ-loop
 add-if5 c = omega arith
@@ -57,7 +64,11 @@ shared-slice-read-if5 : tie.Need-shared-slice-read-if5 Inv-loop μ-loop
 shared-slice-read-if5 c = omega arith
 
 returns-5 : tie.Need-returns-5 Inv-loop μ-loop
-returns-5 c = sym (c .before .before .before .before .before .loop .inv .2 ∙ rest-not (c .before .before .before .before .before .before .before .before .before .before .before .args .src .now) _ _ _ (c .before .before .before .before .loop-test .taken) (above-range _ _ _ (c .if5 .taken)))
+returns-5 c =
+    let c4 = c .before .before .before .before in
+    let c5 = c4 .before in
+    let c11 = c5 .before .before .before .before .before .before in
+    sym (c5 .loop .inv .2 ∙ rest-not (c11 .args .src .now) _ _ _ (c4 .loop-test .taken) (above-range _ _ _ (c .if5 .taken)))
 
 add-i : tie.Need-add-i Inv-loop μ-loop
 add-i c = omega arith
@@ -66,10 +77,20 @@ loop-less : tie.Need-loop-less Inv-loop μ-loop
 loop-less c = omega arith
 
 loop-again : tie.Need-loop-again Inv-loop μ-loop
-loop-again c = (omega arith, omega arith, c .before .before .before .before .before .loop .inv .2 ∙ rest-in (c .before .before .before .before .before .before .before .before .before .before .before .args .src .now) _ _ _ (c .before .before .before .before .loop-test .taken) (omega arith) (c .before .before .if4 .left) (c .if5 .left))
+loop-again c =
+    let c4 = c .before .before .before .before in
+    let c5 = c4 .before in
+    let c11 = c5 .before .before .before .before .before .before in (
+      omega arith,
+      omega arith,
+      c5 .loop .inv .2 ∙ rest-in (c11 .args .src .now) _ _ _ (c4 .loop-test .taken) (omega arith)
+          (c .before .before .if4 .left) (c .if5 .left),
+    )
 
 returns-6 : tie.Need-returns-6 Inv-loop μ-loop
-returns-6 c = sym (c .before .loop .inv .2 ∙ rest-out (c .before .before .before .before .before .before .before .args .src .now) _ _ _ (c .loop-test .left))
+returns-6 c =
+    let c7 = c .before .before .before .before .before .before .before in
+    sym (c .before .loop .inv .2 ∙ rest-out (c7 .args .src .now) _ _ _ (c .loop-test .left))
 
 pub follow-spec : {M : Type 1} → statement M
 follow-spec =

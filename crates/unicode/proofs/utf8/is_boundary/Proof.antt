@@ -21,15 +21,21 @@ shared-slice-read-if3 c = search needs
 
 returns-3 : tie.Need-returns-3
 returns-3 c =
-    sym (boundary-inside (c .before .before .before .before .before .args .text .now) (c .before .before .before .before .before .args .at) (c .before .before .before .before .if1 .left) (omega arith) (omega arith) (omega arith))
+    let c4 = c .before .before .before .before in
+    let c5 = c4 .before in
+    sym (boundary-inside (c5 .args .text .now) (c5 .args .at) (c4 .if1 .left) (omega arith) (omega arith) (omega arith))
 
 returns-4 : tie.Need-returns-4
 returns-4 c =
-    sym (boundary-below (c .before .before .before .before .args .text .now) (c .before .before .before .before .args .at) (c .before .before .before .if1 .left) (omega arith) (omega arith))
+    let c3 = c .before .before .before in
+    let c4 = c3 .before in
+    sym (boundary-below (c4 .args .text .now) (c4 .args .at) (c3 .if1 .left) (omega arith) (omega arith))
 
 returns-5 : tie.Need-returns-5
 returns-5 c =
-    sym (boundary-above (c .before .before .before .before .before .args .text .now) (c .before .before .before .before .before .args .at) (c .before .before .before .before .if1 .left) (omega arith) (omega arith))
+    let c4 = c .before .before .before .before in
+    let c5 = c4 .before in
+    sym (boundary-above (c5 .args .text .now) (c5 .args .at) (c4 .if1 .left) (omega arith) (omega arith))
 
 pub is-boundary-spec : {M : Type 1} → statement M
 is-boundary-spec =

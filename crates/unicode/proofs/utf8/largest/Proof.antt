@@ -4,7 +4,7 @@ use mathlib.Core.List.{List}
 use mathlib.Core.Logic.{⊎-elim}
 use native.Mathlib.Omega.{arith}
 use lib.ListN.{getD}
-use Rattle.unicode.specs.Utf8.{Bounded}
+use Rattle.unicode.specs.Steps.{Bounded}
 use Rattle.unicode.proofs.Utf8Laws.{bounded-up, bounded-more}
 use Rattle.unicode.proofs.utf8.largest.Statement.{statement}
 use Rattle.unicode.proofs.utf8.largest.Tie as tie
@@ -32,12 +32,14 @@ loop-less c = omega arith
 
 loop-again : tie.Need-loop-again Inv-loop μ-loop
 loop-again c =
-    let s : List ℕ = c .before .before .before .before .args .src .now in
-    let p : ℕ = c .before .before .before .before .args .pos in
-    let i : ℕ = c .before .before .before .loop .i in
-    let old : c .before .before .before .loop .most ≤ c .if1 .most = ⊎-elim (λ w. omega arith) (λ w. omega arith) (c .if1 .came) in
+    let c3 = c .before .before .before in
+    let c4 = c3 .before in
+    let s : List ℕ = c4 .args .src .now in
+    let p : ℕ = c4 .args .pos in
+    let i : ℕ = c3 .loop .i in
+    let old : c3 .loop .most ≤ c .if1 .most = ⊎-elim (λ w. omega arith) (λ w. omega arith) (c .if1 .came) in
     let new : getD s (p + i) 0 ≤ c .if1 .most = ⊎-elim (λ w. omega arith) (λ w. omega arith) (c .if1 .came) in
-    (omega arith, bounded-more s p (p + i) (p + (i + 1)) (c .if1 .most) (omega arith) (bounded-up s p (p + i) _ _ old (c .before .before .before .loop .inv .1)) new)
+    (omega arith, bounded-more s p (p + i) (p + (i + 1)) (c .if1 .most) (omega arith) (bounded-up s p (p + i) _ _ old (c3 .loop .inv .1)) new)
 
 returns : tie.Need-returns Inv-loop μ-loop
 returns c k l h = c .before .loop .inv .1 k l (omega arith)

@@ -21,7 +21,16 @@ same-length : tie.Need-same-length
 same-length c = search needs
 
 returns : tie.Need-returns
-returns c = rw (encode-1 (c .before .args .c) (c .if1 .taken)) (record { next = refl; within = omega (arith, ap length (encode-1 (c .before .args .c) (c .if1 .taken))); laid = refl })
+returns c =
+    rw (encode-1 (c .before .args .c) (c .if1 .taken)) (record {
+      next = refl;
+      within = omega (
+        arith,
+        ap length (encode-1 (c .before .args .c)
+            (c .if1 .taken)),
+      );
+      laid = refl;
+    })
 
 add-out : tie.Need-add-out
 add-out c = search needs
@@ -51,7 +60,16 @@ same-length-2 : tie.Need-same-length-2
 same-length-2 c = search needs
 
 returns-2 : tie.Need-returns-2
-returns-2 c = rw (encode-2 (c .before .before .args .c) (c .before .if1 .left) (c .if2 .taken)) (record { next = refl; within = omega (arith, ap length (encode-2 (c .before .before .args .c) (c .before .if1 .left) (c .if2 .taken))); laid = simp add-one })
+returns-2 c =
+    rw (encode-2 (c .before .before .args .c) (c .before .if1 .left) (c .if2 .taken)) (record {
+      next = refl;
+      within = omega (
+        arith,
+        ap length
+            (encode-2 (c .before .before .args .c) (c .before .if1 .left) (c .if2 .taken)),
+      );
+      laid = simp add-one;
+    })
 
 add-out-4 : tie.Need-add-out-4
 add-out-4 c = search needs
@@ -72,7 +90,9 @@ add-out-6 : tie.Need-add-out-6
 add-out-6 c = search needs
 
 slice-write-out-5 : tie.Need-slice-write-out-5
-slice-write-out-5 c = simp length-set (omega (arith, ap length (encode-3 (c .before .before .before .args .c) (c .before .if2 .left) (c .if3 .taken))))
+slice-write-out-5 c =
+    let c3 = c .before .before .before in
+    simp length-set (omega (arith, ap length (encode-3 (c3 .args .c) (c .before .if2 .left) (c .if3 .taken))))
 
 add-out-7 : tie.Need-add-out-7
 add-out-7 c = search needs
@@ -84,7 +104,9 @@ add-out-8 : tie.Need-add-out-8
 add-out-8 c = search needs
 
 slice-write-out-6 : tie.Need-slice-write-out-6
-slice-write-out-6 c = simp length-set (omega (arith, ap length (encode-3 (c .before .before .before .args .c) (c .before .if2 .left) (c .if3 .taken))))
+slice-write-out-6 c =
+    let c3 = c .before .before .before in
+    simp length-set (omega (arith, ap length (encode-3 (c3 .args .c) (c .before .if2 .left) (c .if3 .taken))))
 
 add-result-3 : tie.Need-add-result-3
 add-result-3 c = search needs
@@ -93,7 +115,17 @@ same-length-3 : tie.Need-same-length-3
 same-length-3 c = search needs
 
 returns-3 : tie.Need-returns-3
-returns-3 c = rw (encode-3 (c .before .before .before .args .c) (c .before .if2 .left) (c .if3 .taken)) (record { next = refl; within = omega (arith, ap length (encode-3 (c .before .before .before .args .c) (c .before .if2 .left) (c .if3 .taken))); laid = simp (add-one, add-two) })
+returns-3 c =
+    let c3 = c .before .before .before in
+    rw (encode-3 (c3 .args .c) (c .before .if2 .left) (c .if3 .taken)) (record {
+      next = refl;
+      within = omega (
+        arith,
+        ap length (encode-3
+            (c3 .args .c) (c .before .if2 .left) (c .if3 .taken)),
+      );
+      laid = simp (add-one, add-two);
+    })
 
 add-out-9 : tie.Need-add-out-9
 add-out-9 c = search needs
@@ -147,7 +179,17 @@ same-length-4 : tie.Need-same-length-4
 same-length-4 c = search needs
 
 returns-4 : tie.Need-returns-4
-returns-4 c = rw (encode-4 (c .before .before .before .args .c) (c .if3 .left)) (record { next = refl; within = omega (arith, ap length (encode-4 (c .before .before .before .args .c) (c .if3 .left))); laid = simp (add-one, add-two, add-three) })
+returns-4 c =
+    let c3 = c .before .before .before in
+    rw (encode-4 (c3 .args .c) (c .if3 .left)) (record {
+      next = refl;
+      within = omega (
+        arith,
+        ap length (encode-4 (c3 .args .c)
+            (c .if3 .left)),
+      );
+      laid = simp (add-one, add-two, add-three);
+    })
 
 pub put-char-spec : {M : Type 1} → statement M
 put-char-spec =

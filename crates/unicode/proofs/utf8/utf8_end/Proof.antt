@@ -25,9 +25,11 @@ sequence-at-requires c κs = c .loop-test .taken
 
 returns : tie.Need-returns Inv-loop μ-loop
 returns c =
-    let a = c .before .before .before in
+    let c3 = c .before .before .before in
+    let a = c3 in
     let s = a .before .before .before .args .src .now in
-    longest-valid s _ (sym (a .loop .inv .1 ∙ end-here s _ (c .before .before .loop-test .taken) (sym (c .before .sequence-at .ensures .is) ∙ c .if1 .taken)))
+    longest-valid s _ (sym (a .loop .inv .1 ∙ end-here s _ (c .before .before .loop-test .taken) (sym (c .before .sequence-at .ensures .is)
+    ∙ c .if1 .taken)))
 
 add-ascii-end : tie.Need-add-ascii-end Inv-loop μ-loop
 add-ascii-end c = omega arith

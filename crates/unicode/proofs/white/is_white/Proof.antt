@@ -3,32 +3,29 @@ use Prim.Native.Nat.{_-_, _≤_}
 use mathlib.Core.Path.{_≡_, refl, sym, _∙_}
 use borrow.Author.Needs.{needs}
 use lib.ListN.{drop}
-use Rattle.unicode.specs.White.{whiteSpace, isIn, isWhite}
-use Rattle.unicode.proofs.WhiteLaws.{isIn-here, isIn-on, isIn-none, isWhite-visible}
+use Rattle.unicode.specs.WhiteSpace.{whiteSpace, isAmong, isWhite}
+use Rattle.unicode.proofs.WhiteLaws.{isAmong-here, isAmong-on, isAmong-none}
 use Rattle.unicode.proofs.white.is_white.Statement.{statement}
 use Rattle.unicode.proofs.white.is_white.Tie as tie
 
 abbrev Inv-loop : tie.InvT-loop
-Inv-loop c i₀ i = (i ≤ 25) × (isIn c whiteSpace ≡ isIn c (drop i whiteSpace))
+Inv-loop c i₀ i = (i ≤ 25) × (isAmong c whiteSpace ≡ isAmong c (drop i whiteSpace))
 
 abbrev μ-loop : tie.MeasureT-loop
 μ-loop c i₀ i = 25 - i
 
-returns : tie.Need-returns Inv-loop μ-loop
-returns c = sym (isWhite-visible (c .before .before .args .c) (search needs) (search needs))
-
 loop-holds : tie.Need-loop-holds Inv-loop μ-loop
 loop-holds c = (search needs, refl)
 
-mul-if3 : tie.Need-mul-if3 Inv-loop μ-loop
-mul-if3 c = search needs
+mul-if1 : tie.Need-mul-if1 Inv-loop μ-loop
+mul-if1 c = search needs
 
-array-read-if3 : tie.Need-array-read-if3 Inv-loop μ-loop
-array-read-if3 c = search needs
+array-read-if1 : tie.Need-array-read-if1 Inv-loop μ-loop
+array-read-if1 c = search needs
 
-returns-2 : tie.Need-returns-2 Inv-loop μ-loop
+returns : tie.Need-returns Inv-loop μ-loop
 unfolding isWhite
-returns-2 c = sym (c .before .before .loop .inv .1 ∙ isIn-here _ whiteSpace _ (c .before .loop-test .taken) (c .if3 .taken))
+returns c = sym (c .before .before .loop .inv .1 ∙ isAmong-here _ whiteSpace _ (c .before .loop-test .taken) (c .if1 .taken))
 
 add-i : tie.Need-add-i Inv-loop μ-loop
 add-i c = search needs
@@ -37,11 +34,11 @@ loop-less : tie.Need-loop-less Inv-loop μ-loop
 loop-less c = search needs
 
 loop-again : tie.Need-loop-again Inv-loop μ-loop
-loop-again c = (search needs, c .before .before .loop .inv .1 ∙ isIn-on _ whiteSpace _ (c .before .loop-test .taken) (c .if3 .left))
+loop-again c = (search needs, c .before .before .loop .inv .1 ∙ isAmong-on _ whiteSpace _ (c .before .loop-test .taken) (c .if1 .left))
 
-returns-3 : tie.Need-returns-3 Inv-loop μ-loop
+returns-2 : tie.Need-returns-2 Inv-loop μ-loop
 unfolding isWhite
-returns-3 c = sym (c .before .loop .inv .1 ∙ isIn-none _ whiteSpace _ (c .loop-test .left))
+returns-2 c = sym (c .before .loop .inv .1 ∙ isAmong-none _ whiteSpace _ (c .loop-test .left))
 
 pub is-white-spec : {M : Type 1} → statement M
 is-white-spec =
@@ -49,12 +46,11 @@ is-white-spec =
     (tie.spec
     Inv-loop
     μ-loop
-    returns
     loop-holds
-    mul-if3
-    array-read-if3
-    returns-2
+    mul-if1
+    array-read-if1
+    returns
     add-i
     loop-less
     loop-again
-    returns-3)
+    returns-2)

@@ -4,7 +4,7 @@ use mathlib.Core.Path.{_≡_, sym, _∙_}
 use native.Mathlib.Omega.{arith}
 use lib.ListN.{length}
 use borrow.Author.Needs.{needs}
-use Rattle.unicode.specs.White.{whiteEnd}
+use Rattle.unicode.specs.Steps.{whiteEnd}
 use Rattle.unicode.proofs.WhiteLaws.{whiteEnd-here, whiteEnd-on, whiteEnd-out}
 use Rattle.unicode.proofs.white.white_end.Statement.{statement}
 use Rattle.unicode.proofs.white.white_end.Tie as tie
@@ -22,7 +22,17 @@ white-at-requires : tie.Need-white-at-requires Inv-loop μ-loop
 white-at-requires c κs = search needs
 
 returns : tie.Need-returns Inv-loop μ-loop
-returns c = record { is = sym (c .before .before .before .loop .inv .2 ∙ whiteEnd-here (c .before .before .before .before .before .args .src .now) _ (c .before .before .loop-test .taken) (sym (c .before .white-at .ensures .is) ∙ c .if1 .taken)); after = search needs; within-text = search needs; stops = λ h. sym (c .before .white-at .ensures .is) ∙ c .if1 .taken }
+returns c =
+    let c3 = c .before .before .before in
+    let c5 = c3 .before .before in
+    record {
+      is = sym (c3 .loop .inv .2 ∙ whiteEnd-here (c5 .args .src .now) _ (c .before .before .loop-test .taken) (sym
+          (c .before .white-at .ensures .is) ∙ c .if1 .taken));
+      after = search needs;
+      within-text = search needs;
+      stops =
+          λ h. sym (c .before .white-at .ensures .is) ∙ c .if1 .taken;
+    }
 
 add-i : tie.Need-add-i Inv-loop μ-loop
 add-i c = search needs
@@ -32,11 +42,25 @@ loop-less c = search needs
 
 loop-again : tie.Need-loop-again Inv-loop μ-loop
 loop-again c =
-    let e = c .before .white-at .ensures .is in
-    (search needs, search needs, c .before .before .before .loop .inv .2 ∙ (whiteEnd-on (c .before .before .before .before .before .args .src .now) _ (c .before .before .loop-test .taken) (λ z. c .if1 .left (e ∙ z)) ∙ rw e))
+    let c3 = c .before .before .before in
+    let c5 = c3 .before .before in
+    let e = c .before .white-at .ensures .is in (
+      search needs,
+      search needs,
+      c3 .loop .inv .2 ∙ (whiteEnd-on (c5 .args .src .now) _ (c .before .before .loop-test .taken) (λ z. c .if1 .left (e
+          ∙ z)) ∙ rw e),
+    )
 
 returns-2 : tie.Need-returns-2 Inv-loop μ-loop
-returns-2 c = record { is = sym (c .before .loop .inv .2 ∙ whiteEnd-out (c .before .before .before .args .src .now) _ (c .loop-test .left)); after = search needs; within-text = search needs; stops = λ h. absurd (omega arith) }
+returns-2 c =
+    let c3 = c .before .before .before in
+    record {
+      is = sym (c .before .loop .inv .2 ∙ whiteEnd-out (c3 .args .src .now) _
+          (c .loop-test .left));
+      after = search needs;
+      within-text = search needs;
+      stops = λ h. absurd (omega arith);
+    }
 
 pub white-end-spec : {M : Type 1} → statement M
 white-end-spec =

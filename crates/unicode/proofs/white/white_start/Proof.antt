@@ -4,7 +4,7 @@ use mathlib.Core.Path.{_≡_, refl, sym, _∙_}
 use native.Mathlib.Omega.{arith}
 use lib.ListN.{length}
 use borrow.Author.Needs.{needs}
-use Rattle.unicode.specs.White.{whiteBack, whiteStart}
+use Rattle.unicode.specs.Steps.{whiteBack, whiteStart}
 use Rattle.unicode.proofs.WhiteLaws.{whiteBack-here, whiteBack-on, whiteBack-zero}
 use Rattle.unicode.proofs.white.white_start.Statement.{statement}
 use Rattle.unicode.proofs.white.white_start.Tie as tie
@@ -23,7 +23,10 @@ white-before-requires : tie.Need-white-before-requires Inv-loop μ-loop
 white-before-requires c κs = search needs
 
 returns : tie.Need-returns Inv-loop μ-loop
-returns c = (sym (c .before .before .before .loop .inv .1 ∙ whiteBack-here (c .before .before .before .before .before .args .src .now) _ (sym (c .before .white-before .ensures .is) ∙ c .if1 .taken)), search needs)
+returns c =
+    let c3 = c .before .before .before in
+    let c5 = c3 .before .before in
+    (sym (c3 .loop .inv .1 ∙ whiteBack-here (c5 .args .src .now) _ (sym (c .before .white-before .ensures .is) ∙ c .if1 .taken)), search needs)
 
 sub-i : tie.Need-sub-i Inv-loop μ-loop
 sub-i c = search needs
@@ -33,8 +36,10 @@ loop-less c = search needs
 
 loop-again : tie.Need-loop-again Inv-loop μ-loop
 loop-again c =
+    let c3 = c .before .before .before in
+    let c5 = c3 .before .before in
     let e = c .before .white-before .ensures .is in
-    (search needs, c .before .before .before .loop .inv .1 ∙ (whiteBack-on (c .before .before .before .before .before .args .src .now) _ (λ z. c .if1 .left (e ∙ z)) ∙ rw e))
+    (search needs, c3 .loop .inv .1 ∙ (whiteBack-on (c5 .args .src .now) _ (λ z. c .if1 .left (e ∙ z)) ∙ rw e))
 
 returns-2 : tie.Need-returns-2 Inv-loop μ-loop
 returns-2 c =

@@ -4,7 +4,7 @@ use mathlib.Core.Path.{_≡_, sym, _∙_}
 use native.Mathlib.Omega.{arith}
 use lib.ListN.{length}
 use borrow.Author.Needs.{needs}
-use Rattle.unicode.specs.White.{wordEnd}
+use Rattle.unicode.specs.Steps.{wordEnd}
 use Rattle.unicode.proofs.WhiteLaws.{wordEnd-here, wordEnd-on, wordEnd-out}
 use Rattle.unicode.proofs.white.word_end.Statement.{statement}
 use Rattle.unicode.proofs.white.word_end.Tie as tie
@@ -22,7 +22,14 @@ white-at-requires : tie.Need-white-at-requires Inv-loop μ-loop
 white-at-requires c κs = search needs
 
 returns : tie.Need-returns Inv-loop μ-loop
-returns c = (sym (c .before .before .before .loop .inv .2 ∙ wordEnd-here (c .before .before .before .before .before .args .src .now) (c .before .before .before .loop .i) (c .before .before .loop-test .taken) (λ z. omega arith)), search needs, search needs)
+returns c =
+    let c3 = c .before .before .before in
+    let c5 = c3 .before .before in (
+      sym (c3 .loop .inv .2 ∙ wordEnd-here (c5 .args .src .now) (c3 .loop .i) (c .before .before .loop-test .taken)
+          (λ z. omega arith)),
+      search needs,
+      search needs,
+    )
 
 add-i : tie.Need-add-i Inv-loop μ-loop
 add-i c = search needs
@@ -31,10 +38,15 @@ loop-less : tie.Need-loop-less Inv-loop μ-loop
 loop-less c = search needs
 
 loop-again : tie.Need-loop-again Inv-loop μ-loop
-loop-again c = (search needs, search needs, c .before .before .before .loop .inv .2 ∙ wordEnd-on (c .before .before .before .before .before .args .src .now) (c .before .before .before .loop .i) (c .before .before .loop-test .taken) (omega arith))
+loop-again c =
+    let c3 = c .before .before .before in
+    let c5 = c3 .before .before in
+    (search needs, search needs, c3 .loop .inv .2 ∙ wordEnd-on (c5 .args .src .now) (c3 .loop .i) (c .before .before .loop-test .taken) (omega arith))
 
 returns-2 : tie.Need-returns-2 Inv-loop μ-loop
-returns-2 c = (sym (c .before .loop .inv .2 ∙ wordEnd-out (c .before .before .before .args .src .now) _ (c .loop-test .left)), search needs, search needs)
+returns-2 c =
+    let c3 = c .before .before .before in
+    (sym (c .before .loop .inv .2 ∙ wordEnd-out (c3 .args .src .now) _ (c .loop-test .left)), search needs, search needs)
 
 pub word-end-spec : {M : Type 1} → statement M
 word-end-spec =

@@ -1,9 +1,12 @@
--- What the program's reading of digits ensures. Definitions alone.
+-- What inner functions of the program ask and ensure: this file need not be believed.
 use Prim.Native.Nat.{ℕ, _+_, _-_, _≤_, _<_, _^_}
 use mathlib.Core.Path.{_≡_}
 use mathlib.Core.Bool.{Bool, true, false}
 use mathlib.Core.List.{List, [], _∷_, _++_}
 use lib.ListN.{length, getD, drop}
+use lib.IntN.{pos}
+use lib.Dec.{T}
+use lib.Ieee.{Float, fin, le, lt}
 use Rattle.scan.specs.Bytes.{digitByte}
 use Rattle.scan.specs.Part.{part}
 use Rattle.numerals.specs.Numerals.{valueFrom}
@@ -48,3 +51,8 @@ pub record PointAt (s : List ℕ) (p r : ℕ) : Type 0 where
   pub after : p ≤ r
   pub point : p < r → (r ≡ p + 1) × (getD s p 0 ≡ 46) × (p < length s)
   pub none : r ≡ p → p < length s → getD s p 0 ≡ 46 → ⊥
+
+-- at least 1 and below 2 ^ 63
+pub record Middling (x : Float) : Type 0 where
+  pub large : T (le (fin false 1 (pos 0)) x)
+  pub small : T (lt x (fin false 1 (pos 63)))
