@@ -15,7 +15,7 @@ sub-scale c = search needs
 
 returns : tie.Need-returns
 returns c =
-    let a = c .before .before .args in sym (limited-far (a .negative) _ (length (a .text .now) - a .from) (a .digits) (a .decimals) (c .if1 .taken))
+    let a = c .before .before .args in sym (limited-far (a .negative) _ (length (a .text .now) - a .from) (a .digits) (a .decimals) (omega arith))
 
 count-digits-requires : tie.Need-count-digits-requires
 count-digits-requires c κs =
