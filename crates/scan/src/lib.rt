@@ -23,6 +23,8 @@ pub use table::Written;
 pub use table::append;
 pub use table::clear;
 pub use table::clear_bytes;
+pub use table::clear_f32;
+pub use table::clear_i64;
 pub use table::copy;
 pub use table::get;
 pub use table::put;
