@@ -1,4 +1,5 @@
 pub mod Loop
+pub mod Text
 pub mod Bytes
 pub mod Marks
 pub mod Names

@@ -11,7 +11,6 @@ pub use bytes::Class;
 pub use bytes::find_byte;
 pub use bytes::is_of;
 pub use bytes::over;
-pub use bytes::until;
 pub use marks::find_past;
 pub use marks::find_seq;
 pub use marks::starts_with;

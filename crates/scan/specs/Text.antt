@@ -1,0 +1,11 @@
+-- Byte strings spelled as text. Definitions alone.
+use Prim.Native.Nat.{ℕ}
+use Prim.Native.Char.{code}
+use Prim.Native.String.{String}
+use Prim.Native.String as S
+use mathlib.Core.List.{List, [], _∷_}
+
+-- the bytes of a text in ASCII
+abbrev pub ascii : String → List ℕ
+ascii S.[] = []
+ascii (S._∷_ c s) = code c ∷ ascii s
