@@ -1,7 +1,6 @@
 -- Laws of any list of names, from tests that are computed. Assumes nothing.
 --     run-over                              a run of bytes over a name
 --     every-at, every-as, distinct-at, apart-at       a test over a list of names, at each entry
---     number-hit, number-miss, number-none  a search that has come to the entry i
 --     number-back, number-there, number-nowhere   what a number says of the name, and the name of the number
 --     in-there, in-back                     the same of bytes that are looked for
 use Prim.Native.Nat.{ℕ, zero, suc, _+_, _≤_, _<_}
@@ -10,9 +9,7 @@ use mathlib.Core.Bool.{Bool, true, false, not, _&&_, _||_, false≢true, true≢
 use mathlib.Core.List.{List, [], _∷_, _++_}
 use native.Mathlib.Omega.{arith}
 use native.Mathlib.Nat.{add-zero, add-suc, suc-add, zero-add}
-use native.Mathlib.Numerals.{add-one}
-use lib.ListN.{length, getD, drop, drop-of-length-le}
-use lib.Seq.{drop-cons}
+use lib.ListN.{length, getD}
 use borrow.Author.Tests.{not-true}
 use Rattle.scan.specs.Bytes.{runLength}
 use Rattle.scan.specs.Names.{sameBytes, sameFolded}
@@ -82,20 +79,6 @@ distinct-at (n ∷ ns) e (suc i) (suc j) h l ne =
 pub apart-at : (ms ns : List (List ℕ)) → apart ms ns ≡ true → (i j : ℕ) → i < length ms → j < length ns → sameFolded (getD ms i []) (getD ns j []) ≡ false
 apart-at ms ns e i j h l =
     not-true _ (every-at (differs (getD ms i [])) ns [] (every-at (λ (m : List ℕ). every (differs m) ns) ms [] e i h) j l)
-
--- ---- the search for a number
-module _ (ns : List (List ℕ)) (i : ℕ) (s : List ℕ) where
-  pub number-hit : i < length ns → sameFolded s (getD ns i []) ≡ true → numberFrom i s (drop i ns) ≡ Number.At i
-  unfolding numberFrom
-  number-hit h e = rw (drop-cons ns i [] h, e)
-
-  pub number-miss : i < length ns → sameFolded s (getD ns i []) ≡ false → numberFrom i s (drop i ns) ≡ numberFrom (i + 1) s (drop (i + 1) ns)
-  unfolding numberFrom
-  number-miss h e = rw (add-one i, drop-cons ns i [] h, e)
-
-  pub number-none : length ns ≤ i → numberFrom i s (drop i ns) ≡ Number.Nothing
-  unfolding numberFrom
-  number-none h = rw (drop-of-length-le ns h)
 
 -- ---- what an answer says
 -- the number r counts from k on, and the name s is the one with that number

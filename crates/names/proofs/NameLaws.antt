@@ -15,6 +15,7 @@ use lib.ListN.{length, take, drop}
 use borrow.Author.Tests.{leb-true, ne-eqb}
 use Rattle.scan.specs.Bytes.{blank, attrNameByte, other, runLength}
 use Rattle.scan.specs.Names.{lower, sameBytes, sameFolded}
+use Rattle.scan.specs.Text.{ascii}
 use Rattle.scan.proofs.Naming.{same-eq, same-refl, sameFolded-refl, sameFolded-sym}
 use Rattle.names.specs.declared.tables.Listed.{Listed}
 use Rattle.names.specs.declared.tables.Listed.the-variants.{StyleExtra, InlineExtra, RegionAttr, InlineModelled, Imsc1Extension}
@@ -155,9 +156,8 @@ module _ (list : Listed) (s : List ℕ) where
       nothing-at (sym e ∙ ap (numberOf list) (w .2) ∙ name-number list (w .0) (w .1)))
 
 -- ---- two lists against each other
--- `tts:backgroundColor`
 abbrev pub backgroundColor : List ℕ
-backgroundColor = 116 ∷ 116 ∷ 115 ∷ 58 ∷ 98 ∷ 97 ∷ 99 ∷ 107 ∷ 103 ∷ 114 ∷ 111 ∷ 117 ∷ 110 ∷ 100 ∷ 67 ∷ 111 ∷ 108 ∷ 111 ∷ 114 ∷ []
+backgroundColor = ascii "tts:backgroundColor"
 
 pub inline-is-style : inlineExtra ≡ take 1 styleExtra ++ backgroundColor ∷ drop 1 styleExtra
 inline-is-style = refl
