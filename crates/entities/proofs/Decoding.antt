@@ -24,8 +24,10 @@ use Rattle.unicode.specs.Utf8.{encode}
 use Rattle.unicode.proofs.Utf8Laws.{encode-short}
 use Rattle.entities.specs.declared.reference.Entity.{Entity}
 use Rattle.entities.specs.declared.reference.Entity.the-variants.{Char, Unknown}
-use Rattle.entities.specs.Reference.{nameLength, reference, RefersTo}
-use Rattle.entities.specs.Decode.{decodedFrom, decoded, Stepped}
+use Rattle.entities.specs.Reference.{nameLength, reference}
+use Rattle.entities.specs.Steps.{RefersTo, Stepped}
+use Rattle.entities.specs.Decode.{decodedFrom, decoded}
+use Rattle.entities.proofs.Enough.{taken, referenceRun, reference-run, length-run}
 use Rattle.entities.proofs.References.{Referred, reference-inv}
 
 -- ---- one step
@@ -50,6 +52,12 @@ decoded-to s {c} e = rw e (ap (λ (l : List ℕ). encode c ++ l) (decodedFrom-sk
 pub decoded-literal : (s : List ℕ) → reference s ≡ Unknown → decoded (38 ∷ s) ≡ 38 ∷ decoded s
 unfolding decoded
 decoded-literal s e = rw e
+
+-- a reference by the bytes that the program takes
+pub decoded-taken : (s : List ℕ) {c : ℕ} → referenceRun s ≡ Char c → decoded (38 ∷ s) ≡ encode c ++ decoded (drop (taken s + 1) s)
+decoded-taken s {c} e =
+    let r : reference s ≡ Char c = reference-run s ∙ e in
+    decoded-to s r ∙ rw (length-run s (reference-inv s r .ends))
 
 -- ---- no `&`
 pub decoded-append : (a b : List ℕ) → ((k : ℕ) → k < length a → getD a k 0 ≡ 38 → ⊥) → decoded (a ++ b) ≡ a ++ decoded b

@@ -19,7 +19,8 @@ use Rattle.scan.specs.declared.table.Written.{Written}
 use Rattle.scan.specs.declared.table.Written.the-variants.{Full}
 use Rattle.scan.proofs.Runs.{run-all}
 use Rattle.scan.proofs.Stores.{appended-on, in-part, wrote-on, wrote-full}
-use Rattle.entities.specs.Escape.{plain, escapeByte, escaped, escapedRun}
+use Rattle.entities.specs.Escape.{plain, escapeByte, escaped}
+use Rattle.entities.specs.Steps.{escapedRun}
 
 -- ---- a byte
 module _ (q : Bool) (b : ℕ) (a : b ≡ 38 → ⊥) (l : b ≡ 60 → ⊥) (g : b ≡ 62 → ⊥) where

@@ -4,7 +4,8 @@ ghost use mathlib.Core.Bool.{Bool, true, false};
 ghost use Prim.Native.Nat.{_≤_, _<_};
 ghost use lib.ListN.{length, getD};
 ghost use Rattle.scan.specs.Posts.{Ends, Wrote, WroteInPart};
-ghost use Rattle.entities.specs.Escape.{plain, escapeByte, escaped, escapedRun};
+ghost use Rattle.entities.specs.Escape.{plain, escapeByte, escaped};
+ghost use Rattle.entities.specs.Steps.{escapedRun};
 use scan::Written;
 
 // Does the byte stand for itself? A double quote mark does, but in an attribute's value.

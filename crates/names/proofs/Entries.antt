@@ -1,6 +1,6 @@
 -- Laws of any list of names, from tests that are computed. Assumes nothing.
 --     run-over                              a run of bytes over a name
---     every-at, every-as, distinct-at, apart-at       a test over a list of names, at each entry
+--     distinct-at, apart-at                 a test over a list of names, at each entry
 --     number-back, number-there, number-nowhere   what a number says of the name, and the name of the number
 --     in-there, in-back                     the same of bytes that are looked for
 use Prim.Native.Nat.{ℕ, zero, suc, _+_, _≤_, _<_}
@@ -13,13 +13,10 @@ use lib.ListN.{length, getD}
 use borrow.Author.Tests.{not-true}
 use Rattle.scan.specs.Bytes.{runLength}
 use Rattle.scan.specs.Names.{sameBytes, sameFolded}
+pub use Rattle.scan.proofs.Every.{both, every, every-at, every-as}
 use Rattle.scan.proofs.Naming.{same-eq, same-refl, folded-map, map-folded, sameFolded-sym}
 use Rattle.names.specs.declared.lookup.Number.{Number}
 use Rattle.names.specs.Numbers.{numberFrom, isIn}
-
-pub both : {a b : Bool} → (a && b) ≡ true → (a ≡ true) × (b ≡ true)
-both {a = true} e = (refl, e)
-both {a = false} e = absurd (false≢true e)
 
 -- what is not true is false
 pub not-so : (t : Bool) → (t ≡ true → ⊥) → t ≡ false
@@ -30,20 +27,6 @@ pub folded-trans : (a b c : List ℕ) → sameFolded a b ≡ true → sameFolded
 folded-trans a b c e f = map-folded a c (folded-map a b e ∙ folded-map b c f)
 
 -- ---- tests over a list of names
-module _ {A : Type 0} (t : A → Bool) where
-  abbrev pub every : List A → Bool
-  every [] = true
-  every (n ∷ ns) = t n && every ns
-
-  pub every-at : (ns : List A) (d : A) → every ns ≡ true → (i : ℕ) → i < length ns → t (getD ns i d) ≡ true
-  every-at [] d e i h = absurd (omega arith)
-  every-at (n ∷ ns) d e zero h = both {b = every ns} e .0
-  every-at (n ∷ ns) d e (suc i) h = every-at ns d (both {a = t n} e .1) i (omega arith)
-
-pub every-as : {A : Type 0} (t u : A → Bool) → ((x : A) → t x ≡ true → u x ≡ true) → (l : List A) → every t l ≡ true → every u l ≡ true
-every-as t u g [] e = refl
-every-as t u g (x ∷ l) e = rw (g x (both {b = every t l} e .0)) (every-as t u g l (both {a = t x} e .1))
-
 -- a run of bytes that pass a test goes on behind bytes that all pass it
 pub run-over : (t : ℕ → Bool) (n rest : List ℕ) → every t n ≡ true → runLength t (n ++ rest) ≡ length n + runLength t rest
 unfolding runLength

@@ -117,6 +117,6 @@ module _ (list : Listed) (s : List ℕ) where
 
     pub slot-miss : 35 ≤ x → sameFolded s (nameOf list (x - 35)) ≡ false → numberOf list s ≡ Number.Nothing
     slot-miss h e = nothing (λ i f.
-      let z : x - 35 ≡ i = omega (arith, slot-entry i f, w) in
-      let g : sameFolded s (nameOf list (x - 35)) ≡ true = rw z (number-name list s i f .1) in
-      true≢false (sym g ∙ e))
+        let z : x - 35 ≡ i = omega (arith, slot-entry i f, w) in
+        let g : sameFolded s (nameOf list (x - 35)) ≡ true = rw z (number-name list s i f .1) in
+        true≢false (sym g ∙ e))

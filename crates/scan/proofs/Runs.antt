@@ -1,5 +1,6 @@
 -- Laws of classes of bytes and of runs of them. Assumes nothing.
 --     blank-not, name-yes, attr-name-yes, digit-yes, digit-below, digit-above, either   what the tests of a byte show of its class
+--     length-out, length-stop, length-on, length-within   how many bytes a text begins with
 --     run-here, run-on, run-out      where a run ends, by the byte at its place
 --     upward                         from the places past a length down
 --     run-ind                        what each byte that passes keeps holds where the run ends
@@ -11,7 +12,7 @@
 use Prim.Native.Nat.{ℕ, zero, suc, _+_, _-_, _≤_, _<_}
 use mathlib.Core.Path.{_≡_, refl, sym, subst⁻¹, _∙_}
 use mathlib.Core.Bool.{Bool, true, false, cond}
-use mathlib.Core.List.{List}
+use mathlib.Core.List.{List, [], _∷_}
 use mathlib.Core.Logic.{_⊎_, inl, inr}
 use native.Mathlib.Omega.{arith}
 use native.Mathlib.Numerals.{add-one}
@@ -56,6 +57,29 @@ either b k h l = by (eqb b k) refl
     by : (t : Bool) → eqb b k ≡ t → (b ≡ k) ⊎ (b ≡ k + 1)
     by true e = inl (eqb-true b k e)
     by false e = let n : b ≡ k → ⊥ = eqb-false b k e in inr (omega arith)
+
+-- ---- the bytes that a text begins with
+module _ (t : ℕ → Bool) (s : List ℕ) (i : ℕ) where
+  pub length-out : length s ≤ i → runLength t (drop i s) ≡ 0
+  unfolding runLength
+  length-out h = rw (drop-of-length-le s h)
+
+  pub length-stop : i < length s → t (getD s i 0) ≡ false → runLength t (drop i s) ≡ 0
+  unfolding runLength
+  length-stop h e = rw (drop-cons s i 0 h, e)
+
+  pub length-on : i < length s → t (getD s i 0) ≡ true → runLength t (drop i s) ≡ suc (runLength t (drop (i + 1) s))
+  unfolding runLength
+  length-on h e = rw (add-one i, drop-cons s i 0 h, e)
+
+pub length-within : (t : ℕ → Bool) (s : List ℕ) → runLength t s ≤ length s
+unfolding runLength
+length-within t [] = omega arith
+length-within t (b ∷ s) = by (t b) (length-within t s)
+  where
+    by : (x : Bool) → runLength t s ≤ length s → cond x (suc (runLength t s)) 0 ≤ suc (length s)
+    by true l = omega arith
+    by false l = omega arith
 
 -- ---- one turn of a run
 module _ (t : ℕ → Bool) (s : List ℕ) (i : ℕ) where
