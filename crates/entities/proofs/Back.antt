@@ -43,7 +43,9 @@ back q (b ∷ s) = rw (back-byte q b (escaped q s) (way q b), back q s)
 -- ---- what escaped text holds
 module _ (p : ℕ → Bool) where
   -- it passes where the bytes of the four references do, and each that stands for itself
-  every-byte : (q : Bool) (b : ℕ) → every p (escaped true (38 ∷ [])) ≡ true → every p (escaped true (60 ∷ [])) ≡ true → every p (escaped true (62 ∷ [])) ≡ true → every p (escaped true (34 ∷ [])) ≡ true → (plain q b ≡ true → p b ≡ true) → Way q b → every p (escapeByte q b) ≡ true
+  every-byte : (q : Bool) (b : ℕ) → every p (escaped true (38 ∷ [])) ≡ true → every p (escaped true (60 ∷ [])) ≡ true
+      → every p (escaped true (62 ∷ [])) ≡ true → every p (escaped true (34 ∷ [])) ≡ true → (plain q b ≡ true → p b ≡ true) → Way q b
+      → every p (escapeByte q b) ≡ true
   unfolding escaped escapeByte
   every-byte q b c d e f g (amp w) = rw w c
   every-byte q b c d e f g (lt w) = rw w d
@@ -131,12 +133,14 @@ module _ (q : Bool) where
 
   ascii-escaped : (b : ℕ) → b < 128 → every (λ a. ltb a 128) (escaped q (b ∷ [])) ≡ true
   unfolding escaped escapeByte
-  ascii-escaped b h = every-append (λ a. ltb a 128) (escapeByte q b) [] (every-byte (λ a. ltb a 128) q b refl refl refl refl (λ e. lt-ltb b 128 h) (way q b)) refl
+  ascii-escaped b h =
+      every-append (λ a. ltb a 128) (escapeByte q b) [] (every-byte (λ a. ltb a 128) q b refl refl refl refl (λ e. lt-ltb b 128 h) (way q b)) refl
 
   -- a sequence that starts below 128 is one byte
   low-formed : (w : List ℕ) → WellFormed w → getD w 0 0 < 128 → Utf8 (escaped q w)
   low-formed [] f h = absurd (omega (arith, f .some-byte))
-  low-formed (b ∷ []) f h = utf8-ascii (escaped q (b ∷ [])) (λ i l. ltb-true _ 128 (every-at (λ a. ltb a 128) (escaped q (b ∷ [])) 0 (ascii-escaped b h) i l))
+  low-formed (b ∷ []) f h =
+      utf8-ascii (escaped q (b ∷ [])) (λ i l. ltb-true _ 128 (every-at (λ a. ltb a 128) (escaped q (b ∷ [])) 0 (ascii-escaped b h) i l))
   low-formed (b ∷ c ∷ w) f h = absurd (omega (arith, f .whole, sequence-ascii (b ∷ c ∷ w) 0 (omega arith) (omega arith) .is))
 
   formed : (w : List ℕ) → WellFormed w → Utf8 (escaped q w)

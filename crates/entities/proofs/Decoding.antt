@@ -76,7 +76,8 @@ short k [] = omega arith
 short (suc k) (b ∷ s) = omega (arith, short k s)
 short zero (b ∷ s) = omega (arith, by (eqb b 38) refl (λ k. short k s))
   where
-    referring : (x : Entity) → reference s ≡ x → ((k : ℕ) → length (decodedFrom k s) ≤ length s - k) → eqb b 38 ≡ true → length (decodedFrom zero (b ∷ s)) ≤ suc (length s)
+    referring : (x : Entity) → reference s ≡ x → ((k : ℕ) → length (decodedFrom k s) ≤ length s - k) → eqb b 38 ≡ true
+        → length (decodedFrom zero (b ∷ s)) ≤ suc (length s)
     referring (Char c) e rec t =
         let w : Referred s c = reference-inv s e in
         rw (t, e, length-append) (omega (arith, encode-short c, rec (nameLength s + 1), w .long, w .within))
@@ -162,7 +163,8 @@ decoding-start s at t =
 
 module _ (s : List ℕ) (at : ℕ) (t : List ℕ) (from to : ℕ) (t′ : List ℕ) (d : Decoding s at t from to t′) where
   -- one more piece, of the text up to q
-  on : (piece t″ : List ℕ) (q n : ℕ) → n ≡ to + length piece → t″ ≡ sets t′ to piece → decoded (drop from s) ≡ piece ++ decoded (drop q s) → from + length piece ≤ q → q ≤ length s → Decoding s at t q n t″
+  on : (piece t″ : List ℕ) (q n : ℕ) → n ≡ to + length piece → t″ ≡ sets t′ to piece → decoded (drop from s) ≡ piece ++ decoded (drop q s)
+      → from + length piece ≤ q → q ≤ length s → Decoding s at t q n t″
   on piece t″ q n next laid is shorter within =
       let l : length (d .done ++ piece) ≡ length (d .done) + length piece = length-append (d .done) piece in
       record {

@@ -27,7 +27,8 @@ use Rattle.numerals.specs.Numerals.{numeralOf}
 use Rattle.numerals.proofs.Numerals.{numeral-ascii}
 use Rattle.entities.specs.declared.reference.Entity.{Entity}
 use Rattle.entities.specs.declared.reference.Entity.the-variants.{Char, Unknown}
-use Rattle.entities.specs.Reference.{Named, _means_, entityTable, named, character, characterReference, lookup, startsWhite, endsName, nameLength, reference}
+use Rattle.entities.specs.Reference.{Named, _means_, entityTable, named, character, characterReference, lookup, startsWhite, endsName}
+use Rattle.entities.specs.Reference.{nameLength, reference}
 use Rattle.entities.specs.Steps.{asciiWhite, takenByte}
 
 -- ---- ASCII
@@ -76,7 +77,16 @@ taken-high b e = by (ltb b 128) refl
     by true w = ltb-true b 128 w
     by false w =
         let l : 128 ≤ b = ltb-false b 128 w in
-        let n : takenByte b ≡ true = rw (ne-eqb b 59 (λ z. omega arith), ne-eqb b 38 (λ z. omega arith), ne-eqb b 60 (λ z. omega arith), ne-eqb b 32 (λ z. omega arith), lt-leb b 13 (omega arith), and-false) in
+        let n : takenByte b ≡ true =
+        rw (
+          ne-eqb b 59 (λ z. omega arith),
+          ne-eqb b 38 (λ z. omega arith),
+          ne-eqb b 60 (λ z. omega arith),
+          ne-eqb b 32 (λ z. omega arith),
+          lt-leb b 13
+              (omega arith),
+          and-false,
+        ) in
         absurd (true≢false (sym n ∙ e))
 
 -- ---- where a name ends
@@ -120,7 +130,8 @@ no-char e = let z : _≡_ {A = ℕ} 0 1 = cc in omega arith
 table-ascii : every (λ (n : Named). elim n [ w means c ↦ every isAscii w ]) entityTable ≡ true
 table-ascii = refl
 
-named-ascii : (s : List ℕ) (ns : List Named) {c : ℕ} → every (λ (n : Named). elim n [ w means c ↦ every isAscii w ]) ns ≡ true → named s ns ≡ Char c → every isAscii s ≡ true
+named-ascii : (s : List ℕ) (ns : List Named) {c : ℕ} → every (λ (n : Named). elim n [ w means c ↦ every isAscii w ]) ns ≡ true → named s ns ≡ Char c
+    → every isAscii s ≡ true
 unfolding named
 named-ascii s [] t e = absurd (no-char e)
 named-ascii s (n means d ∷ ns) {c} t e = by (sameBytes s n) refl (named-ascii s ns (both {a = every isAscii n} t .1))
@@ -182,7 +193,8 @@ reference-run s = by (name-end s)
     by (inl e) = rw e
     by (inr e) =
         rw (ne-eqb (getD s (nameLength s) 0) 59 (λ z. omega (arith, e .1)))
-        (sym (unknown-either (eqb (getD s (taken s) 0) 59 && leb (taken s) 16) (lookup (take (taken s) s)) (past-ascii s (nameLength s) (taken s) (e .0) (length-within takenByte s) (e .1))))
+        (sym (unknown-either (eqb (getD s (taken s) 0) 59 && leb (taken s) 16) (lookup (take (taken s) s))
+        (past-ascii s (nameLength s) (taken s) (e .0) (length-within takenByte s) (e .1))))
 
 -- a name that ends at a `;` is the bytes taken
 pub length-run : (s : List ℕ) → getD s (nameLength s) 0 ≡ 59 → nameLength s ≡ taken s

@@ -59,7 +59,8 @@ way q b = by (eqb b 38) (eqb b 60) (eqb b 62) (q && eqb b 34) refl refl refl ref
     by true u v w e f g h = amp (eqb-true b 38 e)
     by false true v w e f g h = lt (eqb-true b 60 f)
     by false false true w e f g h = gt (eqb-true b 62 g)
-    by false false false true e f g h = let p : (q ≡ true) × (eqb b 34 ≡ true) = and-eq-true-iff q (eqb b 34) .0 h in quot (eqb-true b 34 (p .1)) (p .0)
+    by false false false true e f g h =
+        let p : (q ≡ true) × (eqb b 34 ≡ true) = and-eq-true-iff q (eqb b 34) .0 h in quot (eqb-true b 34 (p .1)) (p .0)
     by false false false false e f g h =
         let a : b ≡ 38 → ⊥ = eqb-false b 38 e in
         let l : b ≡ 60 → ⊥ = eqb-false b 60 f in
@@ -98,12 +99,14 @@ module _ (q : Bool) (s : List ℕ) (i e : ℕ) (r : Ends (plain q) s i e) where
   escaped-part = escaped-plain q (part i e s) (λ k h. by k (simp (length-take, length-drop) at h))
     where
       by : (k : ℕ) → k < min (e - i) (length s - i) → plain q (getD (part i e s) k 0) ≡ true
-      by k h = rw (getD-take (e - i) (drop i s) k 0 (omega arith), getD-drop i s k 0) (run-all (plain q) s i (i + k) (omega arith) (omega (arith, r .is)))
+      by k h =
+          rw (getD-take (e - i) (drop i s) k 0 (omega arith), getD-drop i s k 0) (run-all (plain q) s i (i + k) (omega arith) (omega (arith, r .is)))
 
   pub escaped-run : escaped q (drop i s) ≡ part i e s ++ escaped q (drop e s)
   escaped-run =
       let l : i + (e - i) ≡ e = omega (arith, r .after) in
-      ap (escaped q) (sym (take-append-drop (e - i) (drop i s))) ∙ (escaped-append q (part i e s) (drop (e - i) (drop i s)) ∙ rw (escaped-part, drop-drop, l))
+      ap (escaped q) (sym (take-append-drop (e - i) (drop i s)))
+      ∙ (escaped-append q (part i e s) (drop (e - i) (drop i s)) ∙ rw (escaped-part, drop-drop, l))
 
   pub escaped-run-on : e < length s → escaped q (drop i s) ≡ escapedRun q s i e ++ escaped q (drop (e + 1) s)
   escaped-run-on h = rw (escaped-run, drop-cons s e 0 h, escaped-cons, add-one, append-assoc)
@@ -130,7 +133,8 @@ starts q s a t h =
       kept = refl;
     }
 
-module _ (q : Bool) (s : List ℕ) (a : ℕ) (t : List ℕ) (i n : ℕ) (t′ : List ℕ) (e : ℕ) (t″ : List ℕ) (g : Escaping q s a t i n t′) (r : Ends (plain q) s i e) where
+module _ (q : Bool) (s : List ℕ) (a : ℕ) (t : List ℕ) (i n : ℕ) (t′ : List ℕ) (e : ℕ) (t″ : List ℕ) (g : Escaping q s a t i n t′)
+    (r : Ends (plain q) s i e) where
   -- a run and the byte after it
   all : e < length s → g .done ++ escapedRun q s i e ++ escaped q (drop (e + 1) s) ≡ escaped q s
   all h = rw (append-assoc, ← (escaped-run-on q s i e r h)) (g .is)

@@ -59,13 +59,15 @@ unfolding characterReference
 number-none [] h = refl
 number-none (b ∷ s) h = absurd (omega arith)
 
-pub number-hex : (s : List ℕ) → 0 < length s → (getD s 0 0 ≡ 88) ⊎ (getD s 0 0 ≡ 120) → characterReference s ≡ character (numeralOf (drop 1 s) 16 0xFFFF_FFFF false)
+pub number-hex : (s : List ℕ) → 0 < length s → (getD s 0 0 ≡ 88) ⊎ (getD s 0 0 ≡ 120)
+    → characterReference s ≡ character (numeralOf (drop 1 s) 16 0xFFFF_FFFF false)
 unfolding characterReference
 number-hex [] h e = absurd (omega arith)
 number-hex (b ∷ s) h (inl e) = rw e
 number-hex (b ∷ s) h (inr e) = rw e
 
-pub number-decimal : (s : List ℕ) → 0 < length s → ((getD s 0 0 ≡ 88) ⊎ (getD s 0 0 ≡ 120) → ⊥) → characterReference s ≡ character (numeralOf s 10 0xFFFF_FFFF false)
+pub number-decimal : (s : List ℕ) → 0 < length s → ((getD s 0 0 ≡ 88) ⊎ (getD s 0 0 ≡ 120) → ⊥)
+    → characterReference s ≡ character (numeralOf s 10 0xFFFF_FFFF false)
 unfolding characterReference
 number-decimal [] h n = absurd (omega arith)
 number-decimal (b ∷ s) h n = rw (ne-eqb b 120 (λ e. n (inr e)), ne-eqb b 88 (λ e. n (inl e)))
@@ -143,7 +145,8 @@ entity n c l h = record { long = leb-true 2 (length n) l; char = h }
 
 table-known : Each Known entityTable
 unfolding scalar
-table-known = (entity _ _ refl refl, (entity _ _ refl refl, (entity _ _ refl refl, (entity _ _ refl refl, (entity _ _ refl refl, (entity _ _ refl refl, tt))))))
+table-known =
+    (entity _ _ refl refl, (entity _ _ refl refl, (entity _ _ refl refl, (entity _ _ refl refl, (entity _ _ refl refl, (entity _ _ refl refl, tt))))))
 
 pub lookup-known : (s : List ℕ) {c : ℕ} → lookup s ≡ Char c → Known s c
 unfolding lookup
@@ -168,7 +171,15 @@ module _ (b : ℕ) where
   pub taken-white : 9 ≤ b → b ≤ 13 → takenByte b ≡ false
   unfolding takenByte
   taken-white l h =
-      rw (ne-eqb b 59 (λ e. omega arith), ne-eqb b 38 (λ e. omega arith), ne-eqb b 60 (λ e. omega arith), ne-eqb b 32 (λ e. omega arith), le-leb 9 b l, le-leb b 13 h)
+      rw (
+        ne-eqb b 59 (λ e. omega arith),
+        ne-eqb b 38 (λ e. omega arith),
+        ne-eqb b 60 (λ e. omega arith),
+        ne-eqb b 32
+            (λ e. omega arith),
+        le-leb 9 b l,
+        le-leb b 13 h,
+      )
 
 -- ---- what follows an `&`
 module _ (s : List ℕ) where

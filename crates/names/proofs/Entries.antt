@@ -50,7 +50,8 @@ apart ms ns = every (λ (m : List ℕ). every (differs m) ns) ms
 folded-sym-false : (a b : List ℕ) → sameFolded a b ≡ false → sameFolded b a ≡ false
 folded-sym-false a b e = not-so (sameFolded b a) (λ f. true≢false (sym (sameFolded-sym b a f) ∙ e))
 
-pub distinct-at : (ns : List (List ℕ)) → distinct ns ≡ true → (i j : ℕ) → i < length ns → j < length ns → (i ≡ j → ⊥) → sameFolded (getD ns i []) (getD ns j []) ≡ false
+pub distinct-at : (ns : List (List ℕ)) → distinct ns ≡ true → (i j : ℕ) → i < length ns → j < length ns → (i ≡ j → ⊥)
+    → sameFolded (getD ns i []) (getD ns j []) ≡ false
 distinct-at [] e i j h l ne = absurd (omega arith)
 distinct-at (n ∷ ns) e zero zero h l ne = absurd (ne refl)
 distinct-at (n ∷ ns) e zero (suc j) h l ne = not-true _ (every-at (differs n) ns [] (both {b = distinct ns} e .0) j (omega arith))
@@ -59,7 +60,8 @@ distinct-at (n ∷ ns) e (suc i) zero h l ne =
 distinct-at (n ∷ ns) e (suc i) (suc j) h l ne =
     distinct-at ns (both {a = every (differs n) ns} e .1) i j (omega arith) (omega arith) (λ q. ne (ap suc q))
 
-pub apart-at : (ms ns : List (List ℕ)) → apart ms ns ≡ true → (i j : ℕ) → i < length ms → j < length ns → sameFolded (getD ms i []) (getD ns j []) ≡ false
+pub apart-at : (ms ns : List (List ℕ)) → apart ms ns ≡ true → (i j : ℕ) → i < length ms → j < length ns
+    → sameFolded (getD ms i []) (getD ns j []) ≡ false
 apart-at ms ns e i j h l =
     not-true _ (every-at (differs (getD ms i [])) ns [] (every-at (λ (m : List ℕ). every (differs m) ns) ms [] e i h) j l)
 
@@ -86,10 +88,17 @@ number-back k s (n ∷ ns) r e = by (sameFolded s n) refl (number-back (suc k) s
     by true f g = record { offset = 0; counts = sym (at-eq (rw f at e)) ∙ sym (add-zero k); within = omega arith; same = f }
     by false f g =
         let w = g (rw f at e) in
-        record { offset = suc (w .offset); counts = w .counts ∙ suc-add k (w .offset) ∙ sym (add-suc k (w .offset)); within = omega (arith, w .within); same = w .same }
+        record {
+          offset = suc (w .offset);
+          counts = w .counts ∙ suc-add k (w .offset)
+              ∙ sym (add-suc k (w .offset));
+          within = omega (arith, w .within);
+          same = w .same;
+        }
 
 -- among names that are distinct, whatever is the i-th but for the case of letters has the number i
-pub number-there : (k : ℕ) (s : List ℕ) (ns : List (List ℕ)) → distinct ns ≡ true → (i : ℕ) → i < length ns → sameFolded s (getD ns i []) ≡ true → numberFrom k s ns ≡ Number.At (k + i)
+pub number-there : (k : ℕ) (s : List ℕ) (ns : List (List ℕ)) → distinct ns ≡ true → (i : ℕ) → i < length ns → sameFolded s (getD ns i []) ≡ true
+    → numberFrom k s ns ≡ Number.At (k + i)
 unfolding numberFrom
 number-there k s [] e i h f = absurd (omega arith)
 number-there k s (n ∷ ns) e zero h f = rw (f, add-zero k)
@@ -124,7 +133,8 @@ unfolding isIn
 in-back s [] e = absurd (false≢true e)
 in-back s (n ∷ ns) e = by (sameBytes s n) refl (in-back s ns)
   where
-    by : (t : Bool) → sameBytes s n ≡ t → (isIn s ns ≡ true → (i : ℕ) × (i < length ns) × (s ≡ getD ns i [])) → (i : ℕ) × (i < suc (length ns)) × (s ≡ getD (n ∷ ns) i [])
+    by : (t : Bool) → sameBytes s n ≡ t → (isIn s ns ≡ true → (i : ℕ) × (i < length ns) × (s ≡ getD ns i []))
+        → (i : ℕ) × (i < suc (length ns)) × (s ≡ getD (n ∷ ns) i [])
     by true f g = (0, omega arith, same-eq s n f)
     by false f g =
         let w = g (rw f at e) in

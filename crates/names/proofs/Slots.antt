@@ -85,14 +85,16 @@ slots-long RegionAttr = refl
 slots-long InlineModelled = refl
 slots-long Imsc1Extension = refl
 
-entries-at : (list : Listed) (k : ℕ) (ns : List (List ℕ)) → entriesFrom list k ns ≡ true → (i : ℕ) → i < length ns → getD (slots list) (slotOf (getD ns i [])) 0 ≡ k + i + 35
+entries-at : (list : Listed) (k : ℕ) (ns : List (List ℕ)) → entriesFrom list k ns ≡ true → (i : ℕ) → i < length ns
+    → getD (slots list) (slotOf (getD ns i [])) 0 ≡ k + i + 35
 entries-at list k [] e i h = absurd (omega arith)
 entries-at list k (n ∷ ns) e zero h = eqb-true _ _ (both {b = entriesFrom list (k + 1) ns} e .0) ∙ omega arith
 entries-at list k (n ∷ ns) e (suc i) h =
     entries-at list (k + 1) ns (both {a = eqb (getD (slots list) (slotOf n) 0) (k + 35)} e .1) i (omega arith) ∙ omega arith
 
 pub slot-within : (list : Listed) (p : ℕ) → p < 129 → getD (slots list) p 0 < length (names list) + 35
-slot-within list p h = ltb-true _ _ (every-at (λ (c : ℕ). ltb c (length (names list) + 35)) (slots list) 0 (within-tested list) p (rw (slots-long list) h))
+slot-within list p h =
+    ltb-true _ _ (every-at (λ (c : ℕ). ltb c (length (names list) + 35)) (slots list) 0 (within-tested list) p (rw (slots-long list) h))
 
 -- ---- what the entry in a name's slot says
 module _ (list : Listed) (s : List ℕ) where

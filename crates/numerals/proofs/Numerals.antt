@@ -77,7 +77,8 @@ module _ (radix : ℕ) (s : List ℕ) (i : ℕ) (h : i < length s) where
 
 -- ---- digits alone as a number
 module _ (radix most : ℕ) where
-  pub unsigned-is : (s : List ℕ) → 1 ≤ length s → digitsOnly radix s ≡ true → valueFrom radix 0 s ≤ most → unsignedOf s radix most ≡ Unsigned.Is (valueFrom radix 0 s)
+  pub unsigned-is : (s : List ℕ) → 1 ≤ length s → digitsOnly radix s ≡ true → valueFrom radix 0 s ≤ most
+      → unsignedOf s radix most ≡ Unsigned.Is (valueFrom radix 0 s)
   unfolding unsignedOf
   unsigned-is [] n d h = absurd (omega arith)
   unsigned-is (b ∷ s) n d h = rw (d, le-leb (valueFrom radix 0 (b ∷ s)) most h)
@@ -158,23 +159,27 @@ module _ (radix most : ℕ) where
   numeral-none [] minus h = refl
   numeral-none (b ∷ s) minus h = absurd (omega arith)
 
-  pub numeral-plus : (s : List ℕ) (minus : Bool) → 1 ≤ length s → getD s 0 0 ≡ 43 → numeralOf s radix most minus ≡ signedBy false (unsignedOf (drop 1 s) radix most)
+  pub numeral-plus : (s : List ℕ) (minus : Bool) → 1 ≤ length s → getD s 0 0 ≡ 43
+      → numeralOf s radix most minus ≡ signedBy false (unsignedOf (drop 1 s) radix most)
   unfolding numeralOf
   numeral-plus [] minus h e = absurd (omega arith)
   numeral-plus (b ∷ s) minus h e = rw (eq-eqb b 43 e)
 
-  pub numeral-minus : (s : List ℕ) (minus : Bool) → 1 ≤ length s → minus ≡ true → getD s 0 0 ≡ 45 → numeralOf s radix most minus ≡ signedBy true (unsignedOf (drop 1 s) radix (most + 1))
+  pub numeral-minus : (s : List ℕ) (minus : Bool) → 1 ≤ length s → minus ≡ true → getD s 0 0 ≡ 45
+      → numeralOf s radix most minus ≡ signedBy true (unsignedOf (drop 1 s) radix (most + 1))
   unfolding numeralOf
   numeral-minus [] minus h m e = absurd (omega arith)
   numeral-minus (b ∷ s) minus h m e = rw (m, ne-eqb b 43 (λ x. omega arith), eq-eqb b 45 e)
 
-  pub numeral-bare : (s : List ℕ) (minus : Bool) → 1 ≤ length s → (getD s 0 0 ≡ 43 → ⊥) → (minus ≡ true → getD s 0 0 ≡ 45 → ⊥) → numeralOf s radix most minus ≡ signedBy false (unsignedOf s radix most)
+  pub numeral-bare : (s : List ℕ) (minus : Bool) → 1 ≤ length s → (getD s 0 0 ≡ 43 → ⊥) → (minus ≡ true → getD s 0 0 ≡ 45 → ⊥)
+      → numeralOf s radix most minus ≡ signedBy false (unsignedOf s radix most)
   unfolding numeralOf
   numeral-bare [] minus h e d = absurd (omega arith)
   numeral-bare (b ∷ s) true h e d = rw (ne-eqb b 43 e, ne-eqb b 45 (d refl))
   numeral-bare (b ∷ s) false h e d = rw (ne-eqb b 43 e)
 
-  pub numeral-plain : (s : List ℕ) (minus : Bool) → radix ≤ 36 → 1 ≤ length s → digitsOnly radix s ≡ true → valueFrom radix 0 s ≤ most → numeralOf s radix most minus ≡ Numeral.Is (record { negative = false; magnitude = valueFrom radix 0 s })
+  pub numeral-plain : (s : List ℕ) (minus : Bool) → radix ≤ 36 → 1 ≤ length s → digitsOnly radix s ≡ true → valueFrom radix 0 s ≤ most
+      → numeralOf s radix most minus ≡ Numeral.Is (record { negative = false; magnitude = valueFrom radix 0 s })
   unfolding digitOf digitsOnly
   numeral-plain [] minus r h d l = absurd (omega arith)
   numeral-plain (b ∷ s) minus r h d l =
@@ -270,6 +275,7 @@ module _ (radix : ℕ) (r : radix ≤ 36) where
       by true f y g =
           rw (eqb-true b 43 f) (unsigned-ascii s most _ (signed-size false (unsignedOf s radix most) (rw f at e)))
       by false f true g =
-          rw (eqb-true b 45 (both {a = minus} g .1)) (unsigned-ascii s (most + 1) _ (signed-size true (unsignedOf s radix (most + 1)) (rw (f, g) at e)))
+          rw (eqb-true b 45 (both {a = minus} g .1))
+          (unsigned-ascii s (most + 1) _ (signed-size true (unsignedOf s radix (most + 1)) (rw (f, g) at e)))
       by false f false g =
           unsigned-ascii (b ∷ s) most _ (signed-size false (unsignedOf (b ∷ s) radix most) (rw (f, g) at e))

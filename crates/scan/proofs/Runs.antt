@@ -151,7 +151,8 @@ module _ (t : ℕ → Bool) (s : List ℕ) (p : ℕ) where
   run-high l = run-ind t s (λ i. i ≤ length s) (λ r. r ≤ length s) (λ i h e j. omega arith) (λ i h e j. j) (λ i h j. j) p l
 
   pub run-stops : runEnd t s p < length s → t (getD s (runEnd t s p) 0) ≡ false
-  run-stops = run-ind t s (λ i. Unit {0}) (λ r. r < length s → t (getD s r 0) ≡ false) (λ i h e j. tt) (λ i h e j l. e) (λ i h j l. absurd (omega arith)) p tt
+  run-stops =
+      run-ind t s (λ i. Unit {0}) (λ r. r < length s → t (getD s r 0) ≡ false) (λ i h e j. tt) (λ i h e j l. e) (λ i h j l. absurd (omega arith)) p tt
 
   pub run-all : (k : ℕ) → p ≤ k → k < runEnd t s p → t (getD s k 0) ≡ true
   run-all = run-ind t s passed passed goes (λ i h e j. j) (λ i h j. j) p (λ k l h. absurd (omega arith))
@@ -181,7 +182,8 @@ passes-more t s p e e′ w b g k l h = by (eqb k e) refl
 
 pub run-over : (t : ℕ → Bool) (s : List ℕ) (n i e : ℕ) → e ≡ i + n → e ≤ length s → Passes t s i e → runEnd t s i ≡ runEnd t s e
 run-over t s zero i e w h b = let z : e ≡ i = omega arith in rw z
-run-over t s (suc n) i e w h b = run-on t s i (omega arith) (b i (omega arith) (omega arith)) ∙ run-over t s n (i + 1) e (omega arith) h (λ k l q. b k (omega arith) q)
+run-over t s (suc n) i e w h b =
+    run-on t s i (omega arith) (b i (omega arith) (omega arith)) ∙ run-over t s n (i + 1) e (omega arith) h (λ k l q. b k (omega arith) q)
 
 pub skips-more : (t : ℕ → Bool) (s : List ℕ) (p i e : ℕ) → i ≤ e → e ≤ length s → Skips t s p i → Passes t s i e → Skips t s p e
 skips-more t s p i e l h k b = record { after = omega (arith, k .after); within = h; same = k .same ∙ run-over t s (e - i) i e (omega arith) h b }

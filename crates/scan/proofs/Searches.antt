@@ -135,12 +135,15 @@ module _ (s m : List ℕ) (j n : ℕ) (h : n < length m) where
 -- places where it does not stand are passed over at once
 seek-pass : (m s : List ℕ) (k i e : ℕ) → e ≡ i + k → e ≤ length s → ((j : ℕ) → i ≤ j → j < e → startsAt s j m ≡ false) → seek m s i ≡ seek m s e
 seek-pass m s zero i e w h b = let z : e ≡ i = omega arith in rw z
-seek-pass m s (suc k) i e w h b = seek-on m s i (omega arith) (b i (omega arith) (omega arith)) ∙ seek-pass m s k (i + 1) e (omega arith) h (λ j l q. b j (omega arith) q)
+seek-pass m s (suc k) i e w h b =
+    seek-on m s i (omega arith) (b i (omega arith) (omega arith)) ∙ seek-pass m s k (i + 1) e (omega arith) h (λ j l q. b j (omega arith) q)
 
 module _ (m s : List ℕ) (n i : ℕ) (h : n < length m) where
   -- the search goes on where the mark's n-th byte stands next
   pub seek-far : (q r : ℕ) → (getD s (i + n) 0 ≡ getD m n 0 → ⊥) → q ≡ i + n + 1 → Ends (other (getD m n 0)) s q r → seek m s i ≡ seek m s (r - n)
-  seek-far q r d w f = seek-pass m s (r - n - i) i (r - n) (omega (arith, f .after)) (omega (arith, f .within)) (λ j l g. mark-not s m j n h (differs j l g (eqb j i) refl))
+  seek-far q r d w f =
+      seek-pass m s (r - n - i) i (r - n) (omega (arith, f .after)) (omega (arith, f .within))
+      (λ j l g. mark-not s m j n h (differs j l g (eqb j i) refl))
     where
       differs : (j : ℕ) → i ≤ j → j < r - n → (x : Bool) → eqb j i ≡ x → getD s (j + n) 0 ≡ getD m n 0 → ⊥
       differs j l g true z = let y : j ≡ i = eqb-true j i z in rw y d
@@ -150,7 +153,9 @@ module _ (m s : List ℕ) (n i : ℕ) (h : n < length m) where
           eqb-false _ _ (not-true _ (run-all (other (getD m n 0)) s q (j + n) (omega arith) u))
 
   pub seek-short : i ≤ length s → length s ≤ i + n → seek m s i ≡ length s
-  seek-short l g = seek-pass m s (length s - i) i (length s) (omega arith) (omega arith) (λ j a b. mark-beyond s m j n h (omega arith)) ∙ seek-out m s (length s) (omega arith)
+  seek-short l g =
+      seek-pass m s (length s - i) i (length s) (omega arith) (omega arith) (λ j a b. mark-beyond s m j n h (omega arith))
+      ∙ seek-out m s (length s) (omega arith)
 
 -- ---- what the searches ensure where they end
 pub found-empty : (m s : List ℕ) (p : ℕ) → length m ≡ 0 → p ≤ length s → Found m s p p
@@ -160,8 +165,10 @@ found-empty m s p z l = record { is = sym (by (ltb p (length s)) refl); after = 
     by true u = seek-here m s p (ltb-true p (length s) u) (mark-out s m p 0 (omega arith))
     by false u = seek-out m s p (ltb-false p (length s) u)
 
-pub found-none : (m s : List ℕ) (p i n : ℕ) → p ≤ i → seek m s p ≡ seek m s i → n < length m → i ≤ length s → length s ≤ i + n → Found m s p (length s)
-found-none m s p i n l w h a b = record { is = sym (w ∙ seek-short m s n i h a b); after = omega arith; within = omega arith; whole = λ k. absurd (omega arith) }
+pub found-none : (m s : List ℕ) (p i n : ℕ) → p ≤ i → seek m s p ≡ seek m s i → n < length m → i ≤ length s → length s ≤ i + n
+    → Found m s p (length s)
+found-none m s p i n l w h a b =
+    record { is = sym (w ∙ seek-short m s n i h a b); after = omega arith; within = omega arith; whole = λ k. absurd (omega arith) }
 
 module _ (m s : List ℕ) (p i : ℕ) (l : p ≤ i) (w : seek m s p ≡ seek m s i) where
   pub found-here : i < length s → startsAt s i m ≡ true → i + length m ≤ length s → Found m s p i

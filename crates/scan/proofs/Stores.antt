@@ -13,7 +13,8 @@ use native.Mathlib.Omega.{arith}
 use native.Mathlib.Nat.{add-zero, add-suc, suc-add}
 use native.Mathlib.Numerals.{add-one}
 use lib.ListN.{length, getD, set, take, drop, replicate, length-set, length-append, drop-of-length-le}
-use lib.Seq.{sets, set-comm, sets-eq, length-sets, length-take-le, take-suc, take-length, take-append-seam, take-append-le, take-append-add, drop-at, getD-set-other}
+use lib.Seq.{sets, set-comm, sets-eq, length-sets, length-take-le, take-suc, take-length, take-append-seam, take-append-le, take-append-add, drop-at}
+use lib.Seq.{getD-set-other}
 use Rattle.scan.specs.declared.table.Written.{Written}
 use Rattle.scan.specs.declared.table.Written.the-variants.{At, Full}
 use Rattle.scan.specs.Posts.{Appended, Wrote, Begun, WroteInPart}
@@ -43,7 +44,8 @@ sets-on a b t t′ t″ i j e f w = f ∙ rw (w, e) (sets-append a b t i)
 -- what was stored
 pub sets-part : (w t : List ℕ) (i : ℕ) → i + length w ≤ length t → take (length w) (drop i (sets t i w)) ≡ w
 sets-part w t i h =
-    let e : drop i (sets t i w) ≡ w ++ drop (i + length w) t = rw (sets-eq w t i h, append-assoc) (drop-at (take i t) (w ++ drop (i + length w) t) i (length-take-le i t (omega arith))) in
+    let e : drop i (sets t i w) ≡ w ++ drop (i + length w) t = rw (sets-eq w t i h, append-assoc)
+    (drop-at (take i t) (w ++ drop (i + length w) t) i (length-take-le i t (omega arith))) in
     rw e (take-append-seam w (drop (i + length w) t))
 
 -- and what was not
@@ -96,7 +98,9 @@ copied-more w t t′ a i c h =
     record {
       some = omega arith;
       room = c .room;
-      is = rw (c .is, add-one i, take-suc w i 0 h) (ap (λ (k : ℕ). set (sets t a (take i w)) (a + k) (getD w i 0)) (sym l) ∙ sets-append (take i w) (getD w i 0 ∷ []) t a);
+      is =
+          rw (c .is, add-one i, take-suc w i 0 h)
+          (ap (λ (k : ℕ). set (sets t a (take i w)) (a + k) (getD w i 0)) (sym l) ∙ sets-append (take i w) (getD w i 0 ∷ []) t a);
       kept = simp length-set (c .kept);
     }
 

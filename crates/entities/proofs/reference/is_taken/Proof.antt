@@ -12,7 +12,9 @@ returns : tie.Need-returns
 returns c = sym (taken-yes _ (λ l h. omega arith) (λ e. omega arith) (λ e. omega arith) (λ e. omega arith) (λ e. omega arith))
 
 returns-2 : tie.Need-returns-2
-returns-2 c = sym (taken-yes _ (λ l h. omega arith) (λ e. c .before .before .before .match .rest .1 (inl e)) (λ e. c .before .before .before .match .rest .1 (inr e)) (λ e. omega arith) (λ e. omega arith))
+returns-2 c =
+    let c3 = c .before .before .before in
+    sym (taken-yes _ (λ l h. omega arith) (λ e. c3 .match .rest .1 (inl e)) (λ e. c3 .match .rest .1 (inr e)) (λ e. omega arith) (λ e. omega arith))
 
 returns-3 : tie.Need-returns-3
 returns-3 c = sym (taken-yes _ (λ l h. omega arith) (λ e. omega arith) (λ e. omega arith) (λ e. omega arith) (λ e. omega arith))

@@ -27,7 +27,8 @@ cut-requires-2 : tie.Need-cut-requires-2
 cut-requires-2 c κs = search needs
 
 returns-2 : tie.Need-returns-2
-returns-2 c = held-second Listed.InlineExtra 23 (c .before .before .before .args .i) (search needs) (c .cut2 .result) (search needs) (c .cut2 .ensures)
+returns-2 c =
+    held-second Listed.InlineExtra 23 (c .before .before .before .args .i) (search needs) (c .cut2 .result) (search needs) (c .cut2 .ensures)
 
 pub inline-extra-spec : {M : Type 1} → statement M
 inline-extra-spec =

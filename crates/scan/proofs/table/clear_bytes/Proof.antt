@@ -1,4 +1,5 @@
--- `clear_bytes` meets its contract. The loop's invariant: the first `i` cells are 0, the others as they were. The measure is what is left of the table.
+-- `clear_bytes` meets its contract. The loop's invariant: the first `i` cells are 0, the others as they were. The measure is what is left of the
+-- table.
 use Prim.Native.Nat.{_-_}
 use native.Mathlib.Omega.{arith}
 use lib.ListN.{length}
