@@ -12,24 +12,28 @@ use native.Mathlib.Omega.{arith}
 use lib.ListN.{length, getD, length-append}
 use lib.Dec.{ltb}
 use borrow.Author.Tests.{ne-eqb, eqb-false, lt-ltb, ltb-true, ltb-false, not-true}
-use Rattle.scan.specs.Bytes.{other, textByte, runEnd}
+use Rattle.scan.specs.Bytes.{other, textByte, runEnd, runLength}
 use Rattle.scan.specs.Names.{sameBytes}
+use Rattle.scan.specs.Text.{ascii}
 use Rattle.unicode.specs.Utf8.{WellFormed, Utf8, empty, sequence, encode}
 use Rattle.unicode.proofs.Utf8Laws.{by-test, utf8-append, utf8-one, utf8-ascii, sequence-ascii, well-high}
+use Rattle.scan.proofs.Every.{every, every-at, every-append}
 use Rattle.scan.proofs.Runs.{run-high, run-stops}
-use Rattle.entities.specs.Reference.{named, lookup, nameByte, nameLength, reference}
+use Rattle.entities.specs.Reference.{named, lookup}
 use Rattle.entities.specs.Decode.{decodedFrom, decoded}
+use Rattle.entities.specs.Steps.{takenByte}
 use Rattle.entities.specs.Escape.{plain, escapeByte, escaped}
+use Rattle.entities.proofs.Decoding.{decoded-byte, decoded-taken}
 use Rattle.entities.proofs.Escapes.{Way, amp, lt, gt, quot, self, way, plain-other, escaped-append, escaped-plain}
 
 -- ---- decoding undoes escaping
 back-byte : (q : Bool) (b : ℕ) (s : List ℕ) → Way q b → decoded (escapeByte q b ++ s) ≡ b ∷ decoded s
-unfolding decoded decodedFrom escapeByte reference nameLength nameByte lookup named sameBytes encode
-back-byte q b s (amp e) = rw e
-back-byte q b s (lt e) = rw e
-back-byte q b s (gt e) = rw e
-back-byte q b s (quot e f) = rw (e, f)
-back-byte q b s (self a p e) = rw (e, ne-eqb b 38 a)
+unfolding escapeByte runLength takenByte lookup named sameBytes encode
+back-byte q b s (amp e) = rw e (decoded-taken (ascii "amp;" ++ s) refl)
+back-byte q b s (lt e) = rw e (decoded-taken (ascii "lt;" ++ s) refl)
+back-byte q b s (gt e) = rw e (decoded-taken (ascii "gt;" ++ s) refl)
+back-byte q b s (quot e f) = rw (e, f) (decoded-taken (ascii "quot;" ++ s) refl)
+back-byte q b s (self a p e) = rw e (decoded-byte b s a)
 
 pub back : (q : Bool) (s : List ℕ) → decoded (escaped q s) ≡ s
 unfolding escaped decoded decodedFrom
@@ -37,26 +41,12 @@ back q [] = refl
 back q (b ∷ s) = rw (back-byte q b (escaped q s) (way q b), back q s)
 
 -- ---- what escaped text holds
--- every byte passes the test
-every : (ℕ → Bool) → List ℕ → Bool
-every p [] = true
-every p (b ∷ s) = p b && every p s
-
 module _ (p : ℕ → Bool) where
-  every-append : (a b : List ℕ) → every p a ≡ true → every p b ≡ true → every p (a ++ b) ≡ true
-  unfolding every
-  every-append [] b e f = f
-  every-append (x ∷ a) b e f = let d : (p x ≡ true) × (every p a ≡ true) = and-eq-true-iff (p x) (every p a) .0 e in rw (d .0, every-append a b (d .1) f)
-
-  every-at : (s : List ℕ) → every p s ≡ true → (k : ℕ) → k < length s → p (getD s k 0) ≡ true
-  unfolding every
-  every-at [] e k h = absurd (omega arith)
-  every-at (x ∷ s) e zero h = and-eq-true-iff (p x) (every p s) .0 e .0
-  every-at (x ∷ s) e (suc k) h = every-at s (and-eq-true-iff (p x) (every p s) .0 e .1) k (omega arith)
-
   -- it passes where the bytes of the four references do, and each that stands for itself
-  every-byte : (q : Bool) (b : ℕ) → every p (escaped true (38 ∷ [])) ≡ true → every p (escaped true (60 ∷ [])) ≡ true → every p (escaped true (62 ∷ [])) ≡ true → every p (escaped true (34 ∷ [])) ≡ true → (plain q b ≡ true → p b ≡ true) → Way q b → every p (escapeByte q b) ≡ true
-  unfolding every escaped escapeByte
+  every-byte : (q : Bool) (b : ℕ) → every p (escaped true (38 ∷ [])) ≡ true → every p (escaped true (60 ∷ [])) ≡ true
+      → every p (escaped true (62 ∷ [])) ≡ true → every p (escaped true (34 ∷ [])) ≡ true → (plain q b ≡ true → p b ≡ true) → Way q b
+      → every p (escapeByte q b) ≡ true
+  unfolding escaped escapeByte
   every-byte q b c d e f g (amp w) = rw w c
   every-byte q b c d e f g (lt w) = rw w d
   every-byte q b c d e f g (gt w) = rw w e
@@ -64,16 +54,16 @@ module _ (p : ℕ → Bool) where
   every-byte q b c d e f g (self a l w) = rw (w, g l)
 
   every-escaped : (q : Bool) (s : List ℕ) → ((b : ℕ) → every p (escapeByte q b) ≡ true) → every p (escaped q s) ≡ true
-  unfolding every escaped
+  unfolding escaped
   every-escaped q [] h = refl
-  every-escaped q (b ∷ s) h = every-append (escapeByte q b) (escaped q s) (h b) (every-escaped q s h)
+  every-escaped q (b ∷ s) h = every-append p (escapeByte q b) (escaped q s) (h b) (every-escaped q s h)
 
 module _ (q : Bool) (n : ℕ) (f : plain q n ≡ false) (a : n ≡ 38 → ⊥) where
   other-self : (b : ℕ) → plain q b ≡ true → other n b ≡ true
   other-self b e = rw (ne-eqb b n (λ w. false≢true (sym f ∙ rw (← w) e)))
 
   other-byte : (b : ℕ) → Way q n → every (other n) (escapeByte q b) ≡ true
-  unfolding every escaped escapeByte
+  unfolding escaped escapeByte
   other-byte b (amp w) = absurd (a w)
   other-byte b (lt w) = every-byte (other n) q b (rw w) (rw w) (rw w) (rw w) (other-self b) (way q b)
   other-byte b (gt w) = every-byte (other n) q b (rw w) (rw w) (rw w) (rw w) (other-self b) (way q b)
@@ -81,7 +71,7 @@ module _ (q : Bool) (n : ℕ) (f : plain q n ≡ false) (a : n ≡ 38 → ⊥) w
   other-byte b (self d e w) = absurd (false≢true (sym f ∙ e))
 
   holds : (s : List ℕ) (k : ℕ) → k < length (escaped q s) → other n (getD (escaped q s) k 0) ≡ true
-  holds s = every-at (other n) (escaped q s) (every-escaped (other n) q s (λ b. other-byte b (way q n)))
+  holds s = every-at (other n) (escaped q s) 0 (every-escaped (other n) q s (λ b. other-byte b (way q n)))
 
   pub absent : (s : List ℕ) (k : ℕ) → k < length (escaped q s) → getD (escaped q s) k 0 ≡ n → ⊥
   absent s k h e = eqb-false (getD (escaped q s) k 0) n (not-true _ (holds s k h)) e
@@ -142,13 +132,15 @@ module _ (q : Bool) where
   high-plain b h = plain-other q b (λ e. omega arith) (λ e. omega arith) (λ e. omega arith) (λ e. omega arith)
 
   ascii-escaped : (b : ℕ) → b < 128 → every (λ a. ltb a 128) (escaped q (b ∷ [])) ≡ true
-  unfolding every escaped escapeByte
-  ascii-escaped b h = every-append (λ a. ltb a 128) (escapeByte q b) [] (every-byte (λ a. ltb a 128) q b refl refl refl refl (λ e. lt-ltb b 128 h) (way q b)) refl
+  unfolding escaped escapeByte
+  ascii-escaped b h =
+      every-append (λ a. ltb a 128) (escapeByte q b) [] (every-byte (λ a. ltb a 128) q b refl refl refl refl (λ e. lt-ltb b 128 h) (way q b)) refl
 
   -- a sequence that starts below 128 is one byte
   low-formed : (w : List ℕ) → WellFormed w → getD w 0 0 < 128 → Utf8 (escaped q w)
   low-formed [] f h = absurd (omega (arith, f .some-byte))
-  low-formed (b ∷ []) f h = utf8-ascii (escaped q (b ∷ [])) (λ i l. ltb-true _ 128 (every-at (λ a. ltb a 128) (escaped q (b ∷ [])) (ascii-escaped b h) i l))
+  low-formed (b ∷ []) f h =
+      utf8-ascii (escaped q (b ∷ [])) (λ i l. ltb-true _ 128 (every-at (λ a. ltb a 128) (escaped q (b ∷ [])) 0 (ascii-escaped b h) i l))
   low-formed (b ∷ c ∷ w) f h = absurd (omega (arith, f .whole, sequence-ascii (b ∷ c ∷ w) 0 (omega arith) (omega arith) .is))
 
   formed : (w : List ℕ) → WellFormed w → Utf8 (escaped q w)

@@ -24,8 +24,10 @@ use Rattle.unicode.specs.Utf8.{encode}
 use Rattle.unicode.proofs.Utf8Laws.{encode-short}
 use Rattle.entities.specs.declared.reference.Entity.{Entity}
 use Rattle.entities.specs.declared.reference.Entity.the-variants.{Char, Unknown}
-use Rattle.entities.specs.Reference.{nameLength, reference, RefersTo}
-use Rattle.entities.specs.Decode.{decodedFrom, decoded, Stepped}
+use Rattle.entities.specs.Reference.{nameLength, reference}
+use Rattle.entities.specs.Steps.{RefersTo, Stepped}
+use Rattle.entities.specs.Decode.{decodedFrom, decoded}
+use Rattle.entities.proofs.Enough.{taken, referenceRun, reference-run, length-run}
 use Rattle.entities.proofs.References.{Referred, reference-inv}
 
 -- ---- one step
@@ -51,6 +53,12 @@ pub decoded-literal : (s : List ℕ) → reference s ≡ Unknown → decoded (38
 unfolding decoded
 decoded-literal s e = rw e
 
+-- a reference by the bytes that the program takes
+pub decoded-taken : (s : List ℕ) {c : ℕ} → referenceRun s ≡ Char c → decoded (38 ∷ s) ≡ encode c ++ decoded (drop (taken s + 1) s)
+decoded-taken s {c} e =
+    let r : reference s ≡ Char c = reference-run s ∙ e in
+    decoded-to s r ∙ rw (length-run s (reference-inv s r .ends))
+
 -- ---- no `&`
 pub decoded-append : (a b : List ℕ) → ((k : ℕ) → k < length a → getD a k 0 ≡ 38 → ⊥) → decoded (a ++ b) ≡ a ++ decoded b
 decoded-append [] b n = refl
@@ -68,7 +76,8 @@ short k [] = omega arith
 short (suc k) (b ∷ s) = omega (arith, short k s)
 short zero (b ∷ s) = omega (arith, by (eqb b 38) refl (λ k. short k s))
   where
-    referring : (x : Entity) → reference s ≡ x → ((k : ℕ) → length (decodedFrom k s) ≤ length s - k) → eqb b 38 ≡ true → length (decodedFrom zero (b ∷ s)) ≤ suc (length s)
+    referring : (x : Entity) → reference s ≡ x → ((k : ℕ) → length (decodedFrom k s) ≤ length s - k) → eqb b 38 ≡ true
+        → length (decodedFrom zero (b ∷ s)) ≤ suc (length s)
     referring (Char c) e rec t =
         let w : Referred s c = reference-inv s e in
         rw (t, e, length-append) (omega (arith, encode-short c, rec (nameLength s + 1), w .long, w .within))
@@ -154,7 +163,8 @@ decoding-start s at t =
 
 module _ (s : List ℕ) (at : ℕ) (t : List ℕ) (from to : ℕ) (t′ : List ℕ) (d : Decoding s at t from to t′) where
   -- one more piece, of the text up to q
-  on : (piece t″ : List ℕ) (q n : ℕ) → n ≡ to + length piece → t″ ≡ sets t′ to piece → decoded (drop from s) ≡ piece ++ decoded (drop q s) → from + length piece ≤ q → q ≤ length s → Decoding s at t q n t″
+  on : (piece t″ : List ℕ) (q n : ℕ) → n ≡ to + length piece → t″ ≡ sets t′ to piece → decoded (drop from s) ≡ piece ++ decoded (drop q s)
+      → from + length piece ≤ q → q ≤ length s → Decoding s at t q n t″
   on piece t″ q n next laid is shorter within =
       let l : length (d .done ++ piece) ≡ length (d .done) + length piece = length-append (d .done) piece in
       record {

@@ -14,12 +14,13 @@ use lib.Seq.{length-sets, drop-drop, drop-cons, getD-take, getD-drop}
 use lib.Dec.{eqb}
 use borrow.Author.Tests.{eqb-true, eqb-false, ne-eqb, not-false}
 use Rattle.scan.specs.Part.{part}
-use Rattle.scan.specs.Posts.{Ends, Appended, Wrote}
+use Rattle.scan.specs.Posts.{Ends, Appended, Wrote, WroteInPart}
 use Rattle.scan.specs.declared.table.Written.{Written}
-use Rattle.scan.specs.declared.table.Written.the-variants.{At, Full}
+use Rattle.scan.specs.declared.table.Written.the-variants.{Full}
 use Rattle.scan.proofs.Runs.{run-all}
-use Rattle.scan.proofs.Stores.{sets-on}
-use Rattle.entities.specs.Escape.{plain, escapeByte, escaped, escapedRun}
+use Rattle.scan.proofs.Stores.{appended-on, in-part, wrote-on, wrote-full}
+use Rattle.entities.specs.Escape.{plain, escapeByte, escaped}
+use Rattle.entities.specs.Steps.{escapedRun}
 
 -- ---- a byte
 module _ (q : Bool) (b : ℕ) (a : b ≡ 38 → ⊥) (l : b ≡ 60 → ⊥) (g : b ≡ 62 → ⊥) where
@@ -58,7 +59,8 @@ way q b = by (eqb b 38) (eqb b 60) (eqb b 62) (q && eqb b 34) refl refl refl ref
     by true u v w e f g h = amp (eqb-true b 38 e)
     by false true v w e f g h = lt (eqb-true b 60 f)
     by false false true w e f g h = gt (eqb-true b 62 g)
-    by false false false true e f g h = let p : (q ≡ true) × (eqb b 34 ≡ true) = and-eq-true-iff q (eqb b 34) .0 h in quot (eqb-true b 34 (p .1)) (p .0)
+    by false false false true e f g h =
+        let p : (q ≡ true) × (eqb b 34 ≡ true) = and-eq-true-iff q (eqb b 34) .0 h in quot (eqb-true b 34 (p .1)) (p .0)
     by false false false false e f g h =
         let a : b ≡ 38 → ⊥ = eqb-false b 38 e in
         let l : b ≡ 60 → ⊥ = eqb-false b 60 f in
@@ -97,12 +99,14 @@ module _ (q : Bool) (s : List ℕ) (i e : ℕ) (r : Ends (plain q) s i e) where
   escaped-part = escaped-plain q (part i e s) (λ k h. by k (simp (length-take, length-drop) at h))
     where
       by : (k : ℕ) → k < min (e - i) (length s - i) → plain q (getD (part i e s) k 0) ≡ true
-      by k h = rw (getD-take (e - i) (drop i s) k 0 (omega arith), getD-drop i s k 0) (run-all (plain q) s i (i + k) (omega arith) (omega (arith, r .is)))
+      by k h =
+          rw (getD-take (e - i) (drop i s) k 0 (omega arith), getD-drop i s k 0) (run-all (plain q) s i (i + k) (omega arith) (omega (arith, r .is)))
 
   pub escaped-run : escaped q (drop i s) ≡ part i e s ++ escaped q (drop e s)
   escaped-run =
       let l : i + (e - i) ≡ e = omega (arith, r .after) in
-      ap (escaped q) (sym (take-append-drop (e - i) (drop i s))) ∙ (escaped-append q (part i e s) (drop (e - i) (drop i s)) ∙ rw (escaped-part, drop-drop, l))
+      ap (escaped q) (sym (take-append-drop (e - i) (drop i s)))
+      ∙ (escaped-append q (part i e s) (drop (e - i) (drop i s)) ∙ rw (escaped-part, drop-drop, l))
 
   pub escaped-run-on : e < length s → escaped q (drop i s) ≡ escapedRun q s i e ++ escaped q (drop (e + 1) s)
   escaped-run-on h = rw (escaped-run, drop-cons s e 0 h, escaped-cons, add-one, append-assoc)
@@ -110,20 +114,6 @@ module _ (q : Bool) (s : List ℕ) (i e : ℕ) (r : Ends (plain q) s i e) where
   pub escaped-run-out : length s ≤ e → escaped q (drop i s) ≡ part i e s
   unfolding escaped
   escaped-run-out h = rw (escaped-run, drop-of-length-le s h, append-nil)
-
--- ---- pieces written one after the other
-module _ (w x : List ℕ) (a : ℕ) (t t′ : List ℕ) where
-  pub wrote-on : (n : ℕ) (t″ : List ℕ) (r : Written) → Appended w a t t′ n → Wrote x n t′ t″ r → Wrote (w ++ x) a t t″ r
-  wrote-on n t″ (At m) p v =
-      let k : length t′ ≡ length t = rw (p .laid, length-sets) in
-      record { next = simp length-append (omega arith); within = omega arith; laid = sets-on w x t t′ t″ a n (p .laid) (v .laid) (p .next) }
-  wrote-on n t″ Full p v =
-      let k : length t′ ≡ length t = rw (p .laid, length-sets) in
-      (simp length-append (omega arith), v .1 ∙ k)
-
-  -- where a piece does not fit, no more does
-  pub wrote-full : Wrote w a t t′ Full → Wrote (w ++ x) a t t′ Full
-  wrote-full v = (simp length-append (omega arith), v .1)
 
 -- ---- the loop: what is written for s up to its place i stands in the table t from a place on, up to n
 pub record Escaping (q : Bool) (s : List ℕ) (a : ℕ) (t : List ℕ) (i n : ℕ) (t′ : List ℕ) : Type 0 where
@@ -143,7 +133,8 @@ starts q s a t h =
       kept = refl;
     }
 
-module _ (q : Bool) (s : List ℕ) (a : ℕ) (t : List ℕ) (i n : ℕ) (t′ : List ℕ) (e : ℕ) (t″ : List ℕ) (g : Escaping q s a t i n t′) (r : Ends (plain q) s i e) where
+module _ (q : Bool) (s : List ℕ) (a : ℕ) (t : List ℕ) (i n : ℕ) (t′ : List ℕ) (e : ℕ) (t″ : List ℕ) (g : Escaping q s a t i n t′)
+    (r : Ends (plain q) s i e) where
   -- a run and the byte after it
   all : e < length s → g .done ++ escapedRun q s i e ++ escaped q (drop (e + 1) s) ≡ escaped q s
   all h = rw (append-assoc, ← (escaped-run-on q s i e r h)) (g .is)
@@ -152,15 +143,19 @@ module _ (q : Bool) (s : List ℕ) (a : ℕ) (t : List ℕ) (i n : ℕ) (t′ : 
   goes m h p =
       record {
         done = g .done ++ escapedRun q s i e;
-        put = wrote-on (g .done) (escapedRun q s i e) a t t′ n t″ (At m) (g .put) p;
+        put = appended-on (g .put) p;
         is = all h;
         place = omega arith;
         kept = rw (p .laid, length-sets) (g .kept);
       }
 
-  pub full : e < length s → Wrote (escapedRun q s i e) n t′ t″ Full → Wrote (escaped q s) a t t″ Full
-  full h v = rw (← (all h)) (wrote-full (g .done ++ escapedRun q s i e) (escaped q (drop (e + 1) s)) a t t″ (wrote-on (g .done) (escapedRun q s i e) a t t′ n t″ Full (g .put) v))
+  pub full : e < length s → WroteInPart (escapedRun q s i e) n t′ t″ Full → WroteInPart (escaped q s) a t t″ Full
+  full h v =
+      let x = escapedRun q s i e in
+      rw (← (all h)) (wrote-full (g .done ++ x) (escaped q (drop (e + 1) s)) a t t″ (wrote-on (g .done) x a t t′ n t″ Full (g .put) v))
 
   -- the last run
-  pub last : (o : Written) → length s ≤ e → Wrote (part i e s) n t′ t″ o → Wrote (escaped q s) a t t″ o
-  last o h v = rw (← (g .is), escaped-run-out q s i e r h) (wrote-on (g .done) (part i e s) a t t′ n t″ o (g .put) v)
+  pub last : (o : Written) → length s ≤ e → Wrote (part i e s) n t′ t″ o → WroteInPart (escaped q s) a t t″ o
+  last o h v =
+      let f : n ≤ length t′ = omega (arith, g .put .within, g .kept) in
+      rw (← (g .is), escaped-run-out q s i e r h) (wrote-on (g .done) (part i e s) a t t′ n t″ o (g .put) (in-part (part i e s) n t′ t″ o f v))

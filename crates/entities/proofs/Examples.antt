@@ -1,39 +1,41 @@
--- Worked cases of references (document 01, "Entities"): a text, and what is read for it, computed from the definitions.
+-- Cases of references (document 01, "Entities"): a text, and what is read for it. One proof computes them all from the definitions.
+use Prim.Native.Nat.{ℕ}
 use mathlib.Core.Path.{_≡_, refl}
-use mathlib.Core.List.{[], _∷_, _++_}
-use lib.ListN.{replicate}
+use mathlib.Core.Bool.{Bool, true}
+use mathlib.Core.List.{List, [], _∷_}
 use Rattle.scan.specs.Names.{sameBytes}
-use Rattle.unicode.specs.Utf8.{scalar, encode}
+use Rattle.scan.specs.Text.{ascii}
+use Rattle.scan.proofs.Every.{every}
+use Rattle.unicode.specs.Utf8.{sequenceAt, charAt, scalar, encode}
+use Rattle.unicode.specs.White.{isWhite}
 use Rattle.numerals.specs.Numerals.{numeralOf}
 use Rattle.entities.specs.Reference.{reference}
 use Rattle.entities.specs.Decode.{decoded}
 
--- [P] `&#+65;` is A
-pub plus : decoded (38 ∷ 35 ∷ 43 ∷ 54 ∷ 53 ∷ 59 ∷ []) ≡ 65 ∷ []
-unfolding decoded reference numeralOf scalar encode
-plus = refl
+infix 70 _reads_
+pub data Case : Type 0 where
+  _reads_ : (text read : List ℕ) → Case
 
--- [P] `&AMP;` stays
-pub capitals : decoded (38 ∷ 65 ∷ 77 ∷ 80 ∷ 59 ∷ []) ≡ 38 ∷ 65 ∷ 77 ∷ 80 ∷ 59 ∷ []
-unfolding decoded reference sameBytes
-capitals = refl
+abbrev pub cases : List Case
+cases =
+    ascii "&#+65;" reads ascii "A"  -- [P]
+    ∷ ascii "&AMP;" reads ascii "&AMP;"  -- [P]
+    ∷ ascii "&nbsp;" reads (0xC2 ∷ 0xA0 ∷ [])
+    ∷ ascii "&#xD800;" reads ascii "&#xD800;"
+    -- a name of 16 bytes, and of 17
+    ∷ ascii "&#000000000000065;" reads ascii "A"
+    ∷ ascii "&#0000000000000065;" reads ascii "&#0000000000000065;"
+    -- white space, `&`, `<` and the end
+    ∷ ascii "&lt ;" reads ascii "&lt ;"
+    ∷ (38 ∷ 108 ∷ 116 ∷ 0xC2 ∷ 0xA0 ∷ 59 ∷ []) reads (38 ∷ 108 ∷ 116 ∷ 0xC2 ∷ 0xA0 ∷ 59 ∷ [])
+    ∷ ascii "&l&lt;" reads ascii "&l<"
+    ∷ ascii "&l<t;" reads ascii "&l<t;"
+    ∷ ascii "&lt" reads ascii "&lt"
+    ∷ []
 
--- `&nbsp;` is U+00A0
-pub no-break-space : decoded (38 ∷ 110 ∷ 98 ∷ 115 ∷ 112 ∷ 59 ∷ []) ≡ 0xC2 ∷ 0xA0 ∷ []
-unfolding decoded reference sameBytes encode
-no-break-space = refl
+abbrev asSaid : Case → Bool
+asSaid (text reads read) = sameBytes (decoded text) read
 
--- `&#xD800;` stays
-pub surrogate : decoded (38 ∷ 35 ∷ 120 ∷ 68 ∷ 56 ∷ 48 ∷ 48 ∷ 59 ∷ []) ≡ 38 ∷ 35 ∷ 120 ∷ 68 ∷ 56 ∷ 48 ∷ 48 ∷ 59 ∷ []
-unfolding decoded reference numeralOf scalar
-surrogate = refl
-
--- `&#000000000000065;`, whose name has 16 bytes, is A
-pub sixteen : decoded (38 ∷ 35 ∷ replicate 13 48 ++ (54 ∷ 53 ∷ 59 ∷ [])) ≡ 65 ∷ []
-unfolding decoded reference numeralOf scalar encode
-sixteen = refl
-
--- with one zero more it stays
-pub seventeen : decoded (38 ∷ 35 ∷ replicate 14 48 ++ (54 ∷ 53 ∷ 59 ∷ [])) ≡ 38 ∷ 35 ∷ replicate 14 48 ++ (54 ∷ 53 ∷ 59 ∷ [])
-unfolding decoded reference
-seventeen = refl
+pub worked : every asSaid cases ≡ true
+unfolding decoded reference sequenceAt charAt isWhite numeralOf scalar encode sameBytes
+worked = refl

@@ -1,4 +1,5 @@
 -- What the proofs of several functions use.
+pub mod Enough
 pub mod References
 pub mod Decoding
 pub mod Examples

@@ -4,7 +4,7 @@
 --     named-hit, named-miss, named-each          a table of named entities, entry by entry
 --     lookup-none, lookup-number, lookup-name    a name, by its first byte
 --     lookup-known                               a known name has two bytes or more, and names a character
---     name-yes, name-white, name-out, name-stop, name-on, name-within   the bytes of a name
+--     taken-yes, taken-white                     the bytes of a name
 --     reference-is, reference-open, reference-long   what follows an `&`
 --     reference-inv                              what is known of a reference
 --     refers-out, refers-long, refers-open, refers-none, refers-to   the same at a place of a text, as the program asks
@@ -22,13 +22,16 @@ use borrow.Author.Tests.{lt-ltb, le-ltb, le-leb, lt-leb, eq-eqb, ne-eqb, eqb-tru
 use Rattle.scan.specs.Names.{sameBytes}
 use Rattle.scan.specs.Part.{part}
 use Rattle.scan.proofs.Naming.{same-eq}
+use Rattle.scan.proofs.Runs.{length-within}
 use Rattle.unicode.specs.Utf8.{scalar}
 use Rattle.unicode.proofs.Utf8Laws.{scalar-small}
 use Rattle.numerals.specs.declared.Whole.{Whole}
 use Rattle.numerals.specs.declared.Numeral.{Numeral}
 use Rattle.numerals.specs.Numerals.{numeralOf}
 use Rattle.entities.specs.declared.reference.Entity.the-variants.{Char, Unknown}
-use Rattle.entities.specs.Reference.{Named, _means_, entityTable, named, character, characterReference, lookup, nameByte, nameLength, reference, NameEnd, RefersTo}
+use Rattle.entities.specs.Reference.{Named, _means_, entityTable, named, character, characterReference, lookup, nameLength, reference}
+use Rattle.entities.specs.Steps.{takenByte, NameEnd, RefersTo}
+use Rattle.entities.proofs.Enough.{taken, name-within, reference-run, length-run}
 
 -- ---- which numbers are characters
 module _ (n : ℕ) where
@@ -56,13 +59,15 @@ unfolding characterReference
 number-none [] h = refl
 number-none (b ∷ s) h = absurd (omega arith)
 
-pub number-hex : (s : List ℕ) → 0 < length s → (getD s 0 0 ≡ 88) ⊎ (getD s 0 0 ≡ 120) → characterReference s ≡ character (numeralOf (drop 1 s) 16 0xFFFF_FFFF false)
+pub number-hex : (s : List ℕ) → 0 < length s → (getD s 0 0 ≡ 88) ⊎ (getD s 0 0 ≡ 120)
+    → characterReference s ≡ character (numeralOf (drop 1 s) 16 0xFFFF_FFFF false)
 unfolding characterReference
 number-hex [] h e = absurd (omega arith)
 number-hex (b ∷ s) h (inl e) = rw e
 number-hex (b ∷ s) h (inr e) = rw e
 
-pub number-decimal : (s : List ℕ) → 0 < length s → ((getD s 0 0 ≡ 88) ⊎ (getD s 0 0 ≡ 120) → ⊥) → characterReference s ≡ character (numeralOf s 10 0xFFFF_FFFF false)
+pub number-decimal : (s : List ℕ) → 0 < length s → ((getD s 0 0 ≡ 88) ⊎ (getD s 0 0 ≡ 120) → ⊥)
+    → characterReference s ≡ character (numeralOf s 10 0xFFFF_FFFF false)
 unfolding characterReference
 number-decimal [] h n = absurd (omega arith)
 number-decimal (b ∷ s) h n = rw (ne-eqb b 120 (λ e. n (inr e)), ne-eqb b 88 (λ e. n (inl e)))
@@ -140,7 +145,8 @@ entity n c l h = record { long = leb-true 2 (length n) l; char = h }
 
 table-known : Each Known entityTable
 unfolding scalar
-table-known = (entity _ _ refl refl, (entity _ _ refl refl, (entity _ _ refl refl, (entity _ _ refl refl, (entity _ _ refl refl, (entity _ _ refl refl, tt))))))
+table-known =
+    (entity _ _ refl refl, (entity _ _ refl refl, (entity _ _ refl refl, (entity _ _ refl refl, (entity _ _ refl refl, (entity _ _ refl refl, tt))))))
 
 pub lookup-known : (s : List ℕ) {c : ℕ} → lookup s ≡ Char c → Known s c
 unfolding lookup
@@ -153,55 +159,39 @@ lookup-known (b ∷ s) {c} e = by (eqb b 35) refl
 
 -- ---- the bytes of a name
 module _ (b : ℕ) where
-  pub name-yes : (9 ≤ b → b ≤ 13 → ⊥) → (b ≡ 32 → ⊥) → (b ≡ 38 → ⊥) → (b ≡ 59 → ⊥) → (b ≡ 60 → ⊥) → nameByte b ≡ true
-  unfolding nameByte
-  name-yes w e f g h = rw (ne-eqb b 59 g, ne-eqb b 38 f, ne-eqb b 60 h, ne-eqb b 32 e) (by (leb 9 b) (leb b 13) refl refl)
+  pub taken-yes : (9 ≤ b → b ≤ 13 → ⊥) → (b ≡ 32 → ⊥) → (b ≡ 38 → ⊥) → (b ≡ 59 → ⊥) → (b ≡ 60 → ⊥) → takenByte b ≡ true
+  unfolding takenByte
+  taken-yes w e f g h = rw (ne-eqb b 59 g, ne-eqb b 38 f, ne-eqb b 60 h, ne-eqb b 32 e) (by (leb 9 b) (leb b 13) refl refl)
     where
       by : (l m : Bool) → leb 9 b ≡ l → leb b 13 ≡ m → not (l && m) ≡ true
       by true true l m = absurd (w (leb-true 9 b l) (leb-true b 13 m))
       by true false l m = refl
       by false m l _ = refl
 
-  pub name-white : 9 ≤ b → b ≤ 13 → nameByte b ≡ false
-  unfolding nameByte
-  name-white l h = rw (ne-eqb b 59 (λ e. omega arith), ne-eqb b 38 (λ e. omega arith), ne-eqb b 60 (λ e. omega arith), ne-eqb b 32 (λ e. omega arith), le-leb 9 b l, le-leb b 13 h)
-
-module _ (s : List ℕ) (i : ℕ) where
-  pub name-out : length s ≤ i → nameLength (drop i s) ≡ 0
-  unfolding nameLength
-  name-out h = rw (drop-of-length-le s h)
-
-  pub name-stop : i < length s → nameByte (getD s i 0) ≡ false → nameLength (drop i s) ≡ 0
-  unfolding nameLength
-  name-stop h e = rw (drop-cons s i 0 h, e)
-
-  pub name-on : i < length s → nameByte (getD s i 0) ≡ true → nameLength (drop i s) ≡ suc (nameLength (drop (i + 1) s))
-  unfolding nameLength
-  name-on h e = rw (add-one i, drop-cons s i 0 h, e)
-
-pub name-within : (s : List ℕ) → nameLength s ≤ length s
-unfolding nameLength
-name-within [] = omega arith
-name-within (b ∷ s) = by (nameByte b) (name-within s)
-  where
-    by : (t : Bool) → nameLength s ≤ length s → cond t (suc (nameLength s)) 0 ≤ suc (length s)
-    by true l = omega arith
-    by false l = omega arith
+  pub taken-white : 9 ≤ b → b ≤ 13 → takenByte b ≡ false
+  unfolding takenByte
+  taken-white l h =
+      rw (
+        ne-eqb b 59 (λ e. omega arith),
+        ne-eqb b 38 (λ e. omega arith),
+        ne-eqb b 60 (λ e. omega arith),
+        ne-eqb b 32
+            (λ e. omega arith),
+        le-leb 9 b l,
+        le-leb b 13 h,
+      )
 
 -- ---- what follows an `&`
 module _ (s : List ℕ) where
-  pub reference-is : getD s (nameLength s) 0 ≡ 59 → nameLength s ≤ 16 → reference s ≡ lookup (take (nameLength s) s)
-  unfolding reference
-  reference-is e h = rw (eq-eqb (getD s (nameLength s) 0) 59 e, le-leb (nameLength s) 16 h)
+  pub reference-is : getD s (taken s) 0 ≡ 59 → taken s ≤ 16 → reference s ≡ lookup (take (taken s) s)
+  reference-is e h = reference-run s ∙ rw (eq-eqb (getD s (taken s) 0) 59 e, le-leb (taken s) 16 h)
 
   -- its name does not end in a `;`
-  pub reference-open : (getD s (nameLength s) 0 ≡ 59 → ⊥) → reference s ≡ Unknown
-  unfolding reference
-  reference-open e = rw (ne-eqb (getD s (nameLength s) 0) 59 e)
+  pub reference-open : (getD s (taken s) 0 ≡ 59 → ⊥) → reference s ≡ Unknown
+  reference-open e = reference-run s ∙ rw (ne-eqb (getD s (taken s) 0) 59 e)
 
-  pub reference-long : 16 < nameLength s → reference s ≡ Unknown
-  unfolding reference
-  reference-long h = rw (lt-leb (nameLength s) 16 h, and-false)
+  pub reference-long : 16 < taken s → reference s ≡ Unknown
+  reference-long h = reference-run s ∙ rw (lt-leb (taken s) 16 h, and-false)
 
 -- what is known of a reference s to the character c
 pub record Referred (s : List ℕ) (c : ℕ) : Type 0 where
@@ -241,30 +231,30 @@ reference-inv s {c} e = by (eqb (getD s (nameLength s) 0) 59) (leb (nameLength s
     by false y x _ = let z : _≡_ {A = ℕ} 0 1 = cc (rw x at e) in absurd (omega arith)
 
 -- ---- what the program ensures
--- The name at p ends at e, or its 17th byte stands before e.
+-- The bytes taken at p end at e, or the 17th stands before e.
 module _ (s : List ℕ) (p e : ℕ) (w : NameEnd s p e) where
   -- nothing stands after it
   pub refers-out : length s ≤ e → reference (drop p s) ≡ Unknown
   refers-out h =
       let l : length (drop p s) ≡ length s - p = length-drop p s in
-      let g : length (drop p s) ≤ nameLength (drop p s) = omega (arith, name-within (drop p s)) in
+      let g : length (drop p s) ≤ taken (drop p s) = omega (arith, length-within takenByte (drop p s)) in
       reference-open (drop p s) (λ x. omega (arith, List·getD-eq-default (drop p s) 0 g))
 
   pub refers-long : 16 < e - p → reference (drop p s) ≡ Unknown
   refers-long h = reference-long (drop p s) (omega arith)
 
   module _ (h : e - p ≤ 16) where
-    here : e ≡ p + nameLength (drop p s)
+    here : e ≡ p + taken (drop p s)
     here = omega arith
 
     pub refers-open : (getD s e 0 ≡ 59 → ⊥) → reference (drop p s) ≡ Unknown
     refers-open n =
-        reference-open (drop p s) (λ x. n (ap (λ (i : ℕ). getD s i 0) here ∙ (sym (getD-drop p s (nameLength (drop p s)) 0) ∙ x)))
+        reference-open (drop p s) (λ x. n (ap (λ (i : ℕ). getD s i 0) here ∙ (sym (getD-drop p s (taken (drop p s)) 0) ∙ x)))
 
     refers-name : getD s e 0 ≡ 59 → reference (drop p s) ≡ lookup (part p e s)
     refers-name x =
-        let l : e - p ≡ nameLength (drop p s) = omega (arith, here) in
-        rw l (reference-is (drop p s) (getD-drop p s (nameLength (drop p s)) 0 ∙ (ap (λ (i : ℕ). getD s i 0) (sym here) ∙ x)) (omega (arith, l)))
+        let l : e - p ≡ taken (drop p s) = omega (arith, here) in
+        rw l (reference-is (drop p s) (getD-drop p s (taken (drop p s)) 0 ∙ (ap (λ (i : ℕ). getD s i 0) (sym here) ∙ x)) (omega (arith, l)))
 
     pub refers-none : getD s e 0 ≡ 59 → lookup (part p e s) ≡ Unknown → reference (drop p s) ≡ Unknown
     refers-none x k = refers-name x ∙ k
@@ -273,10 +263,11 @@ module _ (s : List ℕ) (p e : ℕ) (w : NameEnd s p e) where
     refers-to x c k =
         let i : reference (drop p s) ≡ Char c = refers-name x ∙ k in
         let r : Referred (drop p s) c = reference-inv (drop p s) i in
+        let m : nameLength (drop p s) ≡ taken (drop p s) = length-run (drop p s) (r .ends) in
         record {
           is = i;
-          next = omega (arith, here);
-          within = omega (arith, here, r .within, length-drop p s);
-          long = omega (arith, here, r .long);
+          next = omega (arith, here, m);
+          within = omega (arith, here, m, r .within, length-drop p s);
+          long = omega (arith, here, m, r .long);
           char = scalar-small c (r .char);
         }

@@ -67,7 +67,8 @@ one-byte (x ∷ []) b l e = ap (λ (y : ℕ). y ∷ []) e
 one-byte (x ∷ (y ∷ w)) b l e = absurd (omega arith)
 
 -- one sequence, where all shorter texts are known
-module _ (n : ℕ) (rec : (t : List ℕ) → length t ≤ n → Utf8 t → Utf8 (decoded t)) (w s : List ℕ) (f : WellFormed w) (l : length s ≤ n) (v : Utf8 s) where
+module _ (n : ℕ) (rec : (t : List ℕ) → length t ≤ n → Utf8 t → Utf8 (decoded t)) (w s : List ℕ) (f : WellFormed w) (l : length s ≤ n)
+    (v : Utf8 s) where
   plain : eqb (getD w 0 0) 38 ≡ false → Utf8 (decoded (w ++ s))
   plain t = rw (decoded-append w s none) (sequence f (rec s l v))
     where
@@ -77,7 +78,8 @@ module _ (n : ℕ) (rec : (t : List ℕ) → length t ≤ n → Utf8 t → Utf8 
   referring : (x : Entity) → reference s ≡ x → Utf8 (decoded (38 ∷ s))
   referring (Char c) e =
       let r : Referred s c = reference-inv s e in
-      rw (decoded-to s e) (utf8-append (encode-utf8 c (r .char)) (rec (drop (nameLength s + 1) s) (omega (arith, length-drop (nameLength s + 1) s)) (after-reference s c r v)))
+      rw (decoded-to s e) (utf8-append (encode-utf8 c (r .char))
+      (rec (drop (nameLength s + 1) s) (omega (arith, length-drop (nameLength s + 1) s)) (after-reference s c r v)))
   referring Unknown e = rw (decoded-literal s e) (sequence {w = 38 ∷ []} (ascii-formed 38 (omega arith)) (rec s l v))
 
   marked : eqb (getD w 0 0) 38 ≡ true → Utf8 (decoded (w ++ s))

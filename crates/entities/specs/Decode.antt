@@ -1,10 +1,7 @@
 -- A text with its references read. Definitions alone.
-use Prim.Native.Nat.{ℕ, zero, suc, _+_, _-_, _≤_, _<_}
-use mathlib.Core.Path.{_≡_}
-use mathlib.Core.Bool.{Bool, true, false, cond}
+use Prim.Native.Nat.{ℕ, zero, suc, _+_}
+use mathlib.Core.Bool.{cond}
 use mathlib.Core.List.{List, [], _∷_, _++_}
-use lib.ListN.{length, drop}
-use lib.Seq.{sets}
 use lib.Dec.{eqb}
 use Rattle.unicode.specs.Utf8.{encode}
 use Rattle.entities.specs.declared.reference.Entity.{Entity}
@@ -28,15 +25,3 @@ decodedFrom zero (b ∷ s) =
 unfoldable pub decoded : List ℕ → List ℕ
 unfolding decodedFrom
 decoded s = decodedFrom 0 s
-
--- ---- what the program ensures
-
--- One `&`, at p, is passed: what is read for it stands in the table from a place on, up to n, and reading goes on at q.
-pub record Stepped (s : List ℕ) (p at : ℕ) (t t′ : List ℕ) (q n : ℕ) : Type 0 where
-  pub piece : List ℕ
-  pub next : n ≡ at + length piece
-  pub laid : t′ ≡ sets t at piece
-  pub is : decoded (drop p s) ≡ piece ++ decoded (drop q s)
-  pub shorter : p + length piece ≤ q
-  pub after : p < q
-  pub within : q ≤ length s

@@ -1,3 +1,4 @@
 pub mod Reference
 pub mod Decode
 pub mod Escape
+pub mod Steps

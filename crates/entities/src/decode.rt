@@ -3,7 +3,8 @@ ghost use mathlib.Core.Path.{_≡_};
 ghost use Prim.Native.Nat.{_+_, _-_, _≤_, _<_};
 ghost use lib.ListN.{length, getD};
 ghost use Rattle.scan.specs.Posts.{Appended};
-ghost use Rattle.entities.specs.Decode.{decoded, Stepped};
+ghost use Rattle.entities.specs.Decode.{decoded};
+ghost use Rattle.entities.specs.Steps.{Stepped};
 use crate::reference::Target;
 
 // Where the next byte is read, and where the next byte is written.

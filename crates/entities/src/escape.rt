@@ -3,8 +3,9 @@ ghost use mathlib.Core.Path.{_≡_};
 ghost use mathlib.Core.Bool.{Bool, true, false};
 ghost use Prim.Native.Nat.{_≤_, _<_};
 ghost use lib.ListN.{length, getD};
-ghost use Rattle.scan.specs.Posts.{Ends, Wrote};
-ghost use Rattle.entities.specs.Escape.{plain, escapeByte, escaped, escapedRun};
+ghost use Rattle.scan.specs.Posts.{Ends, Wrote, WroteInPart};
+ghost use Rattle.entities.specs.Escape.{plain, escapeByte, escaped};
+ghost use Rattle.entities.specs.Steps.{escapedRun};
 use scan::Written;
 
 // Does the byte stand for itself? A double quote mark does, but in an attribute's value.
@@ -56,7 +57,7 @@ fn append_run(
     at: usize,
 ) -> Written
     requires { ⌜ (pos ≤ end) × (end < length (now src)) × (at ≤ length (now out)) × (plain quotes (getD (now src) end 0) ≡ false) ⌝ }
-    ensures { λ r. ⌜ Wrote (escapedRun quotes (now (src .entry)) pos end) at (now (out .entry)) (now (out .exit)) r ⌝ }
+    ensures { λ r. ⌜ WroteInPart (escapedRun quotes (now (src .entry)) pos end) at (now (out .entry)) (now (out .exit)) r ⌝ }
 {
     match scan::append(out, at, &src[pos..end]) {
         Written::At(next) => append_reference(out, next, src[end], quotes),
@@ -66,7 +67,7 @@ fn append_run(
 
 fn escape(src: &[u8], quotes: bool, out: &mut [u8], at: usize) -> Written
     requires { ⌜ at ≤ length (now out) ⌝ }
-    ensures { λ r. ⌜ Wrote (escaped quotes (now (src .entry))) at (now (out .entry)) (now (out .exit)) r ⌝ }
+    ensures { λ r. ⌜ WroteInPart (escaped quotes (now (src .entry))) at (now (out .entry)) (now (out .exit)) r ⌝ }
 {
     let mut from = 0;
     let mut to = at;
@@ -90,7 +91,7 @@ fn escape(src: &[u8], quotes: bool, out: &mut [u8], at: usize) -> Written
 // The text as it stands between tags.
 pub fn escape_text(src: &[u8], out: &mut [u8], at: usize) -> Written
     requires { ⌜ at ≤ length (now out) ⌝ }
-    ensures { λ r. ⌜ Wrote (escaped false (now (src .entry))) at (now (out .entry)) (now (out .exit)) r ⌝ }
+    ensures { λ r. ⌜ WroteInPart (escaped false (now (src .entry))) at (now (out .entry)) (now (out .exit)) r ⌝ }
 {
     escape(src, false, out, at)
 }
@@ -98,7 +99,7 @@ pub fn escape_text(src: &[u8], out: &mut [u8], at: usize) -> Written
 // The text as it stands in an attribute's value, between double quote marks.
 pub fn escape_attr(src: &[u8], out: &mut [u8], at: usize) -> Written
     requires { ⌜ at ≤ length (now out) ⌝ }
-    ensures { λ r. ⌜ Wrote (escaped true (now (src .entry))) at (now (out .entry)) (now (out .exit)) r ⌝ }
+    ensures { λ r. ⌜ WroteInPart (escaped true (now (src .entry))) at (now (out .entry)) (now (out .exit)) r ⌝ }
 {
     escape(src, true, out, at)
 }

@@ -3,7 +3,8 @@ ghost use mathlib.Core.Path.{_≡_};
 ghost use Prim.Native.Nat.{_≤_, _<_, _^_};
 ghost use lib.ListN.{length};
 ghost use Rattle.unicode.specs.Utf8.{scalar};
-ghost use Rattle.entities.specs.Reference.{nameByte, character, characterReference, named, entityTable, lookup, NameEnd, Refers};
+ghost use Rattle.entities.specs.Reference.{character, characterReference, named, entityTable, lookup};
+ghost use Rattle.entities.specs.Steps.{takenByte, NameEnd, Refers};
 use numerals::Numeral;
 
 // What a name stands for.
@@ -99,8 +100,10 @@ pub fn lookup_entity(name: &[u8]) -> Entity
     lookup_name(name)
 }
 
-fn is_name(b: u8) -> bool
-    ensures { λ r. ⌜ r ≡ nameByte b ⌝ }
+// White space past ASCII is not looked for: no known name has a byte past 127, so that a name with
+// one stays as it is, wherever it ends.
+fn is_taken(b: u8) -> bool
+    ensures { λ r. ⌜ r ≡ takenByte b ⌝ }
 {
     match b {
         9 | 10 | 11 | 12 | 13 | b' ' | b'&' | b';' | b'<' => false,
@@ -118,7 +121,7 @@ fn name_end(src: &[u8], pos: usize) -> usize
         if 17 <= i - pos {
             return i;
         }
-        if !is_name(src[i]) {
+        if !is_taken(src[i]) {
             return i;
         }
         i += 1;

@@ -1,7 +1,6 @@
 -- Laws of any list of names, from tests that are computed. Assumes nothing.
 --     run-over                              a run of bytes over a name
---     every-at, every-as, distinct-at, apart-at       a test over a list of names, at each entry
---     number-hit, number-miss, number-none  a search that has come to the entry i
+--     distinct-at, apart-at                 a test over a list of names, at each entry
 --     number-back, number-there, number-nowhere   what a number says of the name, and the name of the number
 --     in-there, in-back                     the same of bytes that are looked for
 use Prim.Native.Nat.{ℕ, zero, suc, _+_, _≤_, _<_}
@@ -10,19 +9,14 @@ use mathlib.Core.Bool.{Bool, true, false, not, _&&_, _||_, false≢true, true≢
 use mathlib.Core.List.{List, [], _∷_, _++_}
 use native.Mathlib.Omega.{arith}
 use native.Mathlib.Nat.{add-zero, add-suc, suc-add, zero-add}
-use native.Mathlib.Numerals.{add-one}
-use lib.ListN.{length, getD, drop, drop-of-length-le}
-use lib.Seq.{drop-cons}
+use lib.ListN.{length, getD}
 use borrow.Author.Tests.{not-true}
 use Rattle.scan.specs.Bytes.{runLength}
 use Rattle.scan.specs.Names.{sameBytes, sameFolded}
+pub use Rattle.scan.proofs.Every.{both, every, every-at, every-as}
 use Rattle.scan.proofs.Naming.{same-eq, same-refl, folded-map, map-folded, sameFolded-sym}
 use Rattle.names.specs.declared.lookup.Number.{Number}
 use Rattle.names.specs.Numbers.{numberFrom, isIn}
-
-pub both : {a b : Bool} → (a && b) ≡ true → (a ≡ true) × (b ≡ true)
-both {a = true} e = (refl, e)
-both {a = false} e = absurd (false≢true e)
 
 -- what is not true is false
 pub not-so : (t : Bool) → (t ≡ true → ⊥) → t ≡ false
@@ -33,20 +27,6 @@ pub folded-trans : (a b c : List ℕ) → sameFolded a b ≡ true → sameFolded
 folded-trans a b c e f = map-folded a c (folded-map a b e ∙ folded-map b c f)
 
 -- ---- tests over a list of names
-module _ {A : Type 0} (t : A → Bool) where
-  abbrev pub every : List A → Bool
-  every [] = true
-  every (n ∷ ns) = t n && every ns
-
-  pub every-at : (ns : List A) (d : A) → every ns ≡ true → (i : ℕ) → i < length ns → t (getD ns i d) ≡ true
-  every-at [] d e i h = absurd (omega arith)
-  every-at (n ∷ ns) d e zero h = both {b = every ns} e .0
-  every-at (n ∷ ns) d e (suc i) h = every-at ns d (both {a = t n} e .1) i (omega arith)
-
-pub every-as : {A : Type 0} (t u : A → Bool) → ((x : A) → t x ≡ true → u x ≡ true) → (l : List A) → every t l ≡ true → every u l ≡ true
-every-as t u g [] e = refl
-every-as t u g (x ∷ l) e = rw (g x (both {b = every t l} e .0)) (every-as t u g l (both {a = t x} e .1))
-
 -- a run of bytes that pass a test goes on behind bytes that all pass it
 pub run-over : (t : ℕ → Bool) (n rest : List ℕ) → every t n ≡ true → runLength t (n ++ rest) ≡ length n + runLength t rest
 unfolding runLength
@@ -70,7 +50,8 @@ apart ms ns = every (λ (m : List ℕ). every (differs m) ns) ms
 folded-sym-false : (a b : List ℕ) → sameFolded a b ≡ false → sameFolded b a ≡ false
 folded-sym-false a b e = not-so (sameFolded b a) (λ f. true≢false (sym (sameFolded-sym b a f) ∙ e))
 
-pub distinct-at : (ns : List (List ℕ)) → distinct ns ≡ true → (i j : ℕ) → i < length ns → j < length ns → (i ≡ j → ⊥) → sameFolded (getD ns i []) (getD ns j []) ≡ false
+pub distinct-at : (ns : List (List ℕ)) → distinct ns ≡ true → (i j : ℕ) → i < length ns → j < length ns → (i ≡ j → ⊥)
+    → sameFolded (getD ns i []) (getD ns j []) ≡ false
 distinct-at [] e i j h l ne = absurd (omega arith)
 distinct-at (n ∷ ns) e zero zero h l ne = absurd (ne refl)
 distinct-at (n ∷ ns) e zero (suc j) h l ne = not-true _ (every-at (differs n) ns [] (both {b = distinct ns} e .0) j (omega arith))
@@ -79,23 +60,10 @@ distinct-at (n ∷ ns) e (suc i) zero h l ne =
 distinct-at (n ∷ ns) e (suc i) (suc j) h l ne =
     distinct-at ns (both {a = every (differs n) ns} e .1) i j (omega arith) (omega arith) (λ q. ne (ap suc q))
 
-pub apart-at : (ms ns : List (List ℕ)) → apart ms ns ≡ true → (i j : ℕ) → i < length ms → j < length ns → sameFolded (getD ms i []) (getD ns j []) ≡ false
+pub apart-at : (ms ns : List (List ℕ)) → apart ms ns ≡ true → (i j : ℕ) → i < length ms → j < length ns
+    → sameFolded (getD ms i []) (getD ns j []) ≡ false
 apart-at ms ns e i j h l =
     not-true _ (every-at (differs (getD ms i [])) ns [] (every-at (λ (m : List ℕ). every (differs m) ns) ms [] e i h) j l)
-
--- ---- the search for a number
-module _ (ns : List (List ℕ)) (i : ℕ) (s : List ℕ) where
-  pub number-hit : i < length ns → sameFolded s (getD ns i []) ≡ true → numberFrom i s (drop i ns) ≡ Number.At i
-  unfolding numberFrom
-  number-hit h e = rw (drop-cons ns i [] h, e)
-
-  pub number-miss : i < length ns → sameFolded s (getD ns i []) ≡ false → numberFrom i s (drop i ns) ≡ numberFrom (i + 1) s (drop (i + 1) ns)
-  unfolding numberFrom
-  number-miss h e = rw (add-one i, drop-cons ns i [] h, e)
-
-  pub number-none : length ns ≤ i → numberFrom i s (drop i ns) ≡ Number.Nothing
-  unfolding numberFrom
-  number-none h = rw (drop-of-length-le ns h)
 
 -- ---- what an answer says
 -- the number r counts from k on, and the name s is the one with that number
@@ -120,10 +88,17 @@ number-back k s (n ∷ ns) r e = by (sameFolded s n) refl (number-back (suc k) s
     by true f g = record { offset = 0; counts = sym (at-eq (rw f at e)) ∙ sym (add-zero k); within = omega arith; same = f }
     by false f g =
         let w = g (rw f at e) in
-        record { offset = suc (w .offset); counts = w .counts ∙ suc-add k (w .offset) ∙ sym (add-suc k (w .offset)); within = omega (arith, w .within); same = w .same }
+        record {
+          offset = suc (w .offset);
+          counts = w .counts ∙ suc-add k (w .offset)
+              ∙ sym (add-suc k (w .offset));
+          within = omega (arith, w .within);
+          same = w .same;
+        }
 
 -- among names that are distinct, whatever is the i-th but for the case of letters has the number i
-pub number-there : (k : ℕ) (s : List ℕ) (ns : List (List ℕ)) → distinct ns ≡ true → (i : ℕ) → i < length ns → sameFolded s (getD ns i []) ≡ true → numberFrom k s ns ≡ Number.At (k + i)
+pub number-there : (k : ℕ) (s : List ℕ) (ns : List (List ℕ)) → distinct ns ≡ true → (i : ℕ) → i < length ns → sameFolded s (getD ns i []) ≡ true
+    → numberFrom k s ns ≡ Number.At (k + i)
 unfolding numberFrom
 number-there k s [] e i h f = absurd (omega arith)
 number-there k s (n ∷ ns) e zero h f = rw (f, add-zero k)
@@ -158,7 +133,8 @@ unfolding isIn
 in-back s [] e = absurd (false≢true e)
 in-back s (n ∷ ns) e = by (sameBytes s n) refl (in-back s ns)
   where
-    by : (t : Bool) → sameBytes s n ≡ t → (isIn s ns ≡ true → (i : ℕ) × (i < length ns) × (s ≡ getD ns i [])) → (i : ℕ) × (i < suc (length ns)) × (s ≡ getD (n ∷ ns) i [])
+    by : (t : Bool) → sameBytes s n ≡ t → (isIn s ns ≡ true → (i : ℕ) × (i < length ns) × (s ≡ getD ns i []))
+        → (i : ℕ) × (i < suc (length ns)) × (s ≡ getD (n ∷ ns) i [])
     by true f g = (0, omega arith, same-eq s n f)
     by false f g =
         let w = g (rw f at e) in

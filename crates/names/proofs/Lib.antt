@@ -2,3 +2,4 @@
 pub mod Entries
 pub mod NameLaws
 pub mod Padded
+pub mod Slots

@@ -15,6 +15,7 @@ use lib.ListN.{length, take, drop}
 use borrow.Author.Tests.{leb-true, ne-eqb}
 use Rattle.scan.specs.Bytes.{blank, attrNameByte, other, runLength}
 use Rattle.scan.specs.Names.{lower, sameBytes, sameFolded}
+use Rattle.scan.specs.Text.{ascii}
 use Rattle.scan.proofs.Naming.{same-eq, same-refl, sameFolded-refl, sameFolded-sym}
 use Rattle.names.specs.declared.tables.Listed.{Listed}
 use Rattle.names.specs.declared.tables.Listed.the-variants.{StyleExtra, InlineExtra, RegionAttr, InlineModelled, Imsc1Extension}
@@ -22,7 +23,8 @@ use Rattle.names.specs.declared.lookup.Number.{Number}
 use Rattle.names.specs.Lists.{names, nameOf, styleExtra, inlineExtra, inlineModelled}
 use Rattle.names.specs.Numbers.{numberOf, containsName}
 use Rattle.names.specs.Plain.{plainByte, PlainName}
-use Rattle.names.proofs.Entries.{both, folded-trans, every, every-at, every-as, run-over, differs, distinct, distinct-at, apart, apart-at, number-back, number-there, number-nowhere, at-eq, nothing-at, not-so, in-there, in-back}
+use Rattle.names.proofs.Entries.{both, folded-trans, every, every-at, every-as, run-over, differs, distinct, distinct-at, apart, apart-at}
+use Rattle.names.proofs.Entries.{number-back, number-there, number-nowhere, at-eq, nothing-at, not-so, in-there, in-back}
 
 -- ---- the tests
 abbrev pub plainTest : List ℕ → Bool
@@ -80,7 +82,16 @@ module _ (b : ℕ) where
   pub plain-attr : plainByte b ≡ true → attrNameByte b ≡ true
   unfolding attrNameByte blank plainByte
   plain-attr h =
-      rw (ne-eqb b 32 (plain-not 32 h refl), ne-eqb b 9 (plain-not 9 h refl), ne-eqb b 10 (plain-not 10 h refl), ne-eqb b 13 (plain-not 13 h refl), ne-eqb b 62 (plain-not 62 h refl), ne-eqb b 47 (plain-not 47 h refl), ne-eqb b 61 (plain-not 61 h refl))
+      rw (
+        ne-eqb b 32 (plain-not 32 h refl),
+        ne-eqb b 9 (plain-not 9 h refl),
+        ne-eqb b 10 (plain-not 10 h refl),
+        ne-eqb b 13
+            (plain-not 13 h refl),
+        ne-eqb b 62 (plain-not 62 h refl),
+        ne-eqb b 47 (plain-not 47 h refl),
+        ne-eqb b 61 (plain-not 61 h refl),
+      )
 
 pub all-plain : (n : List ℕ) → plainTest n ≡ true → every plainByte n ≡ true
 all-plain n e = both {a = leb (length n) 25} (both {a = leb 1 (length n)} e .1) .1
@@ -155,9 +166,8 @@ module _ (list : Listed) (s : List ℕ) where
       nothing-at (sym e ∙ ap (numberOf list) (w .2) ∙ name-number list (w .0) (w .1)))
 
 -- ---- two lists against each other
--- `tts:backgroundColor`
 abbrev pub backgroundColor : List ℕ
-backgroundColor = 116 ∷ 116 ∷ 115 ∷ 58 ∷ 98 ∷ 97 ∷ 99 ∷ 107 ∷ 103 ∷ 114 ∷ 111 ∷ 117 ∷ 110 ∷ 100 ∷ 67 ∷ 111 ∷ 108 ∷ 111 ∷ 114 ∷ []
+backgroundColor = ascii "tts:backgroundColor"
 
 pub inline-is-style : inlineExtra ≡ take 1 styleExtra ++ backgroundColor ∷ drop 1 styleExtra
 inline-is-style = refl
@@ -168,7 +178,8 @@ module _ (i : ℕ) (h : i < length inlineModelled) where
 
   pub modelled-not-extra : numberOf InlineExtra (nameOf InlineModelled i) ≡ Number.Nothing
   modelled-not-extra =
-      number-nowhere 0 (nameOf InlineModelled i) inlineExtra (every-at (λ (m : List ℕ). every (differs m) inlineExtra) inlineModelled [] apart-tested i h)
+      number-nowhere 0 (nameOf InlineModelled i) inlineExtra
+      (every-at (λ (m : List ℕ). every (differs m) inlineExtra) inlineModelled [] apart-tested i h)
 
 -- no text is a name of both, letters in any case
 pub modelled-or-extra : (s : List ℕ) (i j : ℕ) → numberOf InlineModelled s ≡ Number.At i → numberOf InlineExtra s ≡ Number.At j → ⊥

@@ -5,20 +5,17 @@ use mathlib.Core.Bool.{true, false}
 use mathlib.Core.List.{List, [], _∷_, _++_}
 use native.Mathlib.Omega.{arith}
 use native.Mathlib.Nat.{add-zero, zero-add}
-use lib.ListN.{length, getD, take, drop, replicate, length-append, length-replicate}
-use lib.Seq.{take-append-seam, length-take-le, drop-at}
+use lib.ListN.{length, getD, take, drop, replicate, length-append, length-take, length-drop, length-replicate}
+use lib.Seq.{take-append-seam, length-take-le, drop-at, getD-take, getD-drop}
 use Rattle.scan.specs.Bytes.{other, runEnd, runLength}
-use Rattle.scan.specs.Names.{sameFolded}
 use Rattle.scan.proofs.Runs.{run-length}
 use Rattle.names.specs.declared.tables.Listed.{Listed}
 use Rattle.names.specs.declared.tables.Name.{Name}
-use Rattle.names.specs.declared.lookup.Number.{Number}
 use Rattle.names.specs.Lists.{names, nameOf}
-use Rattle.names.specs.Numbers.{numberFrom, numberOf}
 use Rattle.names.specs.Plain.{plainByte}
-use Rattle.names.specs.Posts.{front, fronts, Cut, Holds}
-use Rattle.names.proofs.Entries.{both, every, every-as, run-over, number-hit, number-miss, number-none}
-use Rattle.names.proofs.NameLaws.{plainTest, plain-tested, all-plain, plain-no-blank, plain-bytes, plain-name}
+use Rattle.names.specs.Posts.{Cut, Holds}
+use Rattle.names.proofs.Entries.{every, every-as, run-over}
+use Rattle.names.proofs.NameLaws.{plain-no-blank, plain-bytes, plain-name}
 
 abbrev pub padded : List ℕ → List ℕ
 padded n = n ++ replicate (25 - length n) 32
@@ -60,48 +57,22 @@ pub held : (list : Listed) (i : ℕ) → i < length (names list) → (r : Name) 
 held list i h r c =
     holds (nameOf list i) r (plain-bytes list i h) (plain-name list i h .most) (rw (row-at (names list) i h) at c)
 
+-- the same where the table is in two parts, of which the first has k rows
+module _ (list : Listed) (k i : ℕ) (h : i < length (names list)) (r : Name) where
+  pub held-first : i < k → Cut (getD (rows (take k (names list))) i []) r → Holds (nameOf list i) r
+  held-first l c =
+      let m : i < length (take k (names list)) = simp length-take (omega arith) in
+      let e : getD (rows (take k (names list))) i [] ≡ getD (rows (names list)) i [] =
+      row-at (take k (names list)) i m ∙ rw (getD-take k (names list) i [] l) (sym (row-at (names list) i h)) in
+      held list i h r (rw e at c)
+
+  pub held-second : k ≤ i → Cut (getD (rows (drop k (names list))) (i - k) []) r → Holds (nameOf list i) r
+  held-second l c =
+      let m : i - k < length (drop k (names list)) = simp length-drop (omega arith) in
+      let z : k + (i - k) ≡ i = omega arith in
+      let e : getD (rows (drop k (names list))) (i - k) [] ≡ getD (rows (names list)) i [] =
+      row-at (drop k (names list)) (i - k) m ∙ rw (getD-drop k (names list) (i - k) [], z) (sym (row-at (names list) i h)) in
+      held list i h r (rw e at c)
+
 pub front-length : (w : List ℕ) (r : Name) → Holds w r → r .len ≡ length (take (r .len) (r .bytes))
 front-length w r c = sym (length-take-le (r .len) (r .bytes) (omega (arith, c .whole, c .within)))
-
--- ---- a table of rows that is searched
-fronts-length : (t : List (List ℕ)) → length (fronts t) ≡ length t
-fronts-length [] = refl
-fronts-length (row ∷ t) = ap suc (fronts-length t)
-
-fronts-at : (t : List (List ℕ)) (i : ℕ) → i < length t → getD (fronts t) i [] ≡ front (getD t i [])
-fronts-at [] i h = absurd (omega arith)
-fronts-at (row ∷ t) zero h = refl
-fronts-at (row ∷ t) (suc i) h = fronts-at t i (omega arith)
-
-module _ (t : List (List ℕ)) (i : ℕ) (s : List ℕ) where
-  pub row-hit : i < length t → sameFolded s (front (getD t i [])) ≡ true → numberFrom i s (drop i (fronts t)) ≡ Number.At i
-  row-hit h e = number-hit (fronts t) i s (rw (fronts-length t) h) (rw (fronts-at t i h) e)
-
-  pub row-miss : i < length t → sameFolded s (front (getD t i [])) ≡ false → numberFrom i s (drop i (fronts t)) ≡ numberFrom (i + 1) s (drop (i + 1) (fronts t))
-  row-miss h e = number-miss (fronts t) i s (rw (fronts-length t) h) (rw (fronts-at t i h) e)
-
-  pub row-none : length t ≤ i → numberFrom i s (drop i (fronts t)) ≡ Number.Nothing
-  row-none h = number-none (fronts t) i s (rw (fronts-length t) h)
-
--- the table of a list gives its names
-front-padded : (n : List ℕ) → every plainByte n ≡ true → front (padded n) ≡ n
-front-padded n e = rw (first-blank n e) (take-append-seam n (replicate (25 - length n) 32))
-
-fronts-rows : (ns : List (List ℕ)) → every (every plainByte) ns ≡ true → fronts (rows ns) ≡ ns
-fronts-rows [] e = refl
-fronts-rows (n ∷ ns) e =
-    rw (front-padded n (both {b = every (every plainByte) ns} e .0), fronts-rows ns (both {a = every plainByte n} e .1))
-
-pub searched : (list : Listed) (s : List ℕ) → numberFrom 0 s (fronts (rows (names list))) ≡ numberOf list s
-searched list s = ap (numberFrom 0 s) (fronts-rows (names list) (every-as plainTest (every plainByte) all-plain (names list) (plain-tested list)))
-
--- ---- a row that is cut
-module _ (row : List ℕ) (r : Name) (c : Cut row r) where
-  pub cut-within : r .len ≤ length (r .bytes)
-  cut-within = rw (c .bytes-are) (c .within)
-
-  pub cut-length : r .len ≡ length (take (r .len) (r .bytes))
-  cut-length = sym (length-take-le (r .len) (r .bytes) cut-within)
-
-  pub cut-front : take (r .len) (r .bytes) ≡ front row
-  cut-front = rw (c .bytes-are, c .len-is)

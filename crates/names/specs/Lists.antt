@@ -1,189 +1,190 @@
--- The lists of attribute names, in the Rust's order, each as its bytes. The order is that of TTML 2, 10.2 (its styling attributes, 10.2.2 to
+-- The lists of attribute names, in the Rust's order. The order is that of TTML 2, 10.2 (its styling attributes, 10.2.2 to
 -- 10.2.52), as the Rust cites it. Definitions alone.
 use Prim.Native.Nat.{ℕ}
 use mathlib.Core.List.{List, [], _∷_}
 use lib.ListN.{getD}
+use Rattle.scan.specs.Text.{ascii}
 use Rattle.names.specs.declared.tables.Listed.{Listed}
 use Rattle.names.specs.declared.tables.Listed.the-variants.{StyleExtra, InlineExtra, RegionAttr, InlineModelled, Imsc1Extension}
 
 -- The Rust's `STYLE_EXTRA_ORDER`: TTML 2, 10.2, without the seven names that a style's fields carry, then IMSC's two.
 abbrev pub styleExtra : List (List ℕ)
 styleExtra =
-    (116 ∷ 116 ∷ 115 ∷ 58 ∷ 98 ∷ 97 ∷ 99 ∷ 107 ∷ 103 ∷ 114 ∷ 111 ∷ 117 ∷ 110 ∷ 100 ∷ 67 ∷ 108 ∷ 105 ∷ 112 ∷ [])  -- tts:backgroundClip
-    ∷ (116 ∷ 116 ∷ 115 ∷ 58 ∷ 98 ∷ 97 ∷ 99 ∷ 107 ∷ 103 ∷ 114 ∷ 111 ∷ 117 ∷ 110 ∷ 100 ∷ 69 ∷ 120 ∷ 116 ∷ 101 ∷ 110 ∷ 116 ∷ [])  -- tts:backgroundExtent
-    ∷ (116 ∷ 116 ∷ 115 ∷ 58 ∷ 98 ∷ 97 ∷ 99 ∷ 107 ∷ 103 ∷ 114 ∷ 111 ∷ 117 ∷ 110 ∷ 100 ∷ 73 ∷ 109 ∷ 97 ∷ 103 ∷ 101 ∷ [])  -- tts:backgroundImage
-    ∷ (116 ∷ 116 ∷ 115 ∷ 58 ∷ 98 ∷ 97 ∷ 99 ∷ 107 ∷ 103 ∷ 114 ∷ 111 ∷ 117 ∷ 110 ∷ 100 ∷ 79 ∷ 114 ∷ 105 ∷ 103 ∷ 105 ∷ 110 ∷ [])  -- tts:backgroundOrigin
-    ∷ (116 ∷ 116 ∷ 115 ∷ 58 ∷ 98 ∷ 97 ∷ 99 ∷ 107 ∷ 103 ∷ 114 ∷ 111 ∷ 117 ∷ 110 ∷ 100 ∷ 80 ∷ 111 ∷ 115 ∷ 105 ∷ 116 ∷ 105 ∷ 111 ∷ 110 ∷ [])  -- tts:backgroundPosition
-    ∷ (116 ∷ 116 ∷ 115 ∷ 58 ∷ 98 ∷ 97 ∷ 99 ∷ 107 ∷ 103 ∷ 114 ∷ 111 ∷ 117 ∷ 110 ∷ 100 ∷ 82 ∷ 101 ∷ 112 ∷ 101 ∷ 97 ∷ 116 ∷ [])  -- tts:backgroundRepeat
-    ∷ (116 ∷ 116 ∷ 115 ∷ 58 ∷ 98 ∷ 111 ∷ 114 ∷ 100 ∷ 101 ∷ 114 ∷ [])  -- tts:border
-    ∷ (116 ∷ 116 ∷ 115 ∷ 58 ∷ 98 ∷ 112 ∷ 100 ∷ [])  -- tts:bpd
-    ∷ (116 ∷ 116 ∷ 115 ∷ 58 ∷ 100 ∷ 105 ∷ 114 ∷ 101 ∷ 99 ∷ 116 ∷ 105 ∷ 111 ∷ 110 ∷ [])  -- tts:direction
-    ∷ (116 ∷ 116 ∷ 115 ∷ 58 ∷ 100 ∷ 105 ∷ 115 ∷ 112 ∷ 97 ∷ 114 ∷ 105 ∷ 116 ∷ 121 ∷ [])  -- tts:disparity
-    ∷ (116 ∷ 116 ∷ 115 ∷ 58 ∷ 100 ∷ 105 ∷ 115 ∷ 112 ∷ 108 ∷ 97 ∷ 121 ∷ [])  -- tts:display
-    ∷ (116 ∷ 116 ∷ 115 ∷ 58 ∷ 100 ∷ 105 ∷ 115 ∷ 112 ∷ 108 ∷ 97 ∷ 121 ∷ 65 ∷ 108 ∷ 105 ∷ 103 ∷ 110 ∷ [])  -- tts:displayAlign
-    ∷ (116 ∷ 116 ∷ 115 ∷ 58 ∷ 101 ∷ 120 ∷ 116 ∷ 101 ∷ 110 ∷ 116 ∷ [])  -- tts:extent
-    ∷ (116 ∷ 116 ∷ 115 ∷ 58 ∷ 102 ∷ 111 ∷ 110 ∷ 116 ∷ 75 ∷ 101 ∷ 114 ∷ 110 ∷ 105 ∷ 110 ∷ 103 ∷ [])  -- tts:fontKerning
-    ∷ (116 ∷ 116 ∷ 115 ∷ 58 ∷ 102 ∷ 111 ∷ 110 ∷ 116 ∷ 83 ∷ 101 ∷ 108 ∷ 101 ∷ 99 ∷ 116 ∷ 105 ∷ 111 ∷ 110 ∷ 83 ∷ 116 ∷ 114 ∷ 97 ∷ 116 ∷ 101 ∷ 103 ∷ 121 ∷ [])  -- tts:fontSelectionStrategy
-    ∷ (116 ∷ 116 ∷ 115 ∷ 58 ∷ 102 ∷ 111 ∷ 110 ∷ 116 ∷ 83 ∷ 104 ∷ 101 ∷ 97 ∷ 114 ∷ [])  -- tts:fontShear
-    ∷ (116 ∷ 116 ∷ 115 ∷ 58 ∷ 102 ∷ 111 ∷ 110 ∷ 116 ∷ 86 ∷ 97 ∷ 114 ∷ 105 ∷ 97 ∷ 110 ∷ 116 ∷ [])  -- tts:fontVariant
-    ∷ (116 ∷ 116 ∷ 115 ∷ 58 ∷ 105 ∷ 112 ∷ 100 ∷ [])  -- tts:ipd
-    ∷ (116 ∷ 116 ∷ 115 ∷ 58 ∷ 108 ∷ 101 ∷ 116 ∷ 116 ∷ 101 ∷ 114 ∷ 83 ∷ 112 ∷ 97 ∷ 99 ∷ 105 ∷ 110 ∷ 103 ∷ [])  -- tts:letterSpacing
-    ∷ (116 ∷ 116 ∷ 115 ∷ 58 ∷ 108 ∷ 105 ∷ 110 ∷ 101 ∷ 72 ∷ 101 ∷ 105 ∷ 103 ∷ 104 ∷ 116 ∷ [])  -- tts:lineHeight
-    ∷ (116 ∷ 116 ∷ 115 ∷ 58 ∷ 108 ∷ 105 ∷ 110 ∷ 101 ∷ 83 ∷ 104 ∷ 101 ∷ 97 ∷ 114 ∷ [])  -- tts:lineShear
-    ∷ (116 ∷ 116 ∷ 115 ∷ 58 ∷ 108 ∷ 117 ∷ 109 ∷ 105 ∷ 110 ∷ 97 ∷ 110 ∷ 99 ∷ 101 ∷ 71 ∷ 97 ∷ 105 ∷ 110 ∷ [])  -- tts:luminanceGain
-    ∷ (116 ∷ 116 ∷ 115 ∷ 58 ∷ 111 ∷ 112 ∷ 97 ∷ 99 ∷ 105 ∷ 116 ∷ 121 ∷ [])  -- tts:opacity
-    ∷ (116 ∷ 116 ∷ 115 ∷ 58 ∷ 111 ∷ 114 ∷ 105 ∷ 103 ∷ 105 ∷ 110 ∷ [])  -- tts:origin
-    ∷ (116 ∷ 116 ∷ 115 ∷ 58 ∷ 111 ∷ 118 ∷ 101 ∷ 114 ∷ 102 ∷ 108 ∷ 111 ∷ 119 ∷ [])  -- tts:overflow
-    ∷ (116 ∷ 116 ∷ 115 ∷ 58 ∷ 112 ∷ 97 ∷ 100 ∷ 100 ∷ 105 ∷ 110 ∷ 103 ∷ [])  -- tts:padding
-    ∷ (116 ∷ 116 ∷ 115 ∷ 58 ∷ 112 ∷ 111 ∷ 115 ∷ 105 ∷ 116 ∷ 105 ∷ 111 ∷ 110 ∷ [])  -- tts:position
-    ∷ (116 ∷ 116 ∷ 115 ∷ 58 ∷ 114 ∷ 117 ∷ 98 ∷ 121 ∷ [])  -- tts:ruby
-    ∷ (116 ∷ 116 ∷ 115 ∷ 58 ∷ 114 ∷ 117 ∷ 98 ∷ 121 ∷ 65 ∷ 108 ∷ 105 ∷ 103 ∷ 110 ∷ [])  -- tts:rubyAlign
-    ∷ (116 ∷ 116 ∷ 115 ∷ 58 ∷ 114 ∷ 117 ∷ 98 ∷ 121 ∷ 80 ∷ 111 ∷ 115 ∷ 105 ∷ 116 ∷ 105 ∷ 111 ∷ 110 ∷ [])  -- tts:rubyPosition
-    ∷ (116 ∷ 116 ∷ 115 ∷ 58 ∷ 114 ∷ 117 ∷ 98 ∷ 121 ∷ 82 ∷ 101 ∷ 115 ∷ 101 ∷ 114 ∷ 118 ∷ 101 ∷ [])  -- tts:rubyReserve
-    ∷ (116 ∷ 116 ∷ 115 ∷ 58 ∷ 115 ∷ 104 ∷ 101 ∷ 97 ∷ 114 ∷ [])  -- tts:shear
-    ∷ (116 ∷ 116 ∷ 115 ∷ 58 ∷ 115 ∷ 104 ∷ 111 ∷ 119 ∷ 66 ∷ 97 ∷ 99 ∷ 107 ∷ 103 ∷ 114 ∷ 111 ∷ 117 ∷ 110 ∷ 100 ∷ [])  -- tts:showBackground
-    ∷ (116 ∷ 116 ∷ 115 ∷ 58 ∷ 116 ∷ 101 ∷ 120 ∷ 116 ∷ 65 ∷ 108 ∷ 105 ∷ 103 ∷ 110 ∷ [])  -- tts:textAlign
-    ∷ (116 ∷ 116 ∷ 115 ∷ 58 ∷ 116 ∷ 101 ∷ 120 ∷ 116 ∷ 67 ∷ 111 ∷ 109 ∷ 98 ∷ 105 ∷ 110 ∷ 101 ∷ [])  -- tts:textCombine
-    ∷ (116 ∷ 116 ∷ 115 ∷ 58 ∷ 116 ∷ 101 ∷ 120 ∷ 116 ∷ 69 ∷ 109 ∷ 112 ∷ 104 ∷ 97 ∷ 115 ∷ 105 ∷ 115 ∷ [])  -- tts:textEmphasis
-    ∷ (116 ∷ 116 ∷ 115 ∷ 58 ∷ 116 ∷ 101 ∷ 120 ∷ 116 ∷ 79 ∷ 114 ∷ 105 ∷ 101 ∷ 110 ∷ 116 ∷ 97 ∷ 116 ∷ 105 ∷ 111 ∷ 110 ∷ [])  -- tts:textOrientation
-    ∷ (116 ∷ 116 ∷ 115 ∷ 58 ∷ 116 ∷ 101 ∷ 120 ∷ 116 ∷ 79 ∷ 117 ∷ 116 ∷ 108 ∷ 105 ∷ 110 ∷ 101 ∷ [])  -- tts:textOutline
-    ∷ (116 ∷ 116 ∷ 115 ∷ 58 ∷ 116 ∷ 101 ∷ 120 ∷ 116 ∷ 83 ∷ 104 ∷ 97 ∷ 100 ∷ 111 ∷ 119 ∷ [])  -- tts:textShadow
-    ∷ (116 ∷ 116 ∷ 115 ∷ 58 ∷ 117 ∷ 110 ∷ 105 ∷ 99 ∷ 111 ∷ 100 ∷ 101 ∷ 66 ∷ 105 ∷ 100 ∷ 105 ∷ [])  -- tts:unicodeBidi
-    ∷ (116 ∷ 116 ∷ 115 ∷ 58 ∷ 118 ∷ 105 ∷ 115 ∷ 105 ∷ 98 ∷ 105 ∷ 108 ∷ 105 ∷ 116 ∷ 121 ∷ [])  -- tts:visibility
-    ∷ (116 ∷ 116 ∷ 115 ∷ 58 ∷ 119 ∷ 114 ∷ 97 ∷ 112 ∷ 79 ∷ 112 ∷ 116 ∷ 105 ∷ 111 ∷ 110 ∷ [])  -- tts:wrapOption
-    ∷ (116 ∷ 116 ∷ 115 ∷ 58 ∷ 119 ∷ 114 ∷ 105 ∷ 116 ∷ 105 ∷ 110 ∷ 103 ∷ 77 ∷ 111 ∷ 100 ∷ 101 ∷ [])  -- tts:writingMode
-    ∷ (116 ∷ 116 ∷ 115 ∷ 58 ∷ 122 ∷ 73 ∷ 110 ∷ 100 ∷ 101 ∷ 120 ∷ [])  -- tts:zIndex
-    ∷ (105 ∷ 116 ∷ 116 ∷ 115 ∷ 58 ∷ 102 ∷ 111 ∷ 114 ∷ 99 ∷ 101 ∷ 100 ∷ 68 ∷ 105 ∷ 115 ∷ 112 ∷ 108 ∷ 97 ∷ 121 ∷ [])  -- itts:forcedDisplay
-    ∷ (105 ∷ 116 ∷ 116 ∷ 115 ∷ 58 ∷ 102 ∷ 105 ∷ 108 ∷ 108 ∷ 76 ∷ 105 ∷ 110 ∷ 101 ∷ 71 ∷ 97 ∷ 112 ∷ [])  -- itts:fillLineGap
+    ascii "tts:backgroundClip"
+    ∷ ascii "tts:backgroundExtent"
+    ∷ ascii "tts:backgroundImage"
+    ∷ ascii "tts:backgroundOrigin"
+    ∷ ascii "tts:backgroundPosition"
+    ∷ ascii "tts:backgroundRepeat"
+    ∷ ascii "tts:border"
+    ∷ ascii "tts:bpd"
+    ∷ ascii "tts:direction"
+    ∷ ascii "tts:disparity"
+    ∷ ascii "tts:display"
+    ∷ ascii "tts:displayAlign"
+    ∷ ascii "tts:extent"
+    ∷ ascii "tts:fontKerning"
+    ∷ ascii "tts:fontSelectionStrategy"
+    ∷ ascii "tts:fontShear"
+    ∷ ascii "tts:fontVariant"
+    ∷ ascii "tts:ipd"
+    ∷ ascii "tts:letterSpacing"
+    ∷ ascii "tts:lineHeight"
+    ∷ ascii "tts:lineShear"
+    ∷ ascii "tts:luminanceGain"
+    ∷ ascii "tts:opacity"
+    ∷ ascii "tts:origin"
+    ∷ ascii "tts:overflow"
+    ∷ ascii "tts:padding"
+    ∷ ascii "tts:position"
+    ∷ ascii "tts:ruby"
+    ∷ ascii "tts:rubyAlign"
+    ∷ ascii "tts:rubyPosition"
+    ∷ ascii "tts:rubyReserve"
+    ∷ ascii "tts:shear"
+    ∷ ascii "tts:showBackground"
+    ∷ ascii "tts:textAlign"
+    ∷ ascii "tts:textCombine"
+    ∷ ascii "tts:textEmphasis"
+    ∷ ascii "tts:textOrientation"
+    ∷ ascii "tts:textOutline"
+    ∷ ascii "tts:textShadow"
+    ∷ ascii "tts:unicodeBidi"
+    ∷ ascii "tts:visibility"
+    ∷ ascii "tts:wrapOption"
+    ∷ ascii "tts:writingMode"
+    ∷ ascii "tts:zIndex"
+    ∷ ascii "itts:forcedDisplay"
+    ∷ ascii "itts:fillLineGap"
     ∷ []
 
 -- The Rust's `P_INLINE_EXTRA_ORDER`: TTML 2, 10.2, without the names of `inlineModelled`, then IMSC's two.
 abbrev pub inlineExtra : List (List ℕ)
 inlineExtra =
-    (116 ∷ 116 ∷ 115 ∷ 58 ∷ 98 ∷ 97 ∷ 99 ∷ 107 ∷ 103 ∷ 114 ∷ 111 ∷ 117 ∷ 110 ∷ 100 ∷ 67 ∷ 108 ∷ 105 ∷ 112 ∷ [])  -- tts:backgroundClip
-    ∷ (116 ∷ 116 ∷ 115 ∷ 58 ∷ 98 ∷ 97 ∷ 99 ∷ 107 ∷ 103 ∷ 114 ∷ 111 ∷ 117 ∷ 110 ∷ 100 ∷ 67 ∷ 111 ∷ 108 ∷ 111 ∷ 114 ∷ [])  -- tts:backgroundColor
-    ∷ (116 ∷ 116 ∷ 115 ∷ 58 ∷ 98 ∷ 97 ∷ 99 ∷ 107 ∷ 103 ∷ 114 ∷ 111 ∷ 117 ∷ 110 ∷ 100 ∷ 69 ∷ 120 ∷ 116 ∷ 101 ∷ 110 ∷ 116 ∷ [])  -- tts:backgroundExtent
-    ∷ (116 ∷ 116 ∷ 115 ∷ 58 ∷ 98 ∷ 97 ∷ 99 ∷ 107 ∷ 103 ∷ 114 ∷ 111 ∷ 117 ∷ 110 ∷ 100 ∷ 73 ∷ 109 ∷ 97 ∷ 103 ∷ 101 ∷ [])  -- tts:backgroundImage
-    ∷ (116 ∷ 116 ∷ 115 ∷ 58 ∷ 98 ∷ 97 ∷ 99 ∷ 107 ∷ 103 ∷ 114 ∷ 111 ∷ 117 ∷ 110 ∷ 100 ∷ 79 ∷ 114 ∷ 105 ∷ 103 ∷ 105 ∷ 110 ∷ [])  -- tts:backgroundOrigin
-    ∷ (116 ∷ 116 ∷ 115 ∷ 58 ∷ 98 ∷ 97 ∷ 99 ∷ 107 ∷ 103 ∷ 114 ∷ 111 ∷ 117 ∷ 110 ∷ 100 ∷ 80 ∷ 111 ∷ 115 ∷ 105 ∷ 116 ∷ 105 ∷ 111 ∷ 110 ∷ [])  -- tts:backgroundPosition
-    ∷ (116 ∷ 116 ∷ 115 ∷ 58 ∷ 98 ∷ 97 ∷ 99 ∷ 107 ∷ 103 ∷ 114 ∷ 111 ∷ 117 ∷ 110 ∷ 100 ∷ 82 ∷ 101 ∷ 112 ∷ 101 ∷ 97 ∷ 116 ∷ [])  -- tts:backgroundRepeat
-    ∷ (116 ∷ 116 ∷ 115 ∷ 58 ∷ 98 ∷ 111 ∷ 114 ∷ 100 ∷ 101 ∷ 114 ∷ [])  -- tts:border
-    ∷ (116 ∷ 116 ∷ 115 ∷ 58 ∷ 98 ∷ 112 ∷ 100 ∷ [])  -- tts:bpd
-    ∷ (116 ∷ 116 ∷ 115 ∷ 58 ∷ 100 ∷ 105 ∷ 114 ∷ 101 ∷ 99 ∷ 116 ∷ 105 ∷ 111 ∷ 110 ∷ [])  -- tts:direction
-    ∷ (116 ∷ 116 ∷ 115 ∷ 58 ∷ 100 ∷ 105 ∷ 115 ∷ 112 ∷ 97 ∷ 114 ∷ 105 ∷ 116 ∷ 121 ∷ [])  -- tts:disparity
-    ∷ (116 ∷ 116 ∷ 115 ∷ 58 ∷ 100 ∷ 105 ∷ 115 ∷ 112 ∷ 108 ∷ 97 ∷ 121 ∷ [])  -- tts:display
-    ∷ (116 ∷ 116 ∷ 115 ∷ 58 ∷ 100 ∷ 105 ∷ 115 ∷ 112 ∷ 108 ∷ 97 ∷ 121 ∷ 65 ∷ 108 ∷ 105 ∷ 103 ∷ 110 ∷ [])  -- tts:displayAlign
-    ∷ (116 ∷ 116 ∷ 115 ∷ 58 ∷ 101 ∷ 120 ∷ 116 ∷ 101 ∷ 110 ∷ 116 ∷ [])  -- tts:extent
-    ∷ (116 ∷ 116 ∷ 115 ∷ 58 ∷ 102 ∷ 111 ∷ 110 ∷ 116 ∷ 75 ∷ 101 ∷ 114 ∷ 110 ∷ 105 ∷ 110 ∷ 103 ∷ [])  -- tts:fontKerning
-    ∷ (116 ∷ 116 ∷ 115 ∷ 58 ∷ 102 ∷ 111 ∷ 110 ∷ 116 ∷ 83 ∷ 101 ∷ 108 ∷ 101 ∷ 99 ∷ 116 ∷ 105 ∷ 111 ∷ 110 ∷ 83 ∷ 116 ∷ 114 ∷ 97 ∷ 116 ∷ 101 ∷ 103 ∷ 121 ∷ [])  -- tts:fontSelectionStrategy
-    ∷ (116 ∷ 116 ∷ 115 ∷ 58 ∷ 102 ∷ 111 ∷ 110 ∷ 116 ∷ 83 ∷ 104 ∷ 101 ∷ 97 ∷ 114 ∷ [])  -- tts:fontShear
-    ∷ (116 ∷ 116 ∷ 115 ∷ 58 ∷ 102 ∷ 111 ∷ 110 ∷ 116 ∷ 86 ∷ 97 ∷ 114 ∷ 105 ∷ 97 ∷ 110 ∷ 116 ∷ [])  -- tts:fontVariant
-    ∷ (116 ∷ 116 ∷ 115 ∷ 58 ∷ 105 ∷ 112 ∷ 100 ∷ [])  -- tts:ipd
-    ∷ (116 ∷ 116 ∷ 115 ∷ 58 ∷ 108 ∷ 101 ∷ 116 ∷ 116 ∷ 101 ∷ 114 ∷ 83 ∷ 112 ∷ 97 ∷ 99 ∷ 105 ∷ 110 ∷ 103 ∷ [])  -- tts:letterSpacing
-    ∷ (116 ∷ 116 ∷ 115 ∷ 58 ∷ 108 ∷ 105 ∷ 110 ∷ 101 ∷ 72 ∷ 101 ∷ 105 ∷ 103 ∷ 104 ∷ 116 ∷ [])  -- tts:lineHeight
-    ∷ (116 ∷ 116 ∷ 115 ∷ 58 ∷ 108 ∷ 105 ∷ 110 ∷ 101 ∷ 83 ∷ 104 ∷ 101 ∷ 97 ∷ 114 ∷ [])  -- tts:lineShear
-    ∷ (116 ∷ 116 ∷ 115 ∷ 58 ∷ 108 ∷ 117 ∷ 109 ∷ 105 ∷ 110 ∷ 97 ∷ 110 ∷ 99 ∷ 101 ∷ 71 ∷ 97 ∷ 105 ∷ 110 ∷ [])  -- tts:luminanceGain
-    ∷ (116 ∷ 116 ∷ 115 ∷ 58 ∷ 111 ∷ 112 ∷ 97 ∷ 99 ∷ 105 ∷ 116 ∷ 121 ∷ [])  -- tts:opacity
-    ∷ (116 ∷ 116 ∷ 115 ∷ 58 ∷ 111 ∷ 114 ∷ 105 ∷ 103 ∷ 105 ∷ 110 ∷ [])  -- tts:origin
-    ∷ (116 ∷ 116 ∷ 115 ∷ 58 ∷ 111 ∷ 118 ∷ 101 ∷ 114 ∷ 102 ∷ 108 ∷ 111 ∷ 119 ∷ [])  -- tts:overflow
-    ∷ (116 ∷ 116 ∷ 115 ∷ 58 ∷ 112 ∷ 97 ∷ 100 ∷ 100 ∷ 105 ∷ 110 ∷ 103 ∷ [])  -- tts:padding
-    ∷ (116 ∷ 116 ∷ 115 ∷ 58 ∷ 112 ∷ 111 ∷ 115 ∷ 105 ∷ 116 ∷ 105 ∷ 111 ∷ 110 ∷ [])  -- tts:position
-    ∷ (116 ∷ 116 ∷ 115 ∷ 58 ∷ 114 ∷ 117 ∷ 98 ∷ 121 ∷ [])  -- tts:ruby
-    ∷ (116 ∷ 116 ∷ 115 ∷ 58 ∷ 114 ∷ 117 ∷ 98 ∷ 121 ∷ 65 ∷ 108 ∷ 105 ∷ 103 ∷ 110 ∷ [])  -- tts:rubyAlign
-    ∷ (116 ∷ 116 ∷ 115 ∷ 58 ∷ 114 ∷ 117 ∷ 98 ∷ 121 ∷ 80 ∷ 111 ∷ 115 ∷ 105 ∷ 116 ∷ 105 ∷ 111 ∷ 110 ∷ [])  -- tts:rubyPosition
-    ∷ (116 ∷ 116 ∷ 115 ∷ 58 ∷ 114 ∷ 117 ∷ 98 ∷ 121 ∷ 82 ∷ 101 ∷ 115 ∷ 101 ∷ 114 ∷ 118 ∷ 101 ∷ [])  -- tts:rubyReserve
-    ∷ (116 ∷ 116 ∷ 115 ∷ 58 ∷ 115 ∷ 104 ∷ 101 ∷ 97 ∷ 114 ∷ [])  -- tts:shear
-    ∷ (116 ∷ 116 ∷ 115 ∷ 58 ∷ 115 ∷ 104 ∷ 111 ∷ 119 ∷ 66 ∷ 97 ∷ 99 ∷ 107 ∷ 103 ∷ 114 ∷ 111 ∷ 117 ∷ 110 ∷ 100 ∷ [])  -- tts:showBackground
-    ∷ (116 ∷ 116 ∷ 115 ∷ 58 ∷ 116 ∷ 101 ∷ 120 ∷ 116 ∷ 65 ∷ 108 ∷ 105 ∷ 103 ∷ 110 ∷ [])  -- tts:textAlign
-    ∷ (116 ∷ 116 ∷ 115 ∷ 58 ∷ 116 ∷ 101 ∷ 120 ∷ 116 ∷ 67 ∷ 111 ∷ 109 ∷ 98 ∷ 105 ∷ 110 ∷ 101 ∷ [])  -- tts:textCombine
-    ∷ (116 ∷ 116 ∷ 115 ∷ 58 ∷ 116 ∷ 101 ∷ 120 ∷ 116 ∷ 69 ∷ 109 ∷ 112 ∷ 104 ∷ 97 ∷ 115 ∷ 105 ∷ 115 ∷ [])  -- tts:textEmphasis
-    ∷ (116 ∷ 116 ∷ 115 ∷ 58 ∷ 116 ∷ 101 ∷ 120 ∷ 116 ∷ 79 ∷ 114 ∷ 105 ∷ 101 ∷ 110 ∷ 116 ∷ 97 ∷ 116 ∷ 105 ∷ 111 ∷ 110 ∷ [])  -- tts:textOrientation
-    ∷ (116 ∷ 116 ∷ 115 ∷ 58 ∷ 116 ∷ 101 ∷ 120 ∷ 116 ∷ 79 ∷ 117 ∷ 116 ∷ 108 ∷ 105 ∷ 110 ∷ 101 ∷ [])  -- tts:textOutline
-    ∷ (116 ∷ 116 ∷ 115 ∷ 58 ∷ 116 ∷ 101 ∷ 120 ∷ 116 ∷ 83 ∷ 104 ∷ 97 ∷ 100 ∷ 111 ∷ 119 ∷ [])  -- tts:textShadow
-    ∷ (116 ∷ 116 ∷ 115 ∷ 58 ∷ 117 ∷ 110 ∷ 105 ∷ 99 ∷ 111 ∷ 100 ∷ 101 ∷ 66 ∷ 105 ∷ 100 ∷ 105 ∷ [])  -- tts:unicodeBidi
-    ∷ (116 ∷ 116 ∷ 115 ∷ 58 ∷ 118 ∷ 105 ∷ 115 ∷ 105 ∷ 98 ∷ 105 ∷ 108 ∷ 105 ∷ 116 ∷ 121 ∷ [])  -- tts:visibility
-    ∷ (116 ∷ 116 ∷ 115 ∷ 58 ∷ 119 ∷ 114 ∷ 97 ∷ 112 ∷ 79 ∷ 112 ∷ 116 ∷ 105 ∷ 111 ∷ 110 ∷ [])  -- tts:wrapOption
-    ∷ (116 ∷ 116 ∷ 115 ∷ 58 ∷ 119 ∷ 114 ∷ 105 ∷ 116 ∷ 105 ∷ 110 ∷ 103 ∷ 77 ∷ 111 ∷ 100 ∷ 101 ∷ [])  -- tts:writingMode
-    ∷ (116 ∷ 116 ∷ 115 ∷ 58 ∷ 122 ∷ 73 ∷ 110 ∷ 100 ∷ 101 ∷ 120 ∷ [])  -- tts:zIndex
-    ∷ (105 ∷ 116 ∷ 116 ∷ 115 ∷ 58 ∷ 102 ∷ 111 ∷ 114 ∷ 99 ∷ 101 ∷ 100 ∷ 68 ∷ 105 ∷ 115 ∷ 112 ∷ 108 ∷ 97 ∷ 121 ∷ [])  -- itts:forcedDisplay
-    ∷ (105 ∷ 116 ∷ 116 ∷ 115 ∷ 58 ∷ 102 ∷ 105 ∷ 108 ∷ 108 ∷ 76 ∷ 105 ∷ 110 ∷ 101 ∷ 71 ∷ 97 ∷ 112 ∷ [])  -- itts:fillLineGap
+    ascii "tts:backgroundClip"
+    ∷ ascii "tts:backgroundColor"
+    ∷ ascii "tts:backgroundExtent"
+    ∷ ascii "tts:backgroundImage"
+    ∷ ascii "tts:backgroundOrigin"
+    ∷ ascii "tts:backgroundPosition"
+    ∷ ascii "tts:backgroundRepeat"
+    ∷ ascii "tts:border"
+    ∷ ascii "tts:bpd"
+    ∷ ascii "tts:direction"
+    ∷ ascii "tts:disparity"
+    ∷ ascii "tts:display"
+    ∷ ascii "tts:displayAlign"
+    ∷ ascii "tts:extent"
+    ∷ ascii "tts:fontKerning"
+    ∷ ascii "tts:fontSelectionStrategy"
+    ∷ ascii "tts:fontShear"
+    ∷ ascii "tts:fontVariant"
+    ∷ ascii "tts:ipd"
+    ∷ ascii "tts:letterSpacing"
+    ∷ ascii "tts:lineHeight"
+    ∷ ascii "tts:lineShear"
+    ∷ ascii "tts:luminanceGain"
+    ∷ ascii "tts:opacity"
+    ∷ ascii "tts:origin"
+    ∷ ascii "tts:overflow"
+    ∷ ascii "tts:padding"
+    ∷ ascii "tts:position"
+    ∷ ascii "tts:ruby"
+    ∷ ascii "tts:rubyAlign"
+    ∷ ascii "tts:rubyPosition"
+    ∷ ascii "tts:rubyReserve"
+    ∷ ascii "tts:shear"
+    ∷ ascii "tts:showBackground"
+    ∷ ascii "tts:textAlign"
+    ∷ ascii "tts:textCombine"
+    ∷ ascii "tts:textEmphasis"
+    ∷ ascii "tts:textOrientation"
+    ∷ ascii "tts:textOutline"
+    ∷ ascii "tts:textShadow"
+    ∷ ascii "tts:unicodeBidi"
+    ∷ ascii "tts:visibility"
+    ∷ ascii "tts:wrapOption"
+    ∷ ascii "tts:writingMode"
+    ∷ ascii "tts:zIndex"
+    ∷ ascii "itts:forcedDisplay"
+    ∷ ascii "itts:fillLineGap"
     ∷ []
 
 -- The Rust's `REGION_ATTR_ORDER`: TTML 2, 10.2, whole, then `style` and IMSC's two.
 abbrev pub regionAttr : List (List ℕ)
 regionAttr =
-    (116 ∷ 116 ∷ 115 ∷ 58 ∷ 98 ∷ 97 ∷ 99 ∷ 107 ∷ 103 ∷ 114 ∷ 111 ∷ 117 ∷ 110 ∷ 100 ∷ 67 ∷ 108 ∷ 105 ∷ 112 ∷ [])  -- tts:backgroundClip
-    ∷ (116 ∷ 116 ∷ 115 ∷ 58 ∷ 98 ∷ 97 ∷ 99 ∷ 107 ∷ 103 ∷ 114 ∷ 111 ∷ 117 ∷ 110 ∷ 100 ∷ 67 ∷ 111 ∷ 108 ∷ 111 ∷ 114 ∷ [])  -- tts:backgroundColor
-    ∷ (116 ∷ 116 ∷ 115 ∷ 58 ∷ 98 ∷ 97 ∷ 99 ∷ 107 ∷ 103 ∷ 114 ∷ 111 ∷ 117 ∷ 110 ∷ 100 ∷ 69 ∷ 120 ∷ 116 ∷ 101 ∷ 110 ∷ 116 ∷ [])  -- tts:backgroundExtent
-    ∷ (116 ∷ 116 ∷ 115 ∷ 58 ∷ 98 ∷ 97 ∷ 99 ∷ 107 ∷ 103 ∷ 114 ∷ 111 ∷ 117 ∷ 110 ∷ 100 ∷ 73 ∷ 109 ∷ 97 ∷ 103 ∷ 101 ∷ [])  -- tts:backgroundImage
-    ∷ (116 ∷ 116 ∷ 115 ∷ 58 ∷ 98 ∷ 97 ∷ 99 ∷ 107 ∷ 103 ∷ 114 ∷ 111 ∷ 117 ∷ 110 ∷ 100 ∷ 79 ∷ 114 ∷ 105 ∷ 103 ∷ 105 ∷ 110 ∷ [])  -- tts:backgroundOrigin
-    ∷ (116 ∷ 116 ∷ 115 ∷ 58 ∷ 98 ∷ 97 ∷ 99 ∷ 107 ∷ 103 ∷ 114 ∷ 111 ∷ 117 ∷ 110 ∷ 100 ∷ 80 ∷ 111 ∷ 115 ∷ 105 ∷ 116 ∷ 105 ∷ 111 ∷ 110 ∷ [])  -- tts:backgroundPosition
-    ∷ (116 ∷ 116 ∷ 115 ∷ 58 ∷ 98 ∷ 97 ∷ 99 ∷ 107 ∷ 103 ∷ 114 ∷ 111 ∷ 117 ∷ 110 ∷ 100 ∷ 82 ∷ 101 ∷ 112 ∷ 101 ∷ 97 ∷ 116 ∷ [])  -- tts:backgroundRepeat
-    ∷ (116 ∷ 116 ∷ 115 ∷ 58 ∷ 98 ∷ 111 ∷ 114 ∷ 100 ∷ 101 ∷ 114 ∷ [])  -- tts:border
-    ∷ (116 ∷ 116 ∷ 115 ∷ 58 ∷ 98 ∷ 112 ∷ 100 ∷ [])  -- tts:bpd
-    ∷ (116 ∷ 116 ∷ 115 ∷ 58 ∷ 99 ∷ 111 ∷ 108 ∷ 111 ∷ 114 ∷ [])  -- tts:color
-    ∷ (116 ∷ 116 ∷ 115 ∷ 58 ∷ 100 ∷ 105 ∷ 114 ∷ 101 ∷ 99 ∷ 116 ∷ 105 ∷ 111 ∷ 110 ∷ [])  -- tts:direction
-    ∷ (116 ∷ 116 ∷ 115 ∷ 58 ∷ 100 ∷ 105 ∷ 115 ∷ 112 ∷ 97 ∷ 114 ∷ 105 ∷ 116 ∷ 121 ∷ [])  -- tts:disparity
-    ∷ (116 ∷ 116 ∷ 115 ∷ 58 ∷ 100 ∷ 105 ∷ 115 ∷ 112 ∷ 108 ∷ 97 ∷ 121 ∷ [])  -- tts:display
-    ∷ (116 ∷ 116 ∷ 115 ∷ 58 ∷ 100 ∷ 105 ∷ 115 ∷ 112 ∷ 108 ∷ 97 ∷ 121 ∷ 65 ∷ 108 ∷ 105 ∷ 103 ∷ 110 ∷ [])  -- tts:displayAlign
-    ∷ (116 ∷ 116 ∷ 115 ∷ 58 ∷ 101 ∷ 120 ∷ 116 ∷ 101 ∷ 110 ∷ 116 ∷ [])  -- tts:extent
-    ∷ (116 ∷ 116 ∷ 115 ∷ 58 ∷ 102 ∷ 111 ∷ 110 ∷ 116 ∷ 70 ∷ 97 ∷ 109 ∷ 105 ∷ 108 ∷ 121 ∷ [])  -- tts:fontFamily
-    ∷ (116 ∷ 116 ∷ 115 ∷ 58 ∷ 102 ∷ 111 ∷ 110 ∷ 116 ∷ 75 ∷ 101 ∷ 114 ∷ 110 ∷ 105 ∷ 110 ∷ 103 ∷ [])  -- tts:fontKerning
-    ∷ (116 ∷ 116 ∷ 115 ∷ 58 ∷ 102 ∷ 111 ∷ 110 ∷ 116 ∷ 83 ∷ 101 ∷ 108 ∷ 101 ∷ 99 ∷ 116 ∷ 105 ∷ 111 ∷ 110 ∷ 83 ∷ 116 ∷ 114 ∷ 97 ∷ 116 ∷ 101 ∷ 103 ∷ 121 ∷ [])  -- tts:fontSelectionStrategy
-    ∷ (116 ∷ 116 ∷ 115 ∷ 58 ∷ 102 ∷ 111 ∷ 110 ∷ 116 ∷ 83 ∷ 104 ∷ 101 ∷ 97 ∷ 114 ∷ [])  -- tts:fontShear
-    ∷ (116 ∷ 116 ∷ 115 ∷ 58 ∷ 102 ∷ 111 ∷ 110 ∷ 116 ∷ 83 ∷ 105 ∷ 122 ∷ 101 ∷ [])  -- tts:fontSize
-    ∷ (116 ∷ 116 ∷ 115 ∷ 58 ∷ 102 ∷ 111 ∷ 110 ∷ 116 ∷ 83 ∷ 116 ∷ 121 ∷ 108 ∷ 101 ∷ [])  -- tts:fontStyle
-    ∷ (116 ∷ 116 ∷ 115 ∷ 58 ∷ 102 ∷ 111 ∷ 110 ∷ 116 ∷ 86 ∷ 97 ∷ 114 ∷ 105 ∷ 97 ∷ 110 ∷ 116 ∷ [])  -- tts:fontVariant
-    ∷ (116 ∷ 116 ∷ 115 ∷ 58 ∷ 102 ∷ 111 ∷ 110 ∷ 116 ∷ 87 ∷ 101 ∷ 105 ∷ 103 ∷ 104 ∷ 116 ∷ [])  -- tts:fontWeight
-    ∷ (116 ∷ 116 ∷ 115 ∷ 58 ∷ 105 ∷ 112 ∷ 100 ∷ [])  -- tts:ipd
-    ∷ (116 ∷ 116 ∷ 115 ∷ 58 ∷ 108 ∷ 101 ∷ 116 ∷ 116 ∷ 101 ∷ 114 ∷ 83 ∷ 112 ∷ 97 ∷ 99 ∷ 105 ∷ 110 ∷ 103 ∷ [])  -- tts:letterSpacing
-    ∷ (116 ∷ 116 ∷ 115 ∷ 58 ∷ 108 ∷ 105 ∷ 110 ∷ 101 ∷ 72 ∷ 101 ∷ 105 ∷ 103 ∷ 104 ∷ 116 ∷ [])  -- tts:lineHeight
-    ∷ (116 ∷ 116 ∷ 115 ∷ 58 ∷ 108 ∷ 105 ∷ 110 ∷ 101 ∷ 83 ∷ 104 ∷ 101 ∷ 97 ∷ 114 ∷ [])  -- tts:lineShear
-    ∷ (116 ∷ 116 ∷ 115 ∷ 58 ∷ 108 ∷ 117 ∷ 109 ∷ 105 ∷ 110 ∷ 97 ∷ 110 ∷ 99 ∷ 101 ∷ 71 ∷ 97 ∷ 105 ∷ 110 ∷ [])  -- tts:luminanceGain
-    ∷ (116 ∷ 116 ∷ 115 ∷ 58 ∷ 111 ∷ 112 ∷ 97 ∷ 99 ∷ 105 ∷ 116 ∷ 121 ∷ [])  -- tts:opacity
-    ∷ (116 ∷ 116 ∷ 115 ∷ 58 ∷ 111 ∷ 114 ∷ 105 ∷ 103 ∷ 105 ∷ 110 ∷ [])  -- tts:origin
-    ∷ (116 ∷ 116 ∷ 115 ∷ 58 ∷ 111 ∷ 118 ∷ 101 ∷ 114 ∷ 102 ∷ 108 ∷ 111 ∷ 119 ∷ [])  -- tts:overflow
-    ∷ (116 ∷ 116 ∷ 115 ∷ 58 ∷ 112 ∷ 97 ∷ 100 ∷ 100 ∷ 105 ∷ 110 ∷ 103 ∷ [])  -- tts:padding
-    ∷ (116 ∷ 116 ∷ 115 ∷ 58 ∷ 112 ∷ 111 ∷ 115 ∷ 105 ∷ 116 ∷ 105 ∷ 111 ∷ 110 ∷ [])  -- tts:position
-    ∷ (116 ∷ 116 ∷ 115 ∷ 58 ∷ 114 ∷ 117 ∷ 98 ∷ 121 ∷ [])  -- tts:ruby
-    ∷ (116 ∷ 116 ∷ 115 ∷ 58 ∷ 114 ∷ 117 ∷ 98 ∷ 121 ∷ 65 ∷ 108 ∷ 105 ∷ 103 ∷ 110 ∷ [])  -- tts:rubyAlign
-    ∷ (116 ∷ 116 ∷ 115 ∷ 58 ∷ 114 ∷ 117 ∷ 98 ∷ 121 ∷ 80 ∷ 111 ∷ 115 ∷ 105 ∷ 116 ∷ 105 ∷ 111 ∷ 110 ∷ [])  -- tts:rubyPosition
-    ∷ (116 ∷ 116 ∷ 115 ∷ 58 ∷ 114 ∷ 117 ∷ 98 ∷ 121 ∷ 82 ∷ 101 ∷ 115 ∷ 101 ∷ 114 ∷ 118 ∷ 101 ∷ [])  -- tts:rubyReserve
-    ∷ (116 ∷ 116 ∷ 115 ∷ 58 ∷ 115 ∷ 104 ∷ 101 ∷ 97 ∷ 114 ∷ [])  -- tts:shear
-    ∷ (116 ∷ 116 ∷ 115 ∷ 58 ∷ 115 ∷ 104 ∷ 111 ∷ 119 ∷ 66 ∷ 97 ∷ 99 ∷ 107 ∷ 103 ∷ 114 ∷ 111 ∷ 117 ∷ 110 ∷ 100 ∷ [])  -- tts:showBackground
-    ∷ (116 ∷ 116 ∷ 115 ∷ 58 ∷ 116 ∷ 101 ∷ 120 ∷ 116 ∷ 65 ∷ 108 ∷ 105 ∷ 103 ∷ 110 ∷ [])  -- tts:textAlign
-    ∷ (116 ∷ 116 ∷ 115 ∷ 58 ∷ 116 ∷ 101 ∷ 120 ∷ 116 ∷ 67 ∷ 111 ∷ 109 ∷ 98 ∷ 105 ∷ 110 ∷ 101 ∷ [])  -- tts:textCombine
-    ∷ (116 ∷ 116 ∷ 115 ∷ 58 ∷ 116 ∷ 101 ∷ 120 ∷ 116 ∷ 69 ∷ 109 ∷ 112 ∷ 104 ∷ 97 ∷ 115 ∷ 105 ∷ 115 ∷ [])  -- tts:textEmphasis
-    ∷ (116 ∷ 116 ∷ 115 ∷ 58 ∷ 116 ∷ 101 ∷ 120 ∷ 116 ∷ 79 ∷ 114 ∷ 105 ∷ 101 ∷ 110 ∷ 116 ∷ 97 ∷ 116 ∷ 105 ∷ 111 ∷ 110 ∷ [])  -- tts:textOrientation
-    ∷ (116 ∷ 116 ∷ 115 ∷ 58 ∷ 116 ∷ 101 ∷ 120 ∷ 116 ∷ 79 ∷ 117 ∷ 116 ∷ 108 ∷ 105 ∷ 110 ∷ 101 ∷ [])  -- tts:textOutline
-    ∷ (116 ∷ 116 ∷ 115 ∷ 58 ∷ 116 ∷ 101 ∷ 120 ∷ 116 ∷ 83 ∷ 104 ∷ 97 ∷ 100 ∷ 111 ∷ 119 ∷ [])  -- tts:textShadow
-    ∷ (116 ∷ 116 ∷ 115 ∷ 58 ∷ 117 ∷ 110 ∷ 105 ∷ 99 ∷ 111 ∷ 100 ∷ 101 ∷ 66 ∷ 105 ∷ 100 ∷ 105 ∷ [])  -- tts:unicodeBidi
-    ∷ (116 ∷ 116 ∷ 115 ∷ 58 ∷ 118 ∷ 105 ∷ 115 ∷ 105 ∷ 98 ∷ 105 ∷ 108 ∷ 105 ∷ 116 ∷ 121 ∷ [])  -- tts:visibility
-    ∷ (116 ∷ 116 ∷ 115 ∷ 58 ∷ 119 ∷ 114 ∷ 97 ∷ 112 ∷ 79 ∷ 112 ∷ 116 ∷ 105 ∷ 111 ∷ 110 ∷ [])  -- tts:wrapOption
-    ∷ (116 ∷ 116 ∷ 115 ∷ 58 ∷ 119 ∷ 114 ∷ 105 ∷ 116 ∷ 105 ∷ 110 ∷ 103 ∷ 77 ∷ 111 ∷ 100 ∷ 101 ∷ [])  -- tts:writingMode
-    ∷ (116 ∷ 116 ∷ 115 ∷ 58 ∷ 122 ∷ 73 ∷ 110 ∷ 100 ∷ 101 ∷ 120 ∷ [])  -- tts:zIndex
-    ∷ (115 ∷ 116 ∷ 121 ∷ 108 ∷ 101 ∷ [])  -- style
-    ∷ (105 ∷ 116 ∷ 116 ∷ 115 ∷ 58 ∷ 102 ∷ 111 ∷ 114 ∷ 99 ∷ 101 ∷ 100 ∷ 68 ∷ 105 ∷ 115 ∷ 112 ∷ 108 ∷ 97 ∷ 121 ∷ [])  -- itts:forcedDisplay
-    ∷ (105 ∷ 116 ∷ 116 ∷ 115 ∷ 58 ∷ 102 ∷ 105 ∷ 108 ∷ 108 ∷ 76 ∷ 105 ∷ 110 ∷ 101 ∷ 71 ∷ 97 ∷ 112 ∷ [])  -- itts:fillLineGap
+    ascii "tts:backgroundClip"
+    ∷ ascii "tts:backgroundColor"
+    ∷ ascii "tts:backgroundExtent"
+    ∷ ascii "tts:backgroundImage"
+    ∷ ascii "tts:backgroundOrigin"
+    ∷ ascii "tts:backgroundPosition"
+    ∷ ascii "tts:backgroundRepeat"
+    ∷ ascii "tts:border"
+    ∷ ascii "tts:bpd"
+    ∷ ascii "tts:color"
+    ∷ ascii "tts:direction"
+    ∷ ascii "tts:disparity"
+    ∷ ascii "tts:display"
+    ∷ ascii "tts:displayAlign"
+    ∷ ascii "tts:extent"
+    ∷ ascii "tts:fontFamily"
+    ∷ ascii "tts:fontKerning"
+    ∷ ascii "tts:fontSelectionStrategy"
+    ∷ ascii "tts:fontShear"
+    ∷ ascii "tts:fontSize"
+    ∷ ascii "tts:fontStyle"
+    ∷ ascii "tts:fontVariant"
+    ∷ ascii "tts:fontWeight"
+    ∷ ascii "tts:ipd"
+    ∷ ascii "tts:letterSpacing"
+    ∷ ascii "tts:lineHeight"
+    ∷ ascii "tts:lineShear"
+    ∷ ascii "tts:luminanceGain"
+    ∷ ascii "tts:opacity"
+    ∷ ascii "tts:origin"
+    ∷ ascii "tts:overflow"
+    ∷ ascii "tts:padding"
+    ∷ ascii "tts:position"
+    ∷ ascii "tts:ruby"
+    ∷ ascii "tts:rubyAlign"
+    ∷ ascii "tts:rubyPosition"
+    ∷ ascii "tts:rubyReserve"
+    ∷ ascii "tts:shear"
+    ∷ ascii "tts:showBackground"
+    ∷ ascii "tts:textAlign"
+    ∷ ascii "tts:textCombine"
+    ∷ ascii "tts:textEmphasis"
+    ∷ ascii "tts:textOrientation"
+    ∷ ascii "tts:textOutline"
+    ∷ ascii "tts:textShadow"
+    ∷ ascii "tts:unicodeBidi"
+    ∷ ascii "tts:visibility"
+    ∷ ascii "tts:wrapOption"
+    ∷ ascii "tts:writingMode"
+    ∷ ascii "tts:zIndex"
+    ∷ ascii "style"
+    ∷ ascii "itts:forcedDisplay"
+    ∷ ascii "itts:fillLineGap"
     ∷ []
 
 -- The Rust's `P_INLINE_MODELLED_ATTRS`: what a `<p>` says of its segments (the Rust cites TTML 2, 8.1.5).
 abbrev pub inlineModelled : List (List ℕ)
 inlineModelled =
-    (116 ∷ 116 ∷ 115 ∷ 58 ∷ 99 ∷ 111 ∷ 108 ∷ 111 ∷ 114 ∷ [])  -- tts:color
-    ∷ (116 ∷ 116 ∷ 115 ∷ 58 ∷ 102 ∷ 111 ∷ 110 ∷ 116 ∷ 70 ∷ 97 ∷ 109 ∷ 105 ∷ 108 ∷ 121 ∷ [])  -- tts:fontFamily
-    ∷ (116 ∷ 116 ∷ 115 ∷ 58 ∷ 102 ∷ 111 ∷ 110 ∷ 116 ∷ 83 ∷ 105 ∷ 122 ∷ 101 ∷ [])  -- tts:fontSize
-    ∷ (116 ∷ 116 ∷ 115 ∷ 58 ∷ 102 ∷ 111 ∷ 110 ∷ 116 ∷ 87 ∷ 101 ∷ 105 ∷ 103 ∷ 104 ∷ 116 ∷ [])  -- tts:fontWeight
-    ∷ (116 ∷ 116 ∷ 115 ∷ 58 ∷ 102 ∷ 111 ∷ 110 ∷ 116 ∷ 83 ∷ 116 ∷ 121 ∷ 108 ∷ 101 ∷ [])  -- tts:fontStyle
-    ∷ (116 ∷ 116 ∷ 115 ∷ 58 ∷ 116 ∷ 101 ∷ 120 ∷ 116 ∷ 68 ∷ 101 ∷ 99 ∷ 111 ∷ 114 ∷ 97 ∷ 116 ∷ 105 ∷ 111 ∷ 110 ∷ [])  -- tts:textDecoration
+    ascii "tts:color"
+    ∷ ascii "tts:fontFamily"
+    ∷ ascii "tts:fontSize"
+    ∷ ascii "tts:fontWeight"
+    ∷ ascii "tts:fontStyle"
+    ∷ ascii "tts:textDecoration"
     ∷ []
 
 -- The Rust's `IMSC1_EXTENSION_PARAMS`: the parameters of the namespace `ittp:` (the Rust cites IMSC 1, 6.1).
 abbrev pub imsc1Extension : List (List ℕ)
 imsc1Extension =
-    (97 ∷ 99 ∷ 116 ∷ 105 ∷ 118 ∷ 101 ∷ 65 ∷ 114 ∷ 101 ∷ 97 ∷ [])  -- activeArea
-    ∷ (97 ∷ 115 ∷ 112 ∷ 101 ∷ 99 ∷ 116 ∷ 82 ∷ 97 ∷ 116 ∷ 105 ∷ 111 ∷ [])  -- aspectRatio
-    ∷ (112 ∷ 114 ∷ 111 ∷ 103 ∷ 114 ∷ 101 ∷ 115 ∷ 115 ∷ 105 ∷ 118 ∷ 101 ∷ 108 ∷ 121 ∷ 68 ∷ 101 ∷ 99 ∷ 111 ∷ 100 ∷ 97 ∷ 98 ∷ 108 ∷ 101 ∷ [])  -- progressivelyDecodable
+    ascii "activeArea"
+    ∷ ascii "aspectRatio"
+    ∷ ascii "progressivelyDecodable"
     ∷ []
 
 -- the names of a list

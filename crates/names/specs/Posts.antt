@@ -6,14 +6,6 @@ use lib.ListN.{length, getD, take, drop, replicate}
 use Rattle.scan.specs.Bytes.{other, runEnd}
 use Rattle.names.specs.declared.tables.Name.{Name}
 
--- what stands before the first blank of a row
-abbrev pub front : List ℕ → List ℕ
-front row = take (runEnd (other 32) row 0) row
-
-abbrev pub fronts : List (List ℕ) → List (List ℕ)
-fronts [] = []
-fronts (row ∷ rows) = front row ∷ fronts rows
-
 -- r is the row with the place of its first blank
 pub record Cut (row : List ℕ) (r : Name) : Type 0 where
   pub bytes-are : r .bytes ≡ row

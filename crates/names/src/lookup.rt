@@ -1,12 +1,12 @@
 // Names looked for in a list, and written.
 ghost use mathlib.Core.Path.{_≡_};
 ghost use Prim.Native.Nat.{_≤_, _<_};
-ghost use lib.ListN.{length};
+ghost use lib.ListN.{length, getD};
 ghost use Rattle.scan.specs.Names.{sameBytes, sameFolded};
 ghost use Rattle.scan.specs.Posts.{Wrote};
-ghost use Rattle.names.specs.Lists.{names, nameOf, styleExtra, inlineExtra, regionAttr, inlineModelled, imsc1Extension};
-ghost use Rattle.names.specs.Numbers.{numberOf, numberFrom, containsName};
-ghost use Rattle.names.specs.Posts.{front, fronts};
+ghost use Rattle.names.specs.Lists.{names, nameOf};
+ghost use Rattle.names.specs.Numbers.{numberOf, containsName};
+ghost use Rattle.names.specs.Steps.{slotOf, slots};
 use crate::tables::Listed;
 
 // A name's number in a list, from 0 on, or it is not listed.
@@ -37,79 +37,64 @@ fn is_exactly(list: Listed, i: usize, name: &[u8]) -> bool
     scan::same(name, &bytes[..len])
 }
 
-// Is the name, letters in any case, what stands before the first blank of the row?
-fn row_is(row: [u8; 25], name: &[u8]) -> bool
-    ensures { λ r. ⌜ r ≡ sameFolded (now (name .entry)) (front row) ⌝ }
+// Where a name can stand in a list: its length and two of its letters leave one entry at most, whatever
+// their case. The tables of slots have a byte to each of 129: `#` for entry 0, the bytes after `#` for the
+// next ones, and a blank where there is none.
+fn slot(name: &[u8]) -> usize
+    ensures { λ r. ⌜ r ≡ slotOf (now (name .entry)) ⌝ }
 {
-    let entry = crate::tables::cut(row);
-    let bytes = entry.bytes;
-    let len = entry.len;
-    scan::eq_ignore_ascii_case(name, &bytes[..len])
-}
-
-// The number of the table's row that the name is. The table is lent, so that one search makes it
-// once: a constant is made anew at each use.
-fn row_of(table: &[[u8; 25]], name: &[u8]) -> Number
-    ensures { λ r. ⌜ r ≡ numberFrom 0 (now (name .entry)) (fronts (now (table .entry))) ⌝ }
-{
-    let mut i = 0;
-    while i < table.len() {
-        let row = table[i];
-        if row_is(row, name) {
-            return Number::At(i);
-        }
-        i += 1;
+    let n = name.len();
+    if n < 5 {
+        return 0;
     }
-    Number::Nothing
+    let front = (name[4] % 32) as usize;
+    let back = (name[n - 4] % 32) as usize;
+    (n + 50 * front + 14 * back) % 129
 }
 
-// The numbers in one list: one function to a list, as the tables have it.
-fn in_style_extra(name: &[u8]) -> Number
-    ensures { λ r. ⌜ r ≡ numberFrom 0 (now (name .entry)) styleExtra ⌝ }
+const STYLE_EXTRA_SLOTS: [u8; 129] =
+    *b"         G E $5' C  D H /L   9 #   @  2B   %   4-?    3  M  =J        8 ;     , 7 A * (N 1   < 6P       ) +     :    &   K O0I.F>";
+
+const INLINE_EXTRA_SLOTS: [u8; 129] =
+    *b"         H F %6( D  E I 0M   : #   A  3C   &   5.@    4  N  >K        9$<     - 8 B + )O 2   = 7Q       * ,     ;    '   L P1J/G?";
+
+const REGION_ATTR_SLOTS: [u8; 129] =
+    *b"         M K %;( I UJ N 1R   ? #   F  5H   &   :/E   98  S  CP6       >$A    7. = G + )T 4   B <W       * -  2 ,@    '   Q V3O0LD";
+
+const INLINE_MODELLED_SLOTS: [u8; 129] =
+    *b"        (                                            &        %              '                               $ #                 ";
+
+const IMSC1_EXTENSION_SLOTS: [u8; 129] =
+    *b"                                 %            $                                             #                                    ";
+
+// What stands in the list's slot.
+fn in_slot(list: Listed, slot: usize) -> u8
+    requires { ⌜ slot < 129 ⌝ }
+    ensures { λ r. ⌜ r ≡ getD (slots list) slot 0 ⌝ }
 {
-    let table = crate::tables::STYLE_EXTRA_ORDER;
-    row_of(&table, name)
+    match list {
+        Listed::StyleExtra => STYLE_EXTRA_SLOTS[slot],
+        Listed::InlineExtra => INLINE_EXTRA_SLOTS[slot],
+        Listed::RegionAttr => REGION_ATTR_SLOTS[slot],
+        Listed::InlineModelled => INLINE_MODELLED_SLOTS[slot],
+        Listed::Imsc1Extension => IMSC1_EXTENSION_SLOTS[slot],
+    }
 }
 
-fn in_inline_extra(name: &[u8]) -> Number
-    ensures { λ r. ⌜ r ≡ numberFrom 0 (now (name .entry)) inlineExtra ⌝ }
-{
-    let table = crate::tables::P_INLINE_EXTRA_ORDER;
-    row_of(&table, name)
-}
-
-fn in_region_attr(name: &[u8]) -> Number
-    ensures { λ r. ⌜ r ≡ numberFrom 0 (now (name .entry)) regionAttr ⌝ }
-{
-    let table = crate::tables::REGION_ATTR_ORDER;
-    row_of(&table, name)
-}
-
-fn in_inline_modelled(name: &[u8]) -> Number
-    ensures { λ r. ⌜ r ≡ numberFrom 0 (now (name .entry)) inlineModelled ⌝ }
-{
-    let table = crate::tables::P_INLINE_MODELLED_ATTRS;
-    row_of(&table, name)
-}
-
-fn in_imsc1_extension(name: &[u8]) -> Number
-    ensures { λ r. ⌜ r ≡ numberFrom 0 (now (name .entry)) imsc1Extension ⌝ }
-{
-    let table = crate::tables::IMSC1_EXTENSION_PARAMS;
-    row_of(&table, name)
-}
-
-// The number of the entry that the name is, letters in any case.
+// The number of the entry that the name is, letters in any case. A name that is not listed is compared with
+// one entry at most, and no table of names is made for one whose slot is empty.
 pub fn number_of(list: Listed, name: &[u8]) -> Number
     ensures { λ r. ⌜ r ≡ numberOf list (now (name .entry)) ⌝ }
 {
-    match list {
-        Listed::StyleExtra => in_style_extra(name),
-        Listed::InlineExtra => in_inline_extra(name),
-        Listed::RegionAttr => in_region_attr(name),
-        Listed::InlineModelled => in_inline_modelled(name),
-        Listed::Imsc1Extension => in_imsc1_extension(name),
+    let entry = in_slot(list, slot(name));
+    if entry < b'#' {
+        return Number::Nothing;
     }
+    let i = (entry - b'#') as usize;
+    if is_name(list, i, name) {
+        return Number::At(i);
+    }
+    Number::Nothing
 }
 
 // Is the name listed, byte for byte? No two names differ only in the case of letters.

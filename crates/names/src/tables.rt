@@ -1,5 +1,6 @@
 // Five ordered lists of names, as constant tables. A row is a name and blanks up to the longest
-// one's 25 bytes; no name holds a blank, so the first one ends it.
+// one's 25 bytes; no name holds a blank, so the first one ends it. A constant is made anew on the
+// stack where it is used, so the three long lists stand in two parts each.
 ghost use mathlib.Core.Path.{_≡_};
 ghost use Prim.Native.Nat.{_<_};
 ghost use lib.ListN.{length};
@@ -21,7 +22,7 @@ pub struct Name {
     pub len: usize,
 }
 
-pub const STYLE_EXTRA_ORDER: [[u8; 25]; 46] = [
+const STYLE_EXTRA_ORDER_A_TO_L: [[u8; 25]; 22] = [
     *b"tts:backgroundClip       ",
     *b"tts:backgroundExtent     ",
     *b"tts:backgroundImage      ",
@@ -44,6 +45,9 @@ pub const STYLE_EXTRA_ORDER: [[u8; 25]; 46] = [
     *b"tts:lineHeight           ",
     *b"tts:lineShear            ",
     *b"tts:luminanceGain        ",
+];
+
+const STYLE_EXTRA_ORDER_O_TO_Z: [[u8; 25]; 24] = [
     *b"tts:opacity              ",
     *b"tts:origin               ",
     *b"tts:overflow             ",
@@ -70,7 +74,7 @@ pub const STYLE_EXTRA_ORDER: [[u8; 25]; 46] = [
     *b"itts:fillLineGap         ",
 ];
 
-pub const P_INLINE_EXTRA_ORDER: [[u8; 25]; 47] = [
+const P_INLINE_EXTRA_ORDER_A_TO_L: [[u8; 25]; 23] = [
     *b"tts:backgroundClip       ",
     *b"tts:backgroundColor      ",
     *b"tts:backgroundExtent     ",
@@ -94,6 +98,9 @@ pub const P_INLINE_EXTRA_ORDER: [[u8; 25]; 47] = [
     *b"tts:lineHeight           ",
     *b"tts:lineShear            ",
     *b"tts:luminanceGain        ",
+];
+
+const P_INLINE_EXTRA_ORDER_O_TO_Z: [[u8; 25]; 24] = [
     *b"tts:opacity              ",
     *b"tts:origin               ",
     *b"tts:overflow             ",
@@ -120,7 +127,7 @@ pub const P_INLINE_EXTRA_ORDER: [[u8; 25]; 47] = [
     *b"itts:fillLineGap         ",
 ];
 
-pub const REGION_ATTR_ORDER: [[u8; 25]; 53] = [
+const REGION_ATTR_ORDER_A_TO_L: [[u8; 25]; 28] = [
     *b"tts:backgroundClip       ",
     *b"tts:backgroundColor      ",
     *b"tts:backgroundExtent     ",
@@ -149,6 +156,9 @@ pub const REGION_ATTR_ORDER: [[u8; 25]; 53] = [
     *b"tts:lineHeight           ",
     *b"tts:lineShear            ",
     *b"tts:luminanceGain        ",
+];
+
+const REGION_ATTR_ORDER_O_TO_Z: [[u8; 25]; 25] = [
     *b"tts:opacity              ",
     *b"tts:origin               ",
     *b"tts:overflow             ",
@@ -176,7 +186,7 @@ pub const REGION_ATTR_ORDER: [[u8; 25]; 53] = [
     *b"itts:fillLineGap         ",
 ];
 
-pub const P_INLINE_MODELLED_ATTRS: [[u8; 25]; 6] = [
+const P_INLINE_MODELLED_ATTRS: [[u8; 25]; 6] = [
     *b"tts:color                ",
     *b"tts:fontFamily           ",
     *b"tts:fontSize             ",
@@ -185,7 +195,7 @@ pub const P_INLINE_MODELLED_ATTRS: [[u8; 25]; 6] = [
     *b"tts:textDecoration       ",
 ];
 
-pub const IMSC1_EXTENSION_PARAMS: [[u8; 25]; 3] = [
+const IMSC1_EXTENSION_PARAMS: [[u8; 25]; 3] = [
     *b"activeArea               ",
     *b"aspectRatio              ",
     *b"progressivelyDecodable   ",
@@ -199,13 +209,18 @@ pub fn cut(row: [u8; 25]) -> Name
     Name { bytes: row, len }
 }
 
-// One function to a list, so that each takes only its own table onto the stack.
+// One function to a list, so that each takes only its own rows onto the stack.
 fn style_extra(i: usize) -> Name
     requires { ⌜ i < 46 ⌝ }
     ensures { λ r. ⌜ HoldsAt styleExtra i r ⌝ }
 {
-    let table = STYLE_EXTRA_ORDER;
-    let row = table[i];
+    if i < 22 {
+        let table = STYLE_EXTRA_ORDER_A_TO_L;
+        let row = table[i];
+        return cut(row);
+    }
+    let table = STYLE_EXTRA_ORDER_O_TO_Z;
+    let row = table[i - 22];
     cut(row)
 }
 
@@ -213,8 +228,13 @@ fn inline_extra(i: usize) -> Name
     requires { ⌜ i < 47 ⌝ }
     ensures { λ r. ⌜ HoldsAt inlineExtra i r ⌝ }
 {
-    let table = P_INLINE_EXTRA_ORDER;
-    let row = table[i];
+    if i < 23 {
+        let table = P_INLINE_EXTRA_ORDER_A_TO_L;
+        let row = table[i];
+        return cut(row);
+    }
+    let table = P_INLINE_EXTRA_ORDER_O_TO_Z;
+    let row = table[i - 23];
     cut(row)
 }
 
@@ -222,8 +242,13 @@ fn region_attr(i: usize) -> Name
     requires { ⌜ i < 53 ⌝ }
     ensures { λ r. ⌜ HoldsAt regionAttr i r ⌝ }
 {
-    let table = REGION_ATTR_ORDER;
-    let row = table[i];
+    if i < 28 {
+        let table = REGION_ATTR_ORDER_A_TO_L;
+        let row = table[i];
+        return cut(row);
+    }
+    let table = REGION_ATTR_ORDER_O_TO_Z;
+    let row = table[i - 28];
     cut(row)
 }
 

@@ -1,6 +1,6 @@
 -- Laws of digits, of the value of a row of digits and of whole numbers. Assumes nothing.
 use Prim.Native.Nat.{ℕ, _+_, _-_, _*_, _/_, _≤_, _<_}
-use mathlib.Core.Path.{_≡_, refl, ap, _∙_}
+use mathlib.Core.Path.{_≡_, refl, sym, ap, _∙_}
 use mathlib.Core.Bool.{Bool, true, false, _&&_, and-assoc, and-false}
 use mathlib.Core.List.{List, [], _∷_, _++_}
 use native.Mathlib.Omega.{arith}
@@ -9,7 +9,8 @@ use native.Mathlib.Numerals.{add-one}
 use lib.Dec.{eqb, leb, ltb}
 use lib.ListN.{length, getD, take, drop, length-drop, drop-of-length-le}
 use lib.Seq.{take-all, drop-cons}
-use borrow.Author.Tests.{ltb-true, leb-true, lt-ltb, le-ltb, le-leb, lt-leb, eq-eqb, ne-eqb}
+use borrow.Author.Tests.{ltb-true, ltb-false, leb-true, eqb-true, lt-ltb, le-ltb, le-leb, lt-leb, eq-eqb, ne-eqb}
+use Rattle.scan.proofs.Every.{both, every}
 use Rattle.numerals.specs.declared.Whole.{Whole}
 use Rattle.numerals.specs.declared.Numeral.{Numeral}
 use Rattle.numerals.specs.declared.Unsigned.{Unsigned}
@@ -74,13 +75,10 @@ module _ (radix : ℕ) (s : List ℕ) (i : ℕ) (h : i < length s) where
   unfolding digitsOnly
   digits-step = rw (add-one i, drop-cons s i 0 h)
 
-and-left : (a b : Bool) → (a && b) ≡ true → a ≡ true
-and-left true b e = refl
-and-left false b e = e
-
 -- ---- digits alone as a number
 module _ (radix most : ℕ) where
-  pub unsigned-is : (s : List ℕ) → 1 ≤ length s → digitsOnly radix s ≡ true → valueFrom radix 0 s ≤ most → unsignedOf s radix most ≡ Unsigned.Is (valueFrom radix 0 s)
+  pub unsigned-is : (s : List ℕ) → 1 ≤ length s → digitsOnly radix s ≡ true → valueFrom radix 0 s ≤ most
+      → unsignedOf s radix most ≡ Unsigned.Is (valueFrom radix 0 s)
   unfolding unsignedOf
   unsigned-is [] n d h = absurd (omega arith)
   unsigned-is (b ∷ s) n d h = rw (d, le-leb (valueFrom radix 0 (b ∷ s)) most h)
@@ -161,30 +159,34 @@ module _ (radix most : ℕ) where
   numeral-none [] minus h = refl
   numeral-none (b ∷ s) minus h = absurd (omega arith)
 
-  pub numeral-plus : (s : List ℕ) (minus : Bool) → 1 ≤ length s → getD s 0 0 ≡ 43 → numeralOf s radix most minus ≡ signedBy false (unsignedOf (drop 1 s) radix most)
+  pub numeral-plus : (s : List ℕ) (minus : Bool) → 1 ≤ length s → getD s 0 0 ≡ 43
+      → numeralOf s radix most minus ≡ signedBy false (unsignedOf (drop 1 s) radix most)
   unfolding numeralOf
   numeral-plus [] minus h e = absurd (omega arith)
   numeral-plus (b ∷ s) minus h e = rw (eq-eqb b 43 e)
 
-  pub numeral-minus : (s : List ℕ) (minus : Bool) → 1 ≤ length s → minus ≡ true → getD s 0 0 ≡ 45 → numeralOf s radix most minus ≡ signedBy true (unsignedOf (drop 1 s) radix (most + 1))
+  pub numeral-minus : (s : List ℕ) (minus : Bool) → 1 ≤ length s → minus ≡ true → getD s 0 0 ≡ 45
+      → numeralOf s radix most minus ≡ signedBy true (unsignedOf (drop 1 s) radix (most + 1))
   unfolding numeralOf
   numeral-minus [] minus h m e = absurd (omega arith)
   numeral-minus (b ∷ s) minus h m e = rw (m, ne-eqb b 43 (λ x. omega arith), eq-eqb b 45 e)
 
-  pub numeral-bare : (s : List ℕ) (minus : Bool) → 1 ≤ length s → (getD s 0 0 ≡ 43 → ⊥) → (minus ≡ true → getD s 0 0 ≡ 45 → ⊥) → numeralOf s radix most minus ≡ signedBy false (unsignedOf s radix most)
+  pub numeral-bare : (s : List ℕ) (minus : Bool) → 1 ≤ length s → (getD s 0 0 ≡ 43 → ⊥) → (minus ≡ true → getD s 0 0 ≡ 45 → ⊥)
+      → numeralOf s radix most minus ≡ signedBy false (unsignedOf s radix most)
   unfolding numeralOf
   numeral-bare [] minus h e d = absurd (omega arith)
   numeral-bare (b ∷ s) true h e d = rw (ne-eqb b 43 e, ne-eqb b 45 (d refl))
   numeral-bare (b ∷ s) false h e d = rw (ne-eqb b 43 e)
 
-  pub numeral-plain : (s : List ℕ) (minus : Bool) → radix ≤ 36 → 1 ≤ length s → digitsOnly radix s ≡ true → valueFrom radix 0 s ≤ most → numeralOf s radix most minus ≡ Numeral.Is (record { negative = false; magnitude = valueFrom radix 0 s })
+  pub numeral-plain : (s : List ℕ) (minus : Bool) → radix ≤ 36 → 1 ≤ length s → digitsOnly radix s ≡ true → valueFrom radix 0 s ≤ most
+      → numeralOf s radix most minus ≡ Numeral.Is (record { negative = false; magnitude = valueFrom radix 0 s })
   unfolding digitOf digitsOnly
   numeral-plain [] minus r h d l = absurd (omega arith)
   numeral-plain (b ∷ s) minus r h d l =
       numeral-bare (b ∷ s) minus h (not-sign 43 refl) (λ m. not-sign 45 refl) ∙ rw (unsigned-is radix most (b ∷ s) h d l)
     where
       first : digitOf b < radix
-      first = ltb-true (digitOf b) radix (and-left (ltb (digitOf b) radix) (digitsOnly radix s) d)
+      first = ltb-true (digitOf b) radix (both {b = digitsOnly radix s} d .0)
 
       not-sign : (k : ℕ) → digitOf k ≡ 36 → b ≡ k → ⊥
       not-sign k w e = omega (arith, first, ap digitOf e)
@@ -231,3 +233,49 @@ numeral-inv (b ∷ s) radix most {w} e = by (eqb b 43) refl
     by : (t : Bool) → eqb b 43 ≡ t → Plain (b ∷ s) most w
     by true t = of s (rw t at e)
     by false t = of (b ∷ s) (rw t at e)
+
+-- ---- a numeral is ASCII
+abbrev ascii : ℕ → Bool
+ascii b = ltb b 128
+
+digit-ascii : (b : ℕ) → digitOf b < 36 → b < 128
+digit-ascii b h = by (ltb b 128) refl
+  where
+    by : (t : Bool) → ltb b 128 ≡ t → b < 128
+    by true e = ltb-true b 128 e
+    by false e =
+        let l : 128 ≤ b = ltb-false b 128 e in
+        absurd (omega (arith, digit-none b (λ x y. omega arith) (λ x y. omega arith) (λ x y. omega arith)))
+
+module _ (radix : ℕ) (r : radix ≤ 36) where
+  digits-ascii : (s : List ℕ) → digitsOnly radix s ≡ true → every ascii s ≡ true
+  unfolding digitsOnly
+  digits-ascii [] e = refl
+  digits-ascii (b ∷ s) e =
+      let d = both {a = ltb (digitOf b) radix} {b = digitsOnly radix s} e in
+      let l : digitOf b < radix = ltb-true _ _ (d .0) in
+      rw (lt-ltb b 128 (digit-ascii b (omega arith))) (digits-ascii s (d .1))
+
+  unsigned-ascii : (s : List ℕ) (most m : ℕ) → unsignedOf s radix most ≡ Unsigned.Is m → every ascii s ≡ true
+  unsigned-ascii s most m e = by (digitsOnly radix s) refl
+    where
+      by : (t : Bool) → digitsOnly radix s ≡ t → every ascii s ≡ true
+      by true d = digits-ascii s d
+      by false d = absurd (nothing-is (sym (unsigned-off radix most s d) ∙ e))
+        where
+          nothing-is : Unsigned.Nothing ≡ Unsigned.Is m → ⊥
+          nothing-is w = let z : _≡_ {A = ℕ} 0 1 = cc in omega arith
+
+  pub numeral-ascii : (s : List ℕ) (most : ℕ) (minus : Bool) {w : Whole} → numeralOf s radix most minus ≡ Numeral.Is w → every ascii s ≡ true
+  unfolding numeralOf
+  numeral-ascii [] most minus e = refl
+  numeral-ascii (b ∷ s) most minus {w} e = by (eqb b 43) refl (minus && eqb b 45) refl
+    where
+      by : (x : Bool) → eqb b 43 ≡ x → (y : Bool) → (minus && eqb b 45) ≡ y → every ascii (b ∷ s) ≡ true
+      by true f y g =
+          rw (eqb-true b 43 f) (unsigned-ascii s most _ (signed-size false (unsignedOf s radix most) (rw f at e)))
+      by false f true g =
+          rw (eqb-true b 45 (both {a = minus} g .1))
+          (unsigned-ascii s (most + 1) _ (signed-size true (unsignedOf s radix (most + 1)) (rw (f, g) at e)))
+      by false f false g =
+          unsigned-ascii (b ∷ s) most _ (signed-size false (unsignedOf (b ∷ s) radix most) (rw (f, g) at e))

@@ -54,7 +54,13 @@ module _ (radix : ℕ) (some : 2 ≤ radix) (few : radix ≤ 36) where
   padded-digits zero n = refl
   padded-digits (suc w) n =
       let l : n % radix < radix = mod-lt n (omega arith) in
-      rw (digits-append radix (padded radix w (n / radix)) (digitChar (n % radix) ∷ []), padded-digits w (n / radix), last-digit n, lt-ltb (n % radix) radix l)
+      rw (
+        digits-append radix (padded radix w (n / radix)) (digitChar (n % radix) ∷ []),
+        padded-digits w (n / radix),
+        last-digit n,
+        lt-ltb
+            (n % radix) radix l,
+      )
 
   -- the number itself, where it has no more digits
   pub padded-modulo : (w n : ℕ) → valueFrom radix 0 (padded radix w n) ≡ n % radix ^ w
@@ -79,7 +85,8 @@ padded-byte (suc w) n k h = by (padded-byte w (n / 10) k) (ltb k w) refl
     last : List ℕ
     last = digitChar (n % 10) ∷ []
 
-    by : (k < w → (48 ≤ getD front k 0) × (getD front k 0 ≤ 57)) → (t : Bool) → ltb k w ≡ t → (48 ≤ getD (front ++ last) k 0) × (getD (front ++ last) k 0 ≤ 57)
+    by : (k < w → (48 ≤ getD front k 0) × (getD front k 0 ≤ 57)) → (t : Bool) → ltb k w ≡ t
+        → (48 ≤ getD (front ++ last) k 0) × (getD (front ++ last) k 0 ≤ 57)
     by p true e =
         let l : k < w = ltb-true k w e in
         rw (List·getD-append front last 0 k (omega (arith, padded-length 10 w (n / 10)))) (p l)

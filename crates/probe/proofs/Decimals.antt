@@ -56,8 +56,8 @@ put-at d z b b′ t o n s e w =
 
 pub put-full : (d : Digits) (z : Size) (b b′ : List ℕ) (t : List Float) (o : Written) → z ≡ sizeOf d → o ≡ Full → Wrote (textOf z) 0 b b′ o → SizePut (sizeOf d) b b′ t t 3
 put-full d z b b′ t o s e w =
-    let p : (length b < 0 + length (textOf z)) × (length b′ ≡ length b) = rw e at w in
-    rw (← s) (record { whole = λ h. absurd (omega (arith, p .0)); short = λ h. (refl, refl) })
+    let p : (length b < 0 + length (textOf z)) × (b′ ≡ b) = rw e at w in
+    rw (← s) (record { whole = λ h. absurd (omega (arith, p .0)); short = λ h. (refl, p .1, refl) })
 
 pub sized-is : (x : Decimal) (d : Digits) (b b′ : List ℕ) (t t′ : List Float) (r : ℕ) → x ≡ Is d → 0 < length t → SizePut (sizeOf d) b b′ t t′ r → Sized x b b′ t t′ r
 sized-is x d b b′ t t′ r e h p = record { cell = λ g. rw e p; none = λ g. absurd (omega arith) }
@@ -75,5 +75,5 @@ width-at x d z t t′ o n e s f l w =
 
 pub width-full : (x : Decimal) (d : Digits) (z : Size) (t t′ : List ℕ) (o : Written) → x ≡ Is d → z ≡ sizeOf d → o ≡ Full → length t ≡ 18 → Wrote (textOf z) 0 t t′ o → 0 ≡ widthOf x
 width-full x d z t t′ o e s f l w =
-    let p : (length t < 0 + length (textOf z)) × (length t′ ≡ length t) = rw f at w in
+    let p : (length t < 0 + length (textOf z)) × (t′ ≡ t) = rw f at w in
     rw (e, ← s, lt-leb (length (textOf z)) 18 (omega (arith, p .0)))

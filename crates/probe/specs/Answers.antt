@@ -8,7 +8,7 @@ use lib.ListN.{length}
 use lib.Seq.{sets}
 use lib.Dec.{leb, ltb}
 use Rattle.scan.specs.Marks.{startsAt, seek}
-use Rattle.scan.specs.Posts.{Appended}
+use Rattle.scan.specs.Posts.{Appended, Begun}
 use Rattle.scan.specs.declared.table.Written.{Written}
 use Rattle.scan.specs.declared.table.Written.the-variants.{At, Full}
 use Rattle.unicode.specs.White.{Trimmed, WordAt, NextWord}
@@ -80,10 +80,16 @@ abbrev pub placeOf : Written → ℕ
 placeOf (At n) = n
 placeOf Full = none
 
--- w stands at the table's start, and the answer is its length, where the table has as many cells as it wants; else the answer is none
+-- w stands at the table's start, and the answer is its length, where the table has as many cells as it wants; else the answer is none,
+-- and the table is as it was
 pub record Filled (wants : ℕ) (w t t′ : List ℕ) (r : ℕ) : Type 0 where
   pub whole : wants ≤ length t → Appended w 0 t t′ r
-  pub short : length t < wants → r ≡ none
+  pub short : length t < wants → (r ≡ none) × (t′ ≡ t)
+
+-- the same of what is written part by part: where it does not fit, a beginning of it stands at the table's start
+pub record FilledInPart (w t t′ : List ℕ) (r : ℕ) : Type 0 where
+  pub whole : length w ≤ length t → Appended w 0 t t′ r
+  pub short : length t < length w → (r ≡ none) × Begun w 0 t t′
 
 -- ---- answers that fill cells
 -- Where it will do, the answer is n and the cells stand at the table's start; else it is a refusal, and the table is as it was.

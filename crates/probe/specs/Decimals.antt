@@ -43,10 +43,10 @@ floatCells Beyond = []
 abbrev pub textOf : Size → List ℕ
 textOf z = spelling (z .negative) (z .digits) (z .scale)
 
--- where the spelling fits, it stands at the start of the bytes b, and the f32 in the first cell; else the answer is 3
+-- where the spelling fits, it stands at the start of the bytes b, and the f32 in the first cell; else the answer is 3, and both are as they were
 pub record SizePut (z : Size) (b b′ : List ℕ) (t t′ : List Float) (r : ℕ) : Type 0 where
   pub whole : length (textOf z) ≤ length b → (r ≡ 1) × (b′ ≡ sets b 0 (textOf z)) × (t′ ≡ sets t 0 (z .value ∷ []))
-  pub short : length b < length (textOf z) → (r ≡ 3) × (t′ ≡ t)
+  pub short : length b < length (textOf z) → (r ≡ 3) × (b′ ≡ b) × (t′ ≡ t)
 
 abbrev pub SizeOr : Decimal → List ℕ → List ℕ → List Float → List Float → ℕ → Type 0
 SizeOr (Is d) b b′ t t′ r = SizePut (sizeOf d) b b′ t t′ r

@@ -27,7 +27,7 @@ ghost use Rattle.unicode.specs.Utf8.{LongestValid};
 ghost use Rattle.entities.specs.Reference.{lookup};
 ghost use Rattle.entities.specs.Decode.{decoded};
 ghost use Rattle.entities.specs.Escape.{escaped};
-ghost use Rattle.probe.specs.Answers.{firstOf, standsAt, Trims, FindsWord, asked, Numbered, codeOf, placeOf, Filled};
+ghost use Rattle.probe.specs.Answers.{firstOf, standsAt, Trims, FindsWord, asked, Numbered, codeOf, placeOf, Filled, FilledInPart};
 use entities::Entity;
 use numerals::Numeral;
 use scan::Written;
@@ -214,7 +214,7 @@ fn place_of(w: Written) -> usize
 // not fit.
 #[no_mangle]
 pub extern "C" fn probe_escape_text(text: &[u8], out: &mut [u8]) -> usize
-    ensures { λ r. ⌜ Filled (length (escaped false (now (text .entry)))) (escaped false (now (text .entry))) (now (out .entry)) (now (out .exit)) r ⌝ }
+    ensures { λ r. ⌜ FilledInPart (escaped false (now (text .entry))) (now (out .entry)) (now (out .exit)) r ⌝ }
 {
     place_of(entities::escape_text(text, out, 0))
 }
@@ -222,7 +222,7 @@ pub extern "C" fn probe_escape_text(text: &[u8], out: &mut [u8]) -> usize
 // The text as it stands in an attribute's value, likewise.
 #[no_mangle]
 pub extern "C" fn probe_escape_attr(text: &[u8], out: &mut [u8]) -> usize
-    ensures { λ r. ⌜ Filled (length (escaped true (now (text .entry)))) (escaped true (now (text .entry))) (now (out .entry)) (now (out .exit)) r ⌝ }
+    ensures { λ r. ⌜ FilledInPart (escaped true (now (text .entry))) (now (out .entry)) (now (out .exit)) r ⌝ }
 {
     place_of(entities::escape_attr(text, out, 0))
 }

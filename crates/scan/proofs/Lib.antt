@@ -1,4 +1,5 @@
 -- What the proofs of several functions use, and what the crates above cite.
+pub mod Every
 pub mod Loop
 pub mod Runs
 pub mod Searches

@@ -60,7 +60,8 @@ module _ (f : ℕ → ℕ) where
     unfolding agree
     agree-off h g e = rw (drop-cons a i 0 h, drop-cons b i 0 g, ne-eqb (f (getD a i 0)) (f (getD b i 0)) e)
 
-    pub agree-on : i < length a → i < length b → f (getD a i 0) ≡ f (getD b i 0) → agree f (drop i a) (drop i b) ≡ agree f (drop (i + 1) a) (drop (i + 1) b)
+    pub agree-on : i < length a → i < length b → f (getD a i 0) ≡ f (getD b i 0)
+        → agree f (drop i a) (drop i b) ≡ agree f (drop (i + 1) a) (drop (i + 1) b)
     unfolding agree
     agree-on h g e = rw (add-one i, drop-cons a i 0 h, drop-cons b i 0 g, eq-eqb (f (getD a i 0)) (f (getD b i 0)) e)
 

@@ -1,26 +1,29 @@
 -- Laws of classes of bytes and of runs of them. Assumes nothing.
 --     blank-not, name-yes, attr-name-yes, digit-yes, digit-below, digit-above, either   what the tests of a byte show of its class
+--     length-out, length-stop, length-on, length-within   how many bytes a text begins with
 --     run-here, run-on, run-out      where a run ends, by the byte at its place
+--     upward                         from the places past a length down
 --     run-ind                        what each byte that passes keeps holds where the run ends
+--     runTurn, run-loop              a run as a loop
 --     run-low, run-high, run-stops, run-all   what follows for every run
 --     passes-more, run-over, skips-more   bytes that all pass are passed over at once
 --     run-length                     a run as the length of a beginning
 --     ends-here, ends-out            what a loop over bytes ensures where it ends
 use Prim.Native.Nat.{ℕ, zero, suc, _+_, _-_, _≤_, _<_}
-use mathlib.Core.Path.{_≡_, refl, sym, subst, _∙_}
-use mathlib.Core.Bool.{Bool, true, false}
-use mathlib.Core.List.{List}
+use mathlib.Core.Path.{_≡_, refl, sym, subst⁻¹, _∙_}
+use mathlib.Core.Bool.{Bool, true, false, cond}
+use mathlib.Core.List.{List, [], _∷_}
 use mathlib.Core.Logic.{_⊎_, inl, inr}
 use native.Mathlib.Omega.{arith}
 use native.Mathlib.Numerals.{add-one}
 use lib.ListN.{length, getD, drop, drop-of-length-le}
 use lib.Seq.{drop-cons}
-use lib.Dec.{eqb}
-use borrow.Author.Tests.{eqb-true, eqb-false, ne-eqb, le-leb, lt-leb}
-use Rattle.scan.specs.Loop.{halt, more}
-use Rattle.scan.specs.Bytes.{blank, nameByte, attrNameByte, digitByte, runTurn, runEnd, runLength}
+use lib.Dec.{eqb, ltb}
+use borrow.Author.Tests.{eqb-true, eqb-false, ne-eqb, le-leb, lt-leb, ltb-true, ltb-false}
+use Rattle.scan.specs.Loop.{Next, halt, more, loop}
+use Rattle.scan.specs.Bytes.{blank, nameByte, attrNameByte, digitByte, runEnd, runLength}
 use Rattle.scan.specs.Posts.{Ends, Passes, Skips}
-use Rattle.scan.proofs.Loop.{loop-out, loop-halt, loop-more, loop-ind, halt-inj, more-inj, halt≢more, more≢halt}
+use Rattle.scan.proofs.Loop.{loop-out, loop-halt, loop-more}
 
 -- ---- a byte's class
 pub blank-not : (b : ℕ) → (b ≡ 9 → ⊥) → (b ≡ 10 → ⊥) → (b ≡ 13 → ⊥) → (b ≡ 32 → ⊥) → blank b ≡ false
@@ -55,43 +58,89 @@ either b k h l = by (eqb b k) refl
     by true e = inl (eqb-true b k e)
     by false e = let n : b ≡ k → ⊥ = eqb-false b k e in inr (omega arith)
 
+-- ---- the bytes that a text begins with
+module _ (t : ℕ → Bool) (s : List ℕ) (i : ℕ) where
+  pub length-out : length s ≤ i → runLength t (drop i s) ≡ 0
+  unfolding runLength
+  length-out h = rw (drop-of-length-le s h)
+
+  pub length-stop : i < length s → t (getD s i 0) ≡ false → runLength t (drop i s) ≡ 0
+  unfolding runLength
+  length-stop h e = rw (drop-cons s i 0 h, e)
+
+  pub length-on : i < length s → t (getD s i 0) ≡ true → runLength t (drop i s) ≡ suc (runLength t (drop (i + 1) s))
+  unfolding runLength
+  length-on h e = rw (add-one i, drop-cons s i 0 h, e)
+
+pub length-within : (t : ℕ → Bool) (s : List ℕ) → runLength t s ≤ length s
+unfolding runLength
+length-within t [] = omega arith
+length-within t (b ∷ s) = by (t b) (length-within t s)
+  where
+    by : (x : Bool) → runLength t s ≤ length s → cond x (suc (runLength t s)) 0 ≤ suc (length s)
+    by true l = omega arith
+    by false l = omega arith
+
 -- ---- one turn of a run
 module _ (t : ℕ → Bool) (s : List ℕ) (i : ℕ) where
   pub run-here : i < length s → t (getD s i 0) ≡ false → runEnd t s i ≡ i
   unfolding runEnd
-  run-here h e = loop-halt (length s) (runTurn t s) (λ j x. j) i tt i h (rw e)
+  run-here h e = rw (drop-cons s i 0 h, e) (omega arith)
 
   pub run-on : i < length s → t (getD s i 0) ≡ true → runEnd t s i ≡ runEnd t s (i + 1)
   unfolding runEnd
-  run-on h e = loop-more (length s) (runTurn t s) (λ j x. j) i tt (i + 1) tt h (rw e) (omega arith)
+  run-on h e = rw (drop-cons s i 0 h, e, add-one i) (omega arith)
 
   pub run-out : length s ≤ i → runEnd t s i ≡ i
   unfolding runEnd
-  run-out h = loop-out (length s) (runTurn t s) (λ j x. j) i tt h
+  run-out h = rw (drop-of-length-le s h) (omega arith)
 
 -- ---- a whole run
+-- what holds past a length, and at each place if at the next, holds everywhere
+pub upward : (len : ℕ) (P : ℕ → Type 0) → ((i : ℕ) → len ≤ i → P i) → ((i : ℕ) → i < len → P (i + 1) → P i) → (p : ℕ) → P p
+upward len P out on p = from len p (omega arith)
+  where
+    from : (n i : ℕ) → len ≤ i + n → P i
+    from zero i h = out i (omega arith)
+    from (suc n) i h = by (ltb i len) refl (from n (i + 1) (omega arith))
+      where
+        by : (b : Bool) → ltb i len ≡ b → P (i + 1) → P i
+        by true e k = on i (ltb-true i len e) k
+        by false e k = out i (ltb-false i len e)
+
 module _ (t : ℕ → Bool) (s : List ℕ) (Inv Q : ℕ → Type 0)
     (goes : (i : ℕ) → i < length s → t (getD s i 0) ≡ true → Inv i → Inv (i + 1))
     (stops : (i : ℕ) → i < length s → t (getD s i 0) ≡ false → Inv i → Q i)
     (ends : (i : ℕ) → length s ≤ i → Inv i → Q i)
   where
-    halts : (i : ℕ) (x : Unit {0}) (r : ℕ) → i < length s → Inv i → runTurn t s i x ≡ halt r → Q r
-    halts i x r h j w = by (t (getD s i 0)) refl
-      where
-        by : (b : Bool) → t (getD s i 0) ≡ b → Q r
-        by true e = absurd (more≢halt (rw e at w))
-        by false e = subst Q (halt-inj (rw e at w)) (stops i h e j)
-
-    passes : (i : ℕ) (x : Unit {0}) (q : ℕ) (y : Unit {0}) → i < length s → Inv i → runTurn t s i x ≡ more q y → (i < q) × Inv q
-    passes i x q y h j w = by (t (getD s i 0)) refl
-      where
-        by : (b : Bool) → t (getD s i 0) ≡ b → (i < q) × Inv q
-        by true e = let z : i + 1 ≡ q = more-inj (rw e at w) in (omega arith, subst Inv z (goes i h e j))
-        by false e = absurd (halt≢more (rw e at w))
-
     pub run-ind : (p : ℕ) → Inv p → Q (runEnd t s p)
-    unfolding runEnd
-    run-ind p i = loop-ind (length s) (runTurn t s) (λ i x. i) (λ i x. Inv i) Q halts passes (λ i x h j. ends i h j) p tt i
+    run-ind = upward (length s) (λ i. Inv i → Q (runEnd t s i)) (λ i h j. subst⁻¹ Q (run-out t s i h) (ends i h j)) on
+      where
+        on : (i : ℕ) → i < length s → (Inv (i + 1) → Q (runEnd t s (i + 1))) → Inv i → Q (runEnd t s i)
+        on i h k j = by (t (getD s i 0)) refl
+          where
+            by : (b : Bool) → t (getD s i 0) ≡ b → Q (runEnd t s i)
+            by true e = subst⁻¹ Q (run-on t s i h e) (k (goes i h e j))
+            by false e = subst⁻¹ Q (run-here t s i h e) (stops i h e j)
+
+-- the same as turns of a loop
+abbrev pub runTurn : (ℕ → Bool) → List ℕ → ℕ → Unit {0} → Next (Unit {0}) ℕ
+runTurn t s i x = cond (t (getD s i 0)) (more (i + 1) x) (halt i)
+
+pub run-loop : (t : ℕ → Bool) (s : List ℕ) (p : ℕ) → runEnd t s p ≡ loop (length s) (runTurn t s) (λ i x. i) p tt
+run-loop t s p = run-ind t s (λ i. from i ≡ from p) (λ r. r ≡ from p) goes stops ends p refl
+  where
+    from : ℕ → ℕ
+    from i = loop (length s) (runTurn t s) (λ i x. i) i tt
+
+    goes : (i : ℕ) → i < length s → t (getD s i 0) ≡ true → from i ≡ from p → from (i + 1) ≡ from p
+    goes i h e j = sym (loop-more (length s) (runTurn t s) (λ j x. j) i tt (i + 1) tt h (rw e) (omega arith)) ∙ j
+
+    stops : (i : ℕ) → i < length s → t (getD s i 0) ≡ false → from i ≡ from p → i ≡ from p
+    stops i h e j = sym (loop-halt (length s) (runTurn t s) (λ j x. j) i tt i h (rw e)) ∙ j
+
+    ends : (i : ℕ) → length s ≤ i → from i ≡ from p → i ≡ from p
+    ends i h j = sym (loop-out (length s) (runTurn t s) (λ j x. j) i tt h) ∙ j
 
 -- what the definition says of itself, with no code
 module _ (t : ℕ → Bool) (s : List ℕ) (p : ℕ) where
@@ -102,7 +151,8 @@ module _ (t : ℕ → Bool) (s : List ℕ) (p : ℕ) where
   run-high l = run-ind t s (λ i. i ≤ length s) (λ r. r ≤ length s) (λ i h e j. omega arith) (λ i h e j. j) (λ i h j. j) p l
 
   pub run-stops : runEnd t s p < length s → t (getD s (runEnd t s p) 0) ≡ false
-  run-stops = run-ind t s (λ i. Unit {0}) (λ r. r < length s → t (getD s r 0) ≡ false) (λ i h e j. tt) (λ i h e j l. e) (λ i h j l. absurd (omega arith)) p tt
+  run-stops =
+      run-ind t s (λ i. Unit {0}) (λ r. r < length s → t (getD s r 0) ≡ false) (λ i h e j. tt) (λ i h e j l. e) (λ i h j l. absurd (omega arith)) p tt
 
   pub run-all : (k : ℕ) → p ≤ k → k < runEnd t s p → t (getD s k 0) ≡ true
   run-all = run-ind t s passed passed goes (λ i h e j. j) (λ i h j. j) p (λ k l h. absurd (omega arith))
@@ -119,23 +169,8 @@ module _ (t : ℕ → Bool) (s : List ℕ) (p : ℕ) where
 
 -- a run from p on is the run that the text after p begins with
 pub run-length : (t : ℕ → Bool) (s : List ℕ) (p : ℕ) → p ≤ length s → runEnd t s p ≡ p + runLength t (drop p s)
-unfolding runLength
-run-length t s p l = sym (run-ind t s (λ i. (i ≤ length s) × (p + runLength t (drop p s) ≡ i + runLength t (drop i s))) (λ r. p + runLength t (drop p s) ≡ r) goes stops ends p (l, refl))
-  where
-    goes : (i : ℕ) → i < length s → t (getD s i 0) ≡ true → (i ≤ length s) × (p + runLength t (drop p s) ≡ i + runLength t (drop i s)) → (i + 1 ≤ length s) × (p + runLength t (drop p s) ≡ i + 1 + runLength t (drop (i + 1) s))
-    goes i h e j =
-        let d : runLength t (drop i s) ≡ suc (runLength t (drop (i + 1) s)) = rw (drop-cons s i 0 h, add-one i, e) in
-        (omega arith, omega (arith, d, j .1))
-
-    stops : (i : ℕ) → i < length s → t (getD s i 0) ≡ false → (i ≤ length s) × (p + runLength t (drop p s) ≡ i + runLength t (drop i s)) → p + runLength t (drop p s) ≡ i
-    stops i h e j =
-        let d : runLength t (drop i s) ≡ 0 = rw (drop-cons s i 0 h, e) in
-        omega (arith, d, j .1)
-
-    ends : (i : ℕ) → length s ≤ i → (i ≤ length s) × (p + runLength t (drop p s) ≡ i + runLength t (drop i s)) → p + runLength t (drop p s) ≡ i
-    ends i h j =
-        let d : runLength t (drop i s) ≡ 0 = rw (drop-of-length-le s h) in
-        omega (arith, d, j .1)
+unfolding runEnd
+run-length t s p l = refl
 
 -- ---- blocks of bytes that pass
 pub passes-more : (t : ℕ → Bool) (s : List ℕ) (p e e′ : ℕ) → e′ ≡ e + 1 → Passes t s p e → t (getD s e 0) ≡ true → Passes t s p e′
@@ -147,7 +182,8 @@ passes-more t s p e e′ w b g k l h = by (eqb k e) refl
 
 pub run-over : (t : ℕ → Bool) (s : List ℕ) (n i e : ℕ) → e ≡ i + n → e ≤ length s → Passes t s i e → runEnd t s i ≡ runEnd t s e
 run-over t s zero i e w h b = let z : e ≡ i = omega arith in rw z
-run-over t s (suc n) i e w h b = run-on t s i (omega arith) (b i (omega arith) (omega arith)) ∙ run-over t s n (i + 1) e (omega arith) h (λ k l q. b k (omega arith) q)
+run-over t s (suc n) i e w h b =
+    run-on t s i (omega arith) (b i (omega arith) (omega arith)) ∙ run-over t s n (i + 1) e (omega arith) h (λ k l q. b k (omega arith) q)
 
 pub skips-more : (t : ℕ → Bool) (s : List ℕ) (p i e : ℕ) → i ≤ e → e ≤ length s → Skips t s p i → Passes t s i e → Skips t s p e
 skips-more t s p i e l h k b = record { after = omega (arith, k .after); within = h; same = k .same ∙ run-over t s (e - i) i e (omega arith) h b }

@@ -15,12 +15,15 @@ use Rattle.scan.proofs.Runs.{run-length}
 
 module _ (b : ℕ) where
   -- the same by the length of the run, over the text itself
-  more : (s : List ℕ) → runLength (other b) s < length s → splitAt b s ≡ take (runLength (other b) s) s ∷ splitAt b (drop (suc (runLength (other b) s)) s)
+  more : (s : List ℕ) → runLength (other b) s < length s
+      → splitAt b s ≡ take (runLength (other b) s) s ∷ splitAt b (drop (suc (runLength (other b) s)) s)
   unfolding splitAt runLength
   more [] h = absurd (omega arith)
   more (a ∷ s) h = by (eqb a b) refl (more s)
     where
-      by : (t : Bool) → eqb a b ≡ t → (runLength (other b) s < length s → splitAt b s ≡ take (runLength (other b) s) s ∷ splitAt b (drop (suc (runLength (other b) s)) s)) → splitAt b (a ∷ s) ≡ take (runLength (other b) (a ∷ s)) (a ∷ s) ∷ splitAt b (drop (suc (runLength (other b) (a ∷ s))) (a ∷ s))
+      by : (t : Bool) → eqb a b ≡ t
+          → (runLength (other b) s < length s → splitAt b s ≡ take (runLength (other b) s) s ∷ splitAt b (drop (suc (runLength (other b) s)) s))
+          → splitAt b (a ∷ s) ≡ take (runLength (other b) (a ∷ s)) (a ∷ s) ∷ splitAt b (drop (suc (runLength (other b) (a ∷ s))) (a ∷ s))
       by true e r = rw e
       by false e r = rw (e, r (omega (arith, rw e at h)))
 
@@ -33,12 +36,15 @@ module _ (b : ℕ) where
       by true e r = absurd (omega (arith, rw e at h))
       by false e r = rw (e, r (omega (arith, rw e at h)))
 
-  half : (s : List ℕ) → runLength (other b) s < length s → splitOnce b s ≡ halves (take (runLength (other b) s) s) (drop (suc (runLength (other b) s)) s)
+  half : (s : List ℕ) → runLength (other b) s < length s
+      → splitOnce b s ≡ halves (take (runLength (other b) s) s) (drop (suc (runLength (other b) s)) s)
   unfolding splitOnce runLength
   half [] h = absurd (omega arith)
   half (a ∷ s) h = by (eqb a b) refl (half s)
     where
-      by : (t : Bool) → eqb a b ≡ t → (runLength (other b) s < length s → splitOnce b s ≡ halves (take (runLength (other b) s) s) (drop (suc (runLength (other b) s)) s)) → splitOnce b (a ∷ s) ≡ halves (take (runLength (other b) (a ∷ s)) (a ∷ s)) (drop (suc (runLength (other b) (a ∷ s))) (a ∷ s))
+      by : (t : Bool) → eqb a b ≡ t
+          → (runLength (other b) s < length s → splitOnce b s ≡ halves (take (runLength (other b) s) s) (drop (suc (runLength (other b) s)) s))
+          → splitOnce b (a ∷ s) ≡ halves (take (runLength (other b) (a ∷ s)) (a ∷ s)) (drop (suc (runLength (other b) (a ∷ s))) (a ∷ s))
       by true e r = rw e
       by false e r = rw (e, r (omega (arith, rw e at h)))
 

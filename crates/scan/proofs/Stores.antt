@@ -1,14 +1,23 @@
--- Laws of lent tables: runs of stores, one after the other and one before the other, read back, and of the loops that make them. Assumes nothing.
-use Prim.Native.Nat.{ℕ, suc, _+_, _≤_, _<_}
+-- Laws of lent tables. Assumes nothing.
+--     sets-append, set-sets, sets-before, sets-on      runs of stores, one after the other and one before the other
+--     sets-part, sets-other                            a run read back
+--     Cleared, cleared-none, cleared-more, cleared-all a loop that clears
+--     Copied, copied-none, copied-more, copied-all     a loop that copies
+--     appended-kept, appended-on                       pieces written one after the other
+--     begun-kept, begun-on, begun-first, begun-none, in-part, wrote-on, wrote-full   the same where there was no room for all
+use Prim.Native.Nat.{ℕ, zero, suc, _+_, _≤_, _<_}
 use mathlib.Core.Path.{_≡_, refl, sym, ap, _∙_}
 use mathlib.Core.List.{List, [], _∷_, _++_, append-nil, append-assoc}
 use mathlib.Core.Logic.{_⊎_, inl, inr}
 use native.Mathlib.Omega.{arith}
 use native.Mathlib.Nat.{add-zero, add-suc, suc-add}
 use native.Mathlib.Numerals.{add-one}
-use borrow.Author.Fill.{fill-none, fill-more}
-use lib.ListN.{length, getD, set, take, drop, replicate, length-set, drop-of-length-le}
-use lib.Seq.{sets, set-comm, sets-eq, length-take-le, take-suc, take-length, take-append-seam, drop-at, getD-set-other}
+use lib.ListN.{length, getD, set, take, drop, replicate, length-set, length-append, drop-of-length-le}
+use lib.Seq.{sets, set-comm, sets-eq, length-sets, length-take-le, take-suc, take-length, take-append-seam, take-append-le, take-append-add, drop-at}
+use lib.Seq.{getD-set-other}
+use Rattle.scan.specs.declared.table.Written.{Written}
+use Rattle.scan.specs.declared.table.Written.the-variants.{At, Full}
+use Rattle.scan.specs.Posts.{Appended, Wrote, Begun, WroteInPart}
 
 -- what is stored after a run
 pub sets-append : (a b t : List ℕ) (i : ℕ) → sets (sets t i a) (i + length a) b ≡ sets t i (a ++ b)
@@ -35,7 +44,8 @@ sets-on a b t t′ t″ i j e f w = f ∙ rw (w, e) (sets-append a b t i)
 -- what was stored
 pub sets-part : (w t : List ℕ) (i : ℕ) → i + length w ≤ length t → take (length w) (drop i (sets t i w)) ≡ w
 sets-part w t i h =
-    let e : drop i (sets t i w) ≡ w ++ drop (i + length w) t = rw (sets-eq w t i h, append-assoc) (drop-at (take i t) (w ++ drop (i + length w) t) i (length-take-le i t (omega arith))) in
+    let e : drop i (sets t i w) ≡ w ++ drop (i + length w) t = rw (sets-eq w t i h, append-assoc)
+    (drop-at (take i t) (w ++ drop (i + length w) t) i (length-take-le i t (omega arith))) in
     rw e (take-append-seam w (drop (i + length w) t))
 
 -- and what was not
@@ -44,27 +54,33 @@ sets-other [] t i k h = refl
 sets-other (x ∷ w) t i k (inl h) = sets-other w (set t i x) (suc i) k (inl (omega arith)) ∙ getD-set-other t i k x 0 (λ e. omega arith)
 sets-other (x ∷ w) t i k (inr h) = sets-other w (set t i x) (suc i) k (inr (omega arith)) ∙ getD-set-other t i k x 0 (λ e. omega arith)
 
--- ---- a loop that clears: of the table t the first i cells are 0
-pub record Cleared (t : List ℕ) (i : ℕ) (t′ : List ℕ) : Type 0 where
+-- ---- a loop that clears: of the table t the first i cells are z
+pub record Cleared {A : Type 0} (z : A) (t : List A) (i : ℕ) (t′ : List A) : Type 0 where
   pub within : i ≤ length t
-  pub is : t′ ≡ replicate i 0 ++ drop i t
+  pub is : t′ ≡ replicate i z ++ drop i t
   pub kept : length t′ ≡ length t
 
-pub cleared-none : (t : List ℕ) → Cleared t 0 t
-cleared-none t = record { within = omega arith; is = fill-none t 0; kept = refl }
+fill : {A : Type 0} (z : A) (i : ℕ) (t : List A) → i < length t → set (replicate i z ++ drop i t) i z ≡ replicate (suc i) z ++ drop (suc i) t
+fill z i [] h = absurd (omega arith)
+fill z zero (x ∷ t) h = refl
+fill z (suc i) (x ∷ t) h = rw (fill z i t (omega arith))
 
-pub cleared-more : (t t′ : List ℕ) (i : ℕ) → Cleared t i t′ → i < length t → Cleared t (i + 1) (set t′ i 0)
-cleared-more t t′ i c h =
-    record {
-      within = omega arith;
-      is = rw (c .is) (fill-more i 0 t h);
-      kept = simp length-set (c .kept);
-    }
+module _ {A : Type 0} (z : A) (t : List A) where
+  pub cleared-none : Cleared z t 0 t
+  cleared-none = record { within = omega arith; is = refl; kept = refl }
 
-pub cleared-all : (t t′ : List ℕ) (i : ℕ) → Cleared t i t′ → length t ≤ i → t′ ≡ replicate (length t) 0
-cleared-all t t′ i c h =
-    let e : i ≡ length t = omega arith in
-    c .is ∙ rw (drop-of-length-le t h, append-nil, e)
+  pub cleared-more : (t′ : List A) (i : ℕ) → Cleared z t i t′ → i < length t → Cleared z t (i + 1) (set t′ i z)
+  cleared-more t′ i c h =
+      record {
+        within = omega arith;
+        is = rw (c .is, add-one i) (fill z i t h);
+        kept = simp length-set (c .kept);
+      }
+
+  pub cleared-all : (t′ : List A) (i : ℕ) → Cleared z t i t′ → length t ≤ i → t′ ≡ replicate (length t) z
+  cleared-all t′ i c h =
+      let e : i ≡ length t = omega arith in
+      c .is ∙ rw (drop-of-length-le t h, append-nil, e)
 
 -- ---- a loop that copies: of the piece w the first i bytes stand in the table t from a place on
 pub record Copied (w : List ℕ) (a : ℕ) (t : List ℕ) (i : ℕ) (t′ : List ℕ) : Type 0 where
@@ -82,7 +98,9 @@ copied-more w t t′ a i c h =
     record {
       some = omega arith;
       room = c .room;
-      is = rw (c .is, add-one i, take-suc w i 0 h) (ap (λ (k : ℕ). set (sets t a (take i w)) (a + k) (getD w i 0)) (sym l) ∙ sets-append (take i w) (getD w i 0 ∷ []) t a);
+      is =
+          rw (c .is, add-one i, take-suc w i 0 h)
+          (ap (λ (k : ℕ). set (sets t a (take i w)) (a + k) (getD w i 0)) (sym l) ∙ sets-append (take i w) (getD w i 0 ∷ []) t a);
       kept = simp length-set (c .kept);
     }
 
@@ -90,3 +108,57 @@ pub copied-all : (w t t′ : List ℕ) (a i : ℕ) → Copied w a t i t′ → l
 copied-all w t t′ a i c h =
     let e : i ≡ length w = omega arith in
     c .is ∙ rw (e, take-length w)
+
+-- ---- pieces written one after the other
+module _ {w : List ℕ} {a : ℕ} {t t′ : List ℕ} where
+  pub appended-kept : {n : ℕ} → Appended w a t t′ n → length t′ ≡ length t
+  appended-kept p = rw (p .laid) (length-sets t a w)
+
+  pub begun-kept : Begun w a t t′ → length t′ ≡ length t
+  begun-kept b = rw (b .laid) (length-sets t a (take (b .many) w))
+
+-- a piece after a piece
+pub appended-on : {a b t t′ t″ : List ℕ} {i j k : ℕ} → Appended a i t t′ j → Appended b j t′ t″ k → Appended (a ++ b) i t t″ k
+appended-on {a} {b} {t} {t′} {t″} {i} {j} x y =
+    record {
+      next = simp length-append (omega (arith, x .next, y .next));
+      within = omega (arith, y .within, appended-kept x);
+      laid = sets-on a b t t′ t″ i j (x .laid) (y .laid) (x .next);
+    }
+
+-- a beginning of the second piece after the first
+pub begun-on : {w x : List ℕ} {a n : ℕ} {t t′ t″ : List ℕ} → Appended w a t t′ n → Begun x n t′ t″ → Begun (w ++ x) a t t″
+begun-on {w} {x} {a} {n} {t} {t′} {t″} p b =
+    record {
+      many = length w + b .many;
+      some = simp length-append (omega (arith, b .some));
+      room = omega (arith, b .room, p .next, appended-kept p);
+      laid = rw (take-append-add w x (b .many)) (sets-on w (take (b .many) x) t t′ t″ a n (p .laid) (b .laid) (p .next));
+    }
+
+-- a beginning of the first is one of both
+pub begun-first : {w : List ℕ} {a : ℕ} {t t′ : List ℕ} (x : List ℕ) → Begun w a t t′ → Begun (w ++ x) a t t′
+begun-first {w} {a} {t} {t′} x b =
+    record {
+      many = b .many;
+      some = simp length-append (omega (arith, b .some));
+      room = b .room;
+      laid = rw (take-append-le (b .many) w x (b .some)) (b .laid);
+    }
+
+pub begun-none : (w : List ℕ) (a : ℕ) (t t′ : List ℕ) → a ≤ length t → t′ ≡ t → Begun w a t t′
+begun-none w a t t′ h e = record { many = 0; some = omega arith; room = omega arith; laid = e }
+
+-- what is written at once, as what is written part by part
+pub in-part : (w : List ℕ) (a : ℕ) (t t′ : List ℕ) (r : Written) → a ≤ length t → Wrote w a t t′ r → WroteInPart w a t t′ r
+in-part w a t t′ (At n) h v = v
+in-part w a t t′ Full h v = (v .0, begun-none w a t t′ h (v .1))
+
+module _ (w x : List ℕ) (a : ℕ) (t t′ : List ℕ) where
+  pub wrote-on : (n : ℕ) (t″ : List ℕ) (r : Written) → Appended w a t t′ n → WroteInPart x n t′ t″ r → WroteInPart (w ++ x) a t t″ r
+  wrote-on n t″ (At m) p v = appended-on p v
+  wrote-on n t″ Full p v = (simp length-append (omega (arith, v .0, p .next, appended-kept p)), begun-on p (v .1))
+
+  -- where a piece does not fit, no more does
+  pub wrote-full : WroteInPart w a t t′ Full → WroteInPart (w ++ x) a t t′ Full
+  wrote-full v = (simp length-append (omega (arith, v .0)), begun-first x (v .1))

@@ -1,22 +1,25 @@
 -- Marks in a text. Definitions alone.
-use Prim.Native.Nat.{ℕ, _+_}
+use Prim.Native.Nat.{ℕ, suc, _+_}
 use mathlib.Core.Bool.{Bool, true, false, cond}
 use mathlib.Core.List.{List, [], _∷_}
-use lib.ListN.{length, getD}
+use lib.ListN.{length, getD, drop}
 use lib.Dec.{eqb, ltb}
-use Rattle.scan.specs.Loop.{Next, halt, more, loop}
 
 -- the mark m stands at the place p
 unfoldable pub startsAt : List ℕ → ℕ → List ℕ → Bool
 startsAt s p [] = true
 startsAt s p (b ∷ m) = cond (ltb p (length s)) (cond (eqb (getD s p 0) b) (startsAt s (p + 1) m) false) false
 
--- the first place of the mark from p on, or the text's length (the Rust's `find_seq`)
-abbrev pub seekTurn : List ℕ → List ℕ → ℕ → Unit {0} → Next (Unit {0}) ℕ
-seekTurn m s i x = cond (startsAt s i m) (halt i) (more (i + 1) x)
+-- how many bytes of s stand before its first mark m; all of them, where there is none
+unfoldable pub beforeMark : List ℕ → List ℕ → ℕ
+unfolding startsAt
+beforeMark m [] = 0
+beforeMark m (b ∷ s) = cond (startsAt (b ∷ s) 0 m) 0 (suc (beforeMark m s))
 
+-- the first place of the mark from p on, or the text's length (the Rust's `find_seq`)
 unfoldable pub seek : List ℕ → List ℕ → ℕ → ℕ
-seek m s p = loop (length s) (seekTurn m s) (λ i x. i) p tt
+unfolding beforeMark
+seek m s p = p + beforeMark m (drop p s)
 
 -- the place after it, or the text's length
 unfoldable pub past : List ℕ → List ℕ → ℕ → ℕ

@@ -3,7 +3,7 @@ use Prim.Native.Nat.{ℕ, _+_, _≤_, _<_}
 use mathlib.Core.Path.{_≡_}
 use mathlib.Core.Bool.{Bool, true, false}
 use mathlib.Core.List.{List}
-use lib.ListN.{length, getD}
+use lib.ListN.{length, getD, take}
 use lib.Seq.{sets}
 use Rattle.scan.specs.declared.table.Written.{Written}
 use Rattle.scan.specs.declared.table.Written.the-variants.{At, Full}
@@ -52,7 +52,19 @@ pub record Appended (w : List ℕ) (at : ℕ) (t t′ : List ℕ) (n : ℕ) : Ty
   pub within : n ≤ length t
   pub laid : t′ ≡ sets t at w
 
--- the piece w is written at a place of the table t; or it does not fit
+-- the piece w is written at a place of the table t; or it does not fit, and the table is as it was
 abbrev pub Wrote : List ℕ → ℕ → List ℕ → List ℕ → Written → Type 0
 Wrote w at t t′ (At n) = Appended w at t t′ n
-Wrote w at t t′ Full = (length t < at + length w) × (length t′ ≡ length t)
+Wrote w at t t′ Full = (length t < at + length w) × (t′ ≡ t)
+
+-- a beginning of the piece w stands in the table t′ from a place on, and all other cells are as in t
+pub record Begun (w : List ℕ) (at : ℕ) (t t′ : List ℕ) : Type 0 where
+  pub many : ℕ
+  pub some : many ≤ length w
+  pub room : at + many ≤ length t
+  pub laid : t′ ≡ sets t at (take many w)
+
+-- the same of a piece that is written part by part: where it does not fit, a beginning of it stands there, as long as the program left it
+abbrev pub WroteInPart : List ℕ → ℕ → List ℕ → List ℕ → Written → Type 0
+WroteInPart w at t t′ (At n) = Appended w at t t′ n
+WroteInPart w at t t′ Full = (length t < at + length w) × Begun w at t t′

@@ -4,7 +4,7 @@ ghost use mathlib.Core.Path.{_≡_};
 ghost use mathlib.Core.Bool.{false};
 ghost use Prim.Native.Nat.{_+_, _≤_};
 ghost use lib.ListN.{length};
-ghost use Rattle.scan.specs.Bytes.{blank, nameByte, attrNameByte, digitByte, member, isOut, other};
+ghost use Rattle.scan.specs.Bytes.{blank, nameByte, attrNameByte, digitByte, member, other};
 ghost use Rattle.scan.specs.Posts.{Ends, Passes, Skips};
 
 // The classes that the grammar names.
@@ -96,21 +96,6 @@ fn over_each(src: &[u8], pos: usize, class: Class) -> usize
     i
 }
 
-// Where the run of bytes outside the class ends.
-pub fn until(src: &[u8], pos: usize, class: Class) -> usize
-    requires { ⌜ pos ≤ length (now src) ⌝ }
-    ensures { λ r. ⌜ Ends (isOut class) (now (src .entry)) pos r ⌝ }
-{
-    let mut i = pos;
-    while i < src.len() {
-        if is_of(class, src[i]) {
-            return i;
-        }
-        i += 1;
-    }
-    i
-}
-
 // The first place of the byte, or the length.
 pub fn find_byte(src: &[u8], pos: usize, b: u8) -> usize
     requires { ⌜ pos ≤ length (now src) ⌝ }
@@ -163,12 +148,5 @@ pub fn find_far(src: &[u8], pos: usize, b: u8) -> usize
     requires { ⌜ pos ≤ length (now src) ⌝ }
     ensures { λ r. ⌜ Ends (other b) (now (src .entry)) pos r ⌝ }
 {
-    let mut i = skip_blocks(src, pos, b);
-    while i < src.len() {
-        if src[i] == b {
-            return i;
-        }
-        i += 1;
-    }
-    i
+    find_byte(src, skip_blocks(src, pos, b), b)
 }

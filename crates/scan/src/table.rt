@@ -1,9 +1,12 @@
 // Lent tables: cells that are cleared, set and read, and bytes that are appended.
 ghost use mathlib.Core.Path.{_≡_};
+ghost use mathlib.Core.Bool.{false};
 ghost use mathlib.Core.List.{[], _∷_};
 ghost use Prim.Native.Nat.{_+_, _-_, _≤_, _<_, _^_};
 ghost use lib.ListN.{length, getD, replicate};
 ghost use lib.Seq.{sets};
+ghost use lib.IntN.{pos};
+ghost use lib.Ieee.{fin};
 ghost use Rattle.scan.specs.Posts.{Appended, Wrote};
 
 // Where the next byte goes, or there is no room.
@@ -28,6 +31,28 @@ pub fn clear_bytes(cells: &mut [u8])
     let mut i = 0;
     while i < cells.len() {
         cells[i] = b'\0';
+        i += 1;
+    }
+}
+
+// The same of times,
+pub fn clear_i64(cells: &mut [i64])
+    ensures { λ _. ⌜ now (cells .exit) ≡ replicate (length (now (cells .entry))) (pos 0) ⌝ }
+{
+    let mut i = 0;
+    while i < cells.len() {
+        cells[i] = 0;
+        i += 1;
+    }
+}
+
+// and of sizes.
+pub fn clear_f32(cells: &mut [f32])
+    ensures { λ _. ⌜ now (cells .exit) ≡ replicate (length (now (cells .entry))) (fin false 0 (pos 0)) ⌝ }
+{
+    let mut i = 0;
+    while i < cells.len() {
+        cells[i] = 0.0;
         i += 1;
     }
 }

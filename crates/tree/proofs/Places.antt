@@ -12,11 +12,11 @@ use lib.Dec.{eqb, ltb}
 use borrow.Author.Tests.{ltb-true}
 use Rattle.scan.specs.Loop.{Next, halt, more, go, loop}
 use Rattle.scan.specs.Bytes.{blank, textByte, nameByte, attrNameByte, other, runEnd}
-use Rattle.scan.specs.Marks.{startsAt, seekTurn, seek, past}
+use Rattle.scan.specs.Marks.{startsAt, seek, past}
 use Rattle.unicode.specs.Utf8.{utf8End}
 use Rattle.tree.specs.Trees.{Attr, Forest, nil, text, section, elem, join, Span, attrSpans, spans, InOrder}
 use Rattle.tree.specs.Read.{Out, got, nothing, bad, gt, equals, closeMark, commentMark, commentEnd, cdataMark, cdataEnd, piMark, piEnd, declMark, quoteByte, skip, AttrOut, attr, flaw, quoted, bare, valueAt, attrAt, TagOut, opened, shut, torn, TagState, slash, attrNext, tagTurn, tagFrom, startAt, Reader, commentTurn, pastComments, textAt, sectionAt, nodeHere, nodeAt, State, nodeNext, closeAt, innerTurn, outerTurn, rowOf, fresh, enclose, tagged, elementBy, elementOf, contentOf, prologTurn, prologEnd, meaning}
-use Rattle.scan.proofs.Loop.{loop-ind, halt-inj, more-inj, halt≢more, more≢halt}
+use Rattle.scan.proofs.Searches.{seek-ind}
 use Rattle.scan.proofs.Runs.{run-low, run-high}
 use Rattle.tree.proofs.Tags.{starts-some}
 
@@ -119,22 +119,9 @@ abbrev Sought : List ℕ → List ℕ → ℕ → ℕ → Type 0
 Sought m s p r = (p ≤ r) × (r ≤ length s) × (r < length s → r + length m ≤ length s)
 
 seek-in : (m s : List ℕ) (p : ℕ) → p ≤ length s → Sought m s p (seek m s p)
-unfolding seek
-seek-in m s p h = loop-ind (length s) (seekTurn m s) (λ i x. i) (λ i x. (p ≤ i) × (i ≤ length s)) (Sought m s p) halts goes (λ i x l j. (j .0, j .1, λ g. absurd (omega arith))) p tt (omega arith, h)
-  where
-    halts : (i : ℕ) (x : Unit {0}) (r : ℕ) → i < length s → (p ≤ i) × (i ≤ length s) → seekTurn m s i x ≡ halt r → Sought m s p r
-    halts i x r l j w = by (startsAt s i m) refl
-      where
-        by : (b : Bool) → startsAt s i m ≡ b → Sought m s p r
-        by true e = let z : i ≡ r = halt-inj (rw e at w) in rw (← z) (j .0, j .1, λ g. starts-whole s i m (j .1) e)
-        by false e = absurd (more≢halt (rw e at w))
-
-    goes : (i : ℕ) (x : Unit {0}) (q : ℕ) (y : Unit {0}) → i < length s → (p ≤ i) × (i ≤ length s) → seekTurn m s i x ≡ more q y → (i < q) × ((p ≤ q) × (q ≤ length s))
-    goes i x q y l j w = by (startsAt s i m) refl
-      where
-        by : (b : Bool) → startsAt s i m ≡ b → (i < q) × ((p ≤ q) × (q ≤ length s))
-        by true e = absurd (halt≢more (rw e at w))
-        by false e = let z : i + 1 ≡ q = more-inj (rw e at w) in (omega arith, (omega arith, omega arith))
+seek-in m s p h =
+    seek-ind m s (λ i. (p ≤ i) × (i ≤ length s)) (Sought m s p) (λ i l e j. (omega arith, omega arith)) (λ i l e j. (j .0, j .1, λ g. starts-whole s i m (j .1) e))
+    (λ i l j. (j .0, j .1, λ g. absurd (omega arith))) p (omega arith, h)
 
 past-in : (m s : List ℕ) (p : ℕ) → p ≤ length s → (seek m s p ≤ past m s p) × (past m s p ≤ length s)
 unfolding past

@@ -15,8 +15,9 @@ use lib.ListN.{length, length-append}
 use lib.Seq.{sets, length-sets}
 use lib.IntN.{ℤ}
 use lib.Ieee.{Float}
-use Rattle.scan.specs.Posts.{Appended}
-use Rattle.scan.proofs.Stores.{sets-on}
+use Rattle.scan.specs.Posts.{Appended, Wrote, WroteInPart}
+use Rattle.scan.specs.declared.table.Written.the-variants.{Full}
+use Rattle.scan.proofs.Stores.{sets-on, in-part, wrote-on, wrote-full}
 use Rattle.track.specs.declared.strings.Span.{Span}
 use Rattle.track.specs.declared.segments.Segment.{Segment}
 use Rattle.track.specs.Track.{Segments}
@@ -105,6 +106,11 @@ pub record Walking (t : List ℕ) (r : List ℤ) (f : List Float) (y : List ℕ)
   pub kept : length o′ ≡ length o
   pub rest : plainText y (segmentsAt t r f d n from) ≡ done ++ plainText y (segmentsAt t r f d (from + n - i) i)
 
+written-so-far :
+    {t : List ℕ} {r : List ℤ} {f : List Float} {y : List ℕ} {from n d at : ℕ} {o : List ℕ} {i to : ℕ} {o′ : List ℕ}
+    → (g : Walking t r f y from n d at o i to o′) → Appended (g .done) at o o′ to
+written-so-far g = record { next = g .place; within = g .fits; laid = g .laid }
+
 module _ (t : List ℕ) (r : List ℤ) (f : List Float) (y : List ℕ) (from n d at : ℕ) (o : List ℕ) where
   pub walking-start : WalkReady t r f y from n d → at ≤ length o → Walking t r f y from n d at o from at o
   walking-start w h =
@@ -127,7 +133,7 @@ module _ (t : List ℕ) (r : List ℤ) (f : List Float) (y : List ℕ) (from n d
     walking-done h =
         let e : from + n - i ≡ 0 = omega arith in
         let k : plainText y (segmentsAt t r f d n from) ≡ g .done = g .rest ∙ rw (e, text-none y t r f d i, append-nil) in
-        rw k (record { next = g .place; within = g .fits; laid = g .laid })
+        rw k (written-so-far g)
 
     module _ (h : i < from + n) where
       pub first : Walk t f (g .strings) y d (from + n - i) i
@@ -138,15 +144,13 @@ module _ (t : List ℕ) (r : List ℤ) (f : List Float) (y : List ℕ) (from n d
             ≡ g .done ++ (ownText y s ++ (plainText y (segmentsAt t r f (d - 1) (m - 1) (i + 1)) ++ plainText y (segmentsAt t r f d (from + n - i - m) (i + m))))
         whole = g .rest ∙ ap (λ (l : List ℕ). g .done ++ l) (text-step t r f (g .strings) y d (from + n - i) i first m q s p y)
 
-        long : length (plainText y (segmentsAt t r f d n from))
-            ≡ length (g .done) + (length (ownText y s) + (length (plainText y (segmentsAt t r f (d - 1) (m - 1) (i + 1))) + length (plainText y (segmentsAt t r f d (from + n - i - m) (i + m)))))
-        long = ap length whole ∙ simp length-append
-
         -- its own text does not fit
         pub walking-full :
-            (o″ : List ℕ) → (length o′ < to + length (ownText y s)) × (length o″ ≡ length o′)
-            → (length o < at + length (plainText y (segmentsAt t r f d n from))) × (length o″ ≡ length o)
-        walking-full o″ w = (omega (arith, long, g .place, g .kept, w .0), w .1 ∙ g .kept)
+            (o″ : List ℕ) → Wrote (ownText y s) to o′ o″ Full → WroteInPart (plainText y (segmentsAt t r f d n from)) at o o″ Full
+        walking-full o″ w =
+            let rest = plainText y (segmentsAt t r f (d - 1) (m - 1) (i + 1)) ++ plainText y (segmentsAt t r f d (from + n - i - m) (i + m)) in
+            let own : WroteInPart (ownText y s) to o′ o″ Full = in-part (ownText y s) to o′ o″ Full (omega (arith, g .fits, g .kept)) w in
+            rw whole (wrote-on (g .done) (ownText y s ++ rest) at o o′ to o″ Full (written-so-far g) (wrote-full (ownText y s) rest to o′ o″ own))
 
         module _ (k : ℕ) (o″ : List ℕ) (a : Appended (ownText y s) to o′ o″ k) where
           held : length o″ ≡ length o
@@ -157,9 +161,14 @@ module _ (t : List ℕ) (r : List ℤ) (f : List Float) (y : List ℕ) (from n d
 
           -- its children's does not
           pub walking-torn :
-              (u : List ℕ) → (length o″ < k + length (plainText y (segmentsAt t r f (d - 1) (m - 1) (i + 1)))) × (length u ≡ length o″)
-              → (length o < at + length (plainText y (segmentsAt t r f d n from))) × (length u ≡ length o)
-          walking-torn u w = (omega (arith, long, g .place, a .next, held, w .0), w .1 ∙ held)
+              (u : List ℕ) → WroteInPart (plainText y (segmentsAt t r f (d - 1) (m - 1) (i + 1))) k o″ u Full
+              → WroteInPart (plainText y (segmentsAt t r f d n from)) at o u Full
+          walking-torn u w =
+              let kids = plainText y (segmentsAt t r f (d - 1) (m - 1) (i + 1)) in
+              let rest = plainText y (segmentsAt t r f d (from + n - i - m) (i + m)) in
+              let inside : WroteInPart (ownText y s ++ (kids ++ rest)) to o′ u Full =
+              wrote-on (ownText y s) (kids ++ rest) to o′ o″ k u Full a (wrote-full kids rest k o″ u w) in
+              rw whole (wrote-on (g .done) (ownText y s ++ (kids ++ rest)) at o o′ to u Full (written-so-far g) inside)
 
           pub walking-step :
               (l : ℕ) (u : List ℕ) → Appended (plainText y (segmentsAt t r f (d - 1) (m - 1) (i + 1))) k o″ u l

@@ -4,7 +4,7 @@ ghost use mathlib.Core.Bool.{true};
 ghost use mathlib.Core.List.{List};
 ghost use Prim.Native.Nat.{ℕ, _+_, _*_, _≤_};
 ghost use lib.ListN.{length};
-ghost use Rattle.scan.specs.Posts.{Wrote};
+ghost use Rattle.scan.specs.Posts.{Wrote, WroteInPart};
 ghost use Rattle.track.specs.Tables.{segmentAt, segmentsAt};
 ghost use Rattle.walk.specs.Text.{WalkReady, TextWithin, plainText, ownText};
 use scan::Written;
@@ -40,7 +40,7 @@ pub fn plain_text(
     at: usize,
 ) -> Written
     requires { ⌜ WalkReady (now segments) (now reveal) (now sizes) (now texts) from n room × (at ≤ length (now out)) ⌝ }
-    ensures { λ r. ⌜ Wrote (plainText (now (texts .entry)) (segmentsAt (now (segments .entry)) (now (reveal .entry)) (now (sizes .entry)) room n from)) at (now (out .entry)) (now (out .exit)) r ⌝ }
+    ensures { λ r. ⌜ WroteInPart (plainText (now (texts .entry)) (segmentsAt (now (segments .entry)) (now (reveal .entry)) (now (sizes .entry)) room n from)) at (now (out .entry)) (now (out .exit)) r ⌝ }
 {
     let end = from + n;
     let mut i = from;

@@ -59,10 +59,14 @@ signed-requires-2 c κs = search needs
 
 returns-3 : tie.Need-returns-3
 returns-3 c =
-    let a = c .before .before .before .before .before .before .before .before .before .args in
+    let c3 = c .before .before .before in
+    let c4 = c3 .before in
+    let c9 = c4 .before .before .before .before .before in
+    let a = c9 .args in
     c .signed2 .ensures
-    ∙ (ap (signedBy true) (c .before .read-unsigned2 .ensures ∙ ap (λ (l : List ℕ). unsignedOf l (a .radix) (a .most + 1)) (after-sign (a .text .now)))
-    ∙ sym (numeral-minus (a .radix) (a .most) (a .text .now) (a .minus) (omega arith) (c .before .before .before .before .if3 .taken) (c .before .before .before .if4 .taken)))
+    ∙ (ap (signedBy true) (c .before .read-unsigned2 .ensures
+    ∙ ap (λ (l : List ℕ). unsignedOf l (a .radix) (a .most + 1)) (after-sign (a .text .now)))
+    ∙ sym (numeral-minus (a .radix) (a .most) (a .text .now) (a .minus) (omega arith) (c4 .if3 .taken) (c3 .if4 .taken)))
 
 read-unsigned-requires-3 : tie.Need-read-unsigned-requires-3
 read-unsigned-requires-3 c κs = search needs
@@ -72,10 +76,14 @@ signed-requires-3 c κs = search needs
 
 returns-4 : tie.Need-returns-4
 returns-4 c =
-    let a = c .before .before .before .before .before .before .before .args in
+    let c3 = c .before .before .before in
+    let c7 = c3 .before .before .before .before in
+    let a = c7 .args in
     c .signed3 .ensures
     ∙ (ap (signedBy false) (c .before .read-unsigned3 .ensures)
-    ∙ sym (numeral-bare (a .radix) (a .most) (a .text .now) (a .minus) (omega arith) (c .before .before .before .if2 .left) (⊎-elim (λ w m. w .1 .left) (λ w m q. let z : _≡_ {A = ℕ} 0 1 = cc (w .left, m) in omega arith) (c .before .before .if3 .came))))
+    ∙ sym (numeral-bare (a .radix) (a .most) (a .text .now) (a .minus) (omega arith) (c3 .if2 .left) (⊎-elim (λ w m. w .1 .left)
+    (λ w m q. let z : _≡_ {A = ℕ} 0 1 = cc (w .left, m) in
+    omega arith) (c .before .before .if3 .came))))
 
 pub read-numeral-spec : {M : Type 1} → statement M
 read-numeral-spec =

@@ -27,19 +27,27 @@ digit-requires : tie.Need-digit-requires Inv-loop μ-loop
 digit-requires c κs = search needs
 
 returns-2 : tie.Need-returns-2 Inv-loop μ-loop
-returns-2 c = sym (going-off _ _ _ _ _ (c .before .before .before .before .loop .inv) _ (c .before .before .before .loop-test .taken) (c .before .digit .ensures) (omega arith))
+returns-2 c =
+    let c3 = c .before .before .before in
+    let c4 = c3 .before in
+    sym (going-off _ _ _ _ _ (c4 .loop .inv) _ (c3 .loop-test .taken) (c .before .digit .ensures) (omega arith))
 
 div-if3 : tie.Need-div-if3 Inv-loop μ-loop
 div-if3 c = omega arith
 
 returns-3 : tie.Need-returns-3 Inv-loop μ-loop
 returns-3 c =
+    let c4 = c .before .before .before .before in
+    let c5 = c4 .before in
     let over = shift-over _ _ _ (omega arith) (c .if3 .taken) in
-    sym (going-over _ _ _ _ _ (c .before .before .before .before .before .loop .inv) _ (c .before .before .before .before .loop-test .taken) (c .before .before .digit .ensures) (omega arith) (omega arith))
+    sym (going-over _ _ _ _ _ (c5 .loop .inv) _ (c4 .loop-test .taken) (c .before .before .digit .ensures) (omega arith) (omega arith))
 
 -- the product fits, since the quotient was asked first
-product : (c : tie.Else3 Inv-loop μ-loop) → c .before .before .before .before .before .loop .value * c .before .before .before .before .before .before .before .before .args .radix ≤ c .before .before .before .before .before .before .before .before .args .most
-product c = shift-fits _ _ _ (omega arith) (omega arith)
+product : (c : tie.Else3 Inv-loop μ-loop)
+    → c .before .before .before .before .before .loop .value * c .before .before .before .before .before .before .before .before .args .radix ≤ c
+    .before .before .before .before .before .before .before .before .args .most
+product c =
+    shift-fits _ _ _ (omega arith) (omega arith)
 
 mul-shifted : tie.Need-mul-shifted Inv-loop μ-loop
 mul-shifted c = omega (arith, product c)
@@ -49,7 +57,10 @@ sub-if4 c = omega (arith, product c)
 
 returns-4 : tie.Need-returns-4 Inv-loop μ-loop
 returns-4 c =
-    sym (going-over _ _ _ _ _ (c .before .before .before .before .before .before .loop .inv) _ (c .before .before .before .before .before .loop-test .taken) (c .before .before .before .digit .ensures) (omega arith) (omega arith))
+    let c3 = c .before .before .before in
+    let c5 = c3 .before .before in
+    let c6 = c5 .before in
+    sym (going-over _ _ _ _ _ (c6 .loop .inv) _ (c5 .loop-test .taken) (c3 .digit .ensures) (omega arith) (omega arith))
 
 add-value : tie.Need-add-value Inv-loop μ-loop
 add-value c = omega (arith, product (c .before))
@@ -61,7 +72,11 @@ loop-less : tie.Need-loop-less Inv-loop μ-loop
 loop-less c = omega arith
 
 loop-again : tie.Need-loop-again Inv-loop μ-loop
-loop-again c = going-step _ _ _ _ _ (c .before .before .before .before .before .before .loop .inv) _ (c .before .before .before .before .before .loop-test .taken) (c .before .before .before .digit .ensures) (omega arith) (omega (arith, product (c .before)))
+loop-again c =
+    let c3 = c .before .before .before in
+    let c5 = c3 .before .before in
+    let c6 = c5 .before in
+    going-step _ _ _ _ _ (c6 .loop .inv) _ (c5 .loop-test .taken) (c3 .digit .ensures) (omega arith) (omega (arith, product (c .before)))
 
 returns-5 : tie.Need-returns-5 Inv-loop μ-loop
 returns-5 c = sym (going-done _ _ _ _ _ (c .before .loop .inv) (omega arith))

@@ -6,7 +6,7 @@ use Rattle.probe.proofs.probe_decode_entities.Statement.{statement}
 use Rattle.probe.proofs.probe_decode_entities.Tie as tie
 
 returns : tie.Need-returns
-returns c = record { whole = λ h. absurd (omega arith); short = λ h. refl }
+returns c = record { whole = λ h. absurd (omega arith); short = λ h. (refl, refl) }
 
 decode-entities-requires : tie.Need-decode-entities-requires
 decode-entities-requires c κs = search needs

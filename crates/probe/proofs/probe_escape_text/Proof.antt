@@ -1,6 +1,6 @@
 -- `probe_escape_text` meets its contract: it answers the place that `escape_text` does, or that there is no room.
 use borrow.Author.Needs.{needs}
-use Rattle.probe.proofs.Rooms.{filled}
+use Rattle.probe.proofs.Rooms.{filled-in-part}
 use Rattle.probe.proofs.probe_escape_text.Statement.{statement}
 use Rattle.probe.proofs.probe_escape_text.Tie as tie
 
@@ -14,7 +14,7 @@ same-length : tie.Need-same-length
 same-length c = search needs
 
 returns : tie.Need-returns
-returns c = rw (c .place-of .ensures) (filled _ _ (c .before .before .before .escape-text .last .1 .0) (c .before .before .before .escape-text .result) (c .before .before .before .escape-text .ensures))
+returns c = rw (c .place-of .ensures) (filled-in-part _ _ (c .before .before .before .escape-text .last .1 .0) (c .before .before .before .escape-text .result) (c .before .before .before .escape-text .ensures))
 
 pub probe-escape-text-spec : {M : Type 1} → statement M
 probe-escape-text-spec =

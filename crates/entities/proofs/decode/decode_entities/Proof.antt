@@ -1,7 +1,9 @@
--- `decode_entities` meets its contract. The loop's invariant: what was read up to `from` stands from `at` up to `to`. The measure is what is left of the text.
+-- `decode_entities` meets its contract. The loop's invariant: what was read up to `from` stands from `at` up to `to`. The measure is what is left of
+-- the text.
 use Prim.Native.Nat.{_-_}
 use lib.ListN.{length}
-use Rattle.entities.proofs.Decoding.{Decoding, run-mark, decoding-start, decoding-run, decoding-step, decoding-left, decoding-room, decoding-done}
+use Rattle.entities.proofs.Decoding.{Decoding, run-mark, decoding-start, decoding-run, decoding-step, decoding-left, decoding-room}
+use Rattle.entities.proofs.Decoding.{decoding-done}
 use borrow.Author.Needs.{needs}
 use Rattle.entities.proofs.decode.decode_entities.Statement.{statement}
 use Rattle.entities.proofs.decode.decode_entities.Tie as tie
@@ -28,26 +30,40 @@ part-copy-end : tie.Need-part-copy-end Inv-loop μ-loop
 part-copy-end c = search needs
 
 copy-requires : tie.Need-copy-requires Inv-loop μ-loop
-copy-requires c κs = decoding-room _ _ _ _ _ _ (c .before .before .before .before .loop .inv) (c .before .before .before .before .before .before .before .pre) _ (c .before .before .find-byte .ensures)
+copy-requires c κs =
+    let c4 = c .before .before .before .before in
+    let c7 = c4 .before .before .before in
+    decoding-room _ _ _ _ _ _ (c4 .loop .inv) (c7 .pre) _ (c .before .before .find-byte .ensures)
 
 decode-reference-requires : tie.Need-decode-reference-requires Inv-loop μ-loop
 decode-reference-requires c κs =
-    let d = decoding-run _ _ _ _ _ _ (c .before .before .before .before .before .before .before .before .before .loop .inv) _ _ _ (c .before .before .before .before .before .before .before .find-byte .ensures) (c .before .before .before .before .copy .ensures) in
-    (c .before .if1 .taken, run-mark _ _ _ (c .before .before .before .before .before .before .before .find-byte .ensures) (c .before .if1 .taken), decoding-left _ _ _ _ _ _ d (c .before .before .before .before .before .before .before .before .before .before .before .before .pre))
+    let c4 = c .before .before .before .before in
+    let c7 = c4 .before .before .before in
+    let c9 = c7 .before .before in
+    let c12 = c9 .before .before .before in
+    let d = decoding-run _ _ _ _ _ _ (c9 .loop .inv) _ _ _ (c7 .find-byte .ensures) (c4 .copy .ensures) in
+    (c .before .if1 .taken, run-mark _ _ _ (c7 .find-byte .ensures) (c .before .if1 .taken), decoding-left _ _ _ _ _ _ d (c12 .pre))
 
 loop-less : tie.Need-loop-less Inv-loop μ-loop
 loop-less c = search needs
 
 loop-again : tie.Need-loop-again Inv-loop μ-loop
 loop-again c =
-    let d = decoding-run _ _ _ _ _ _ (c .before .before .before .before .before .before .before .before .before .before .before .before .loop .inv) _ _ _ (c .before .before .before .before .before .before .before .before .before .before .find-byte .ensures) (c .before .before .before .before .before .before .before .copy .ensures) in
+    let c7 = c .before .before .before .before .before .before .before in
+    let c10 = c7 .before .before .before in
+    let c12 = c10 .before .before in
+    let d = decoding-run _ _ _ _ _ _ (c12 .loop .inv) _ _ _ (c10 .find-byte .ensures) (c7 .copy .ensures) in
     decoding-step _ _ _ _ _ _ d _ _ _ (c .before .before .decode-reference .ensures)
 
 loop-less-2 : tie.Need-loop-less-2 Inv-loop μ-loop
 loop-less-2 c = search needs
 
 loop-again-2 : tie.Need-loop-again-2 Inv-loop μ-loop
-loop-again-2 c = decoding-run _ _ _ _ _ _ (c .before .before .before .before .before .before .before .before .loop .inv) _ _ _ (c .before .before .before .before .before .before .find-byte .ensures) (c .before .before .before .copy .ensures)
+loop-again-2 c =
+    let c3 = c .before .before .before in
+    let c6 = c3 .before .before .before in
+    let c8 = c6 .before .before in
+    decoding-run _ _ _ _ _ _ (c8 .loop .inv) _ _ _ (c6 .find-byte .ensures) (c3 .copy .ensures)
 
 same-length : tie.Need-same-length Inv-loop μ-loop
 same-length c = search needs

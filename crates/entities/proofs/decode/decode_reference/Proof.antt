@@ -17,7 +17,10 @@ enum-known-c : tie.Need-enum-known-c
 enum-known-c c = search needs
 
 put-char-requires : tie.Need-put-char-requires
-put-char-requires c κs = let r = rw (c .before .before .c .given .1) at (c .before .before .before .before .reference .ensures) in (r .char, omega (arith, encode-short (c .before .before .c .given .0 .0), r .long, r .within))
+put-char-requires c κs =
+    let c4 = c .before .before .before .before in
+    let r = rw (c .before .before .c .given .1) at (c4 .reference .ensures) in
+    (r .char, omega (arith, encode-short (c .before .before .c .given .0 .0), r .long, r .within))
 
 enum-told : tie.Need-enum-told
 enum-told c = search needs
@@ -35,13 +38,21 @@ same-length : tie.Need-same-length
 same-length c = search needs
 
 returns : tie.Need-returns
-returns c = stepped-to (c .before .before .before .before .before .before .before .before .before .before .args .src .now) _ _ (c .before .before .before .before .before .before .before .before .before .before .args .out .now) _ (c .before .before .before .before .before .before .before .before .before .before .pre .0) (c .before .before .before .before .before .before .before .before .before .before .pre .1) _ _ _ (rw (c .before .before .before .before .before .c .given .1) at (c .before .before .before .before .before .before .before .reference .ensures)) (c .before .before .put-char .ensures)
+returns c =
+    let c5 = c .before .before .before .before .before in
+    let c7 = c5 .before .before in
+    let c10 = c7 .before .before .before in
+    stepped-to (c10 .args .src .now) _ _ (c10 .args .out .now) _ (c10 .pre .0) (c10 .pre .1) _ _ _ (rw (c5 .c .given .1) at
+    (c7 .reference .ensures)) (c .before .before .put-char .ensures)
 
 same-length-2 : tie.Need-same-length-2
 same-length-2 c = search needs
 
 returns-2 : tie.Need-returns-2
-returns-2 c = stepped-literal (c .before .before .before .before .before .args .src .now) _ _ (c .before .before .before .before .before .args .out .now) _ (c .before .before .before .before .before .pre .0) (c .before .before .before .before .before .pre .1) (rw (c .enum-told .given .1) at (c .before .before .reference .ensures)) refl
+returns-2 c =
+    let c5 = c .before .before .before .before .before in
+    stepped-literal (c5 .args .src .now) _ _ (c5 .args .out .now) _ (c5 .pre .0) (c5 .pre .1) (rw (c .enum-told .given .1) at
+    (c .before .before .reference .ensures)) refl
 
 pub decode-reference-spec : {M : Type 1} → statement M
 decode-reference-spec =

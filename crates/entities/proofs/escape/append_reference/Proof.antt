@@ -54,7 +54,10 @@ same-length-4 : tie.Need-same-length-4
 same-length-4 c = search needs
 
 returns-4 : tie.Need-returns-4
-returns-4 c = rw (escape-quote _ _ (c .before .before .before .before .before .match .rest .0 .0 .1) (c .before .before .before .before .before .match .rest .0 .1) (c .before .before .before .before .before .match .rest .1) (c .before .before .before .before .before .before .before .pre .1)) (c .before .before .append4 .ensures)
+returns-4 c =
+    let c5 = c .before .before .before .before .before in
+    let c7 = c5 .before .before in
+    rw (escape-quote _ _ (c5 .match .rest .0 .0 .1) (c5 .match .rest .0 .1) (c5 .match .rest .1) (c7 .pre .1)) (c .before .before .append4 .ensures)
 
 pub append-reference-spec : {M : Type 1} → statement M
 append-reference-spec =

@@ -14,7 +14,9 @@ returns-2 : tie.Need-returns-2
 returns-2 c = rw (c .match .keys2) (sym (plain-quote _))
 
 returns-3 : tie.Need-returns-3
-returns-3 c = sym (plain-other _ _ (λ e. c .match .rest .0 .1 (inl e)) (λ e. c .match .rest .0 .1 (inr (inl e))) (λ e. c .match .rest .0 .1 (inr (inr e))) (c .match .rest .1))
+returns-3 c =
+    sym (plain-other _ _ (λ e. c .match .rest .0 .1 (inl e)) (λ e. c .match .rest .0 .1 (inr (inl e))) (λ e. c .match .rest .0 .1 (inr (inr e)))
+    (c .match .rest .1))
 
 pub is-plain-spec : {M : Type 1} → statement M
 is-plain-spec = tie.close (tie.spec returns returns-2 returns-3)

@@ -27,7 +27,12 @@ is-plain-requires : tie.Need-is-plain-requires Inv-loop μ-loop
 is-plain-requires c κs = search needs
 
 returns : tie.Need-returns Inv-loop μ-loop
-returns c = ends-here (plain (c .before .before .before .before .before .before .args .quotes)) (c .before .before .before .before .before .before .args .src .now) _ _ (c .before .before .before .before .loop .inv .1) (c .before .before .before .before .loop .inv .2) (c .before .before .before .loop-test .taken) (sym (c .before .is-plain .ensures) ∙ not-true _ (c .if1 .taken))
+returns c =
+    let c3 = c .before .before .before in
+    let c4 = c3 .before in
+    let c6 = c4 .before .before in
+    ends-here (plain (c6 .args .quotes)) (c6 .args .src .now) _ _ (c4 .loop .inv .1) (c4 .loop .inv .2) (c3 .loop-test .taken)
+    (sym (c .before .is-plain .ensures) ∙ not-true _ (c .if1 .taken))
 
 add-i : tie.Need-add-i Inv-loop μ-loop
 add-i c = omega arith
@@ -36,10 +41,21 @@ loop-less : tie.Need-loop-less Inv-loop μ-loop
 loop-less c = omega arith
 
 loop-again : tie.Need-loop-again Inv-loop μ-loop
-loop-again c = (omega arith, omega arith, c .before .before .before .before .loop .inv .2 ∙ run-on (plain (c .before .before .before .before .before .before .args .quotes)) (c .before .before .before .before .before .before .args .src .now) _ (c .before .before .before .loop-test .taken) (sym (c .before .is-plain .ensures) ∙ not-false _ (c .if1 .left)))
+loop-again c =
+    let c3 = c .before .before .before in
+    let c4 = c3 .before in
+    let c6 = c4 .before .before in (
+      omega arith,
+      omega arith,
+      c4 .loop .inv .2 ∙ run-on (plain (c6 .args .quotes)) (c6 .args .src .now) _ (c3 .loop-test .taken)
+          (sym (c .before .is-plain .ensures) ∙ not-false _ (c .if1 .left)),
+    )
 
 returns-2 : tie.Need-returns-2 Inv-loop μ-loop
-returns-2 c = ends-out (plain (c .before .before .before .args .quotes)) (c .before .before .before .args .src .now) _ _ (c .before .loop .inv .1) (c .before .loop .inv .2) (c .before .loop .inv .0) (c .loop-test .left)
+returns-2 c =
+    let c3 = c .before .before .before in
+    ends-out (plain (c3 .args .quotes)) (c3 .args .src .now) _ _ (c .before .loop .inv .1) (c .before .loop .inv .2) (c .before .loop .inv .0)
+    (c .loop-test .left)
 
 pub plain-end-spec : {M : Type 1} → statement M
 plain-end-spec =

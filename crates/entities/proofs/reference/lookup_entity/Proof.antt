@@ -27,13 +27,18 @@ lookup-number-requires : tie.Need-lookup-number-requires
 lookup-number-requires c κs = search needs
 
 returns-2 : tie.Need-returns-2
-returns-2 c = c .lookup-number .ensures ∙ (ap characterReference (after-sign (c .before .before .before .before .before .before .args .name .now)) ∙ sym (lookup-number (c .before .before .before .before .before .before .args .name .now) (omega arith) (c .before .before .if2 .taken)))
+returns-2 c =
+    let c6 = c .before .before .before .before .before .before in
+    c .lookup-number .ensures ∙ (ap characterReference (after-sign (c6 .args .name .now))
+    ∙ sym (lookup-number (c6 .args .name .now) (omega arith) (c .before .before .if2 .taken)))
 
 lookup-name-requires : tie.Need-lookup-name-requires
 lookup-name-requires c κs = search needs
 
 returns-3 : tie.Need-returns-3
-returns-3 c = c .lookup-name .ensures ∙ sym (lookup-name (c .before .before .before .before .before .args .name .now) (omega arith) (c .before .if2 .left))
+returns-3 c =
+    let c5 = c .before .before .before .before .before in
+    c .lookup-name .ensures ∙ sym (lookup-name (c5 .args .name .now) (omega arith) (c .before .if2 .left))
 
 pub lookup-entity-spec : {M : Type 1} → statement M
 lookup-entity-spec =

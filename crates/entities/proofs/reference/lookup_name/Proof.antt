@@ -69,8 +69,11 @@ same-requires-5 c κs = search needs
 returns-5 : tie.Need-returns-5
 returns-5 c = sym (past-4 (c .before .before .before) ∙ named-hit _ _ _ _ (sym (c .before .same5 .ensures) ∙ c .if5 .taken))
 
-past-5 : (c : tie.Else5) → Past (c .before .before .before .before .before .before .before .before .before .before .before .before .before .before .before .before) 5
-past-5 c = past-4 (c .before .before .before) ∙ named-miss _ _ _ _ (sym (c .before .same5 .ensures) ∙ c .if5 .left)
+past-5 : (c : tie.Else5)
+    → Past (c .before .before .before .before .before .before .before .before .before .before .before .before .before .before .before .before) 5
+past-5 c =
+    let c3 = c .before .before .before in
+    past-4 (c3) ∙ named-miss _ _ _ _ (sym (c .before .same5 .ensures) ∙ c .if5 .left)
 
 slice-aggregate-same-6 : tie.Need-slice-aggregate-same-6
 slice-aggregate-same-6 c = search needs
@@ -81,8 +84,12 @@ same-requires-6 c κs = search needs
 returns-6 : tie.Need-returns-6
 returns-6 c = sym (past-5 (c .before .before .before) ∙ named-hit _ _ _ _ (sym (c .before .same6 .ensures) ∙ c .if6 .taken))
 
-past-6 : (c : tie.Else6) → Past (c .before .before .before .before .before .before .before .before .before .before .before .before .before .before .before .before .before .before .before) 6
-past-6 c = past-5 (c .before .before .before) ∙ named-miss _ _ _ _ (sym (c .before .same6 .ensures) ∙ c .if6 .left)
+past-6 : (c : tie.Else6)
+    → Past (c .before .before .before .before .before .before .before .before .before .before .before .before .before .before .before .before .before
+    .before .before) 6
+past-6 c =
+    let c3 = c .before .before .before in
+    past-5 (c3) ∙ named-miss _ _ _ _ (sym (c .before .same6 .ensures) ∙ c .if6 .left)
 
 returns-7 : tie.Need-returns-7
 unfolding named

@@ -41,13 +41,18 @@ char-of-requires-2 c κs = search needs
 
 returns-2 : tie.Need-returns-2
 returns-2 c =
-    let s = c .before .before .before .before .before .before .before .args .rest .now in
-    c .char-of .ensures ∙ (ap character (c .before .read-numeral .ensures ∙ ap (λ (l : List ℕ). numeralOf l 16 0xFFFF_FFFF false) (after-sign s)) ∙ sym (number-hex s (omega arith) (c .before .before .before .match .keys1)))
+    let c3 = c .before .before .before in
+    let c7 = c3 .before .before .before .before in
+    let s = c7 .args .rest .now in
+    c .char-of .ensures ∙ (ap character (c .before .read-numeral .ensures ∙ ap (λ (l : List ℕ). numeralOf l 16 0xFFFF_FFFF false) (after-sign s))
+    ∙ sym (number-hex s (omega arith) (c3 .match .keys1)))
 
 returns-3 : tie.Need-returns-3
 returns-3 c =
-    let s = c .before .before .before .before .before .before .args .rest .now in
-    c .char-of2 .ensures ∙ (ap character (c .before .read-numeral2 .ensures) ∙ sym (number-decimal s (omega arith) (c .before .before .match .rest .1)))
+    let c6 = c .before .before .before .before .before .before in
+    let s = c6 .args .rest .now in
+    c .char-of2 .ensures ∙ (ap character (c .before .read-numeral2 .ensures)
+    ∙ sym (number-decimal s (omega arith) (c .before .before .match .rest .1)))
 
 pub lookup-number-spec : {M : Type 1} → statement M
 lookup-number-spec =

@@ -21,7 +21,10 @@ shared-slice-read-if3 : tie.Need-shared-slice-read-if3
 shared-slice-read-if3 c = search needs
 
 returns-3 : tie.Need-returns-3
-returns-3 c = refers-open (c .before .before .before .before .before .before .args .src .now) _ _ (c .before .before .before .before .name-end .ensures) (c .before .before .if2 .left) (c .if3 .taken)
+returns-3 c =
+    let c4 = c .before .before .before .before in
+    let c6 = c4 .before .before in
+    refers-open (c6 .args .src .now) _ _ (c4 .name-end .ensures) (c .before .before .if2 .left) (c .if3 .taken)
 
 sub-lookup-entity : tie.Need-sub-lookup-entity
 sub-lookup-entity c = search needs
@@ -45,10 +48,23 @@ enum-told : tie.Need-enum-told
 enum-told c = search needs
 
 returns-4 : tie.Need-returns-4
-returns-4 c = refers-to (c .before .before .before .before .before .before .before .before .before .before .before .args .src .now) _ _ (c .before .before .before .before .before .before .before .before .before .name-end .ensures) (c .before .before .before .before .before .before .before .if2 .left) (c .before .before .before .before .before .if3 .left) _ (sym (c .before .before .before .lookup-entity .ensures) ∙ c .before .c .given .1)
+returns-4 c =
+    let c3 = c .before .before .before in
+    let c5 = c3 .before .before in
+    let c7 = c5 .before .before in
+    let c9 = c7 .before .before in
+    let c11 = c9 .before .before in
+    refers-to (c11 .args .src .now) _ _ (c9 .name-end .ensures) (c7 .if2 .left) (c5 .if3 .left) _ (sym (c3 .lookup-entity .ensures)
+    ∙ c .before .c .given .1)
 
 returns-5 : tie.Need-returns-5
-returns-5 c = refers-none (c .before .before .before .before .before .before .before .before .before .before .args .src .now) _ _ (c .before .before .before .before .before .before .before .before .name-end .ensures) (c .before .before .before .before .before .before .if2 .left) (c .before .before .before .before .if3 .left) (sym (c .before .before .lookup-entity .ensures) ∙ c .enum-told .given .1)
+returns-5 c =
+    let c4 = c .before .before .before .before in
+    let c6 = c4 .before .before in
+    let c8 = c6 .before .before in
+    let c10 = c8 .before .before in
+    refers-none (c10 .args .src .now) _ _ (c8 .name-end .ensures) (c6 .if2 .left) (c4 .if3 .left) (sym (c .before .before .lookup-entity .ensures)
+    ∙ c .enum-told .given .1)
 
 pub reference-spec : {M : Type 1} → statement M
 reference-spec =

@@ -19,7 +19,8 @@ same-requires : tie.Need-same-requires
 same-requires c κs = search needs
 
 returns : tie.Need-returns
-returns c = c .same .ensures ∙ ap (sameBytes (c .before .before .before .before .before .args .name .now)) (c .before .before .before .name-at .ensures .is)
+returns c =
+    c .same .ensures ∙ ap (sameBytes (c .before .before .before .before .before .args .name .now)) (c .before .before .before .name-at .ensures .is)
 
 pub is-exactly-spec : {M : Type 1} → statement M
 is-exactly-spec =

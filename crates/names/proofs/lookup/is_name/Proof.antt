@@ -19,7 +19,9 @@ eq-ignore-ascii-case-requires : tie.Need-eq-ignore-ascii-case-requires
 eq-ignore-ascii-case-requires c κs = search needs
 
 returns : tie.Need-returns
-returns c = c .eq-ignore-ascii-case .ensures ∙ ap (sameFolded (c .before .before .before .before .before .args .name .now)) (c .before .before .before .name-at .ensures .is)
+returns c =
+    c .eq-ignore-ascii-case .ensures
+    ∙ ap (sameFolded (c .before .before .before .before .before .args .name .now)) (c .before .before .before .name-at .ensures .is)
 
 pub is-name-spec : {M : Type 1} → statement M
 is-name-spec =

@@ -1,69 +1,51 @@
--- `number_of` meets its contract: each arm answers for its list.
+-- `number_of` answers the number of the entry in the name's slot, if the name is that entry.
+use Prim.Native.Nat.{ℕ, _<_}
+use mathlib.Core.Path.{sym, ap, _∙_}
+use native.Mathlib.Omega.{arith}
+use lib.ListN.{getD}
+use Rattle.names.specs.Steps.{slots}
+use Rattle.names.proofs.Slots.{slot-below, slot-within, slot-none, slot-hit, slot-miss}
 use borrow.Author.Needs.{needs}
 use Rattle.names.proofs.lookup.number_of.Statement.{statement}
 use Rattle.names.proofs.lookup.number_of.Tie as tie
 
-enum-told : tie.Need-enum-told
-enum-told c = search needs
+slot-requires : tie.Need-slot-requires
+slot-requires c κs = search needs
 
-in-style-extra-requires : tie.Need-in-style-extra-requires
-in-style-extra-requires c κs = search needs
-
-enum-told-2 : tie.Need-enum-told-2
-enum-told-2 c = search needs
-
-in-inline-extra-requires : tie.Need-in-inline-extra-requires
-in-inline-extra-requires c κs = search needs
-
-enum-told-3 : tie.Need-enum-told-3
-enum-told-3 c = search needs
-
-in-region-attr-requires : tie.Need-in-region-attr-requires
-in-region-attr-requires c κs = search needs
-
-enum-told-4 : tie.Need-enum-told-4
-enum-told-4 c = search needs
-
-in-inline-modelled-requires : tie.Need-in-inline-modelled-requires
-in-inline-modelled-requires c κs = search needs
-
-enum-told-5 : tie.Need-enum-told-5
-enum-told-5 c = search needs
-
-in-imsc1-extension-requires : tie.Need-in-imsc1-extension-requires
-in-imsc1-extension-requires c κs = search needs
+in-slot-requires : tie.Need-in-slot-requires
+in-slot-requires c κs = rw (c .slot .ensures) (slot-below _)
 
 returns : tie.Need-returns
-returns c = rw (c .before .enum-told .given .1) (c .in-style-extra .ensures)
+returns c =
+    let a = c .before .before .before .before .args in
+    let w = c .before .in-slot .ensures ∙ ap (λ (p : ℕ). getD (slots (a .list)) p 0) (c .before .before .slot .ensures) in
+    sym (slot-none (a .list) (a .name .now) _ w (c .if1 .taken))
+
+cast-i : tie.Need-cast-i
+cast-i c = search needs
+
+is-name-requires : tie.Need-is-name-requires
+is-name-requires c κs =
+    let a = c .before .before .before .before .args in
+    let p = c .before .before .slot in
+    let h : p .result < 129 = rw (p .ensures) (slot-below _) in
+    omega (arith, c .before .in-slot .ensures, slot-within (a .list) (p .result) h, c .if1 .left)
 
 returns-2 : tie.Need-returns-2
-returns-2 c = rw (c .before .enum-told2 .given .1) (c .in-inline-extra .ensures)
+returns-2 c =
+    let b = c .before .before in
+    let a = b .before .before .before .before .args in
+    let w = b .before .in-slot .ensures ∙ ap (λ (p : ℕ). getD (slots (a .list)) p 0) (b .before .before .slot .ensures) in
+    sym (slot-hit (a .list) (a .name .now) _ w (b .if1 .left) (sym (c .before .is-name .ensures) ∙ c .if2 .taken))
 
 returns-3 : tie.Need-returns-3
-returns-3 c = rw (c .before .enum-told3 .given .1) (c .in-region-attr .ensures)
-
-returns-4 : tie.Need-returns-4
-returns-4 c = rw (c .before .enum-told4 .given .1) (c .in-inline-modelled .ensures)
-
-returns-5 : tie.Need-returns-5
-returns-5 c = rw (c .before .enum-told5 .given .1) (c .in-imsc1-extension .ensures)
+returns-3 c =
+    let b = c .before .before in
+    let a = b .before .before .before .before .args in
+    let w = b .before .in-slot .ensures ∙ ap (λ (p : ℕ). getD (slots (a .list)) p 0) (b .before .before .slot .ensures) in
+    sym (slot-miss (a .list) (a .name .now) _ w (b .if1 .left) (sym (c .before .is-name .ensures) ∙ c .if2 .left))
 
 pub number-of-spec : {M : Type 1} → statement M
 number-of-spec =
     tie.close
-    (tie.spec
-    enum-told
-    in-style-extra-requires
-    enum-told-2
-    in-inline-extra-requires
-    enum-told-3
-    in-region-attr-requires
-    enum-told-4
-    in-inline-modelled-requires
-    enum-told-5
-    in-imsc1-extension-requires
-    returns
-    returns-2
-    returns-3
-    returns-4
-    returns-5)
+    (tie.spec slot-requires in-slot-requires returns cast-i is-name-requires returns-2 returns-3)

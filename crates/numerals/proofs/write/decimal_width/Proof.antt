@@ -1,4 +1,5 @@
--- How many decimal digits a number has. The loop's invariant: what is left is the number without its last digits, as many as were counted. The measure is what is left.
+-- How many decimal digits a number has. The loop's invariant: what is left is the number without its last digits, as many as were counted. The
+-- measure is what is left.
 use native.Mathlib.Omega.{arith}
 use Rattle.numerals.proofs.Writing.{Counting, counting-start, counting-step, counting-done}
 use Rattle.numerals.proofs.write.decimal_width.Statement.{statement}

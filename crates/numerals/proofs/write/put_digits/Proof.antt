@@ -1,4 +1,5 @@
--- The last digits of a number, written from the last one on. The loop's invariant: the digits behind place i stand there, and those before it are the digits of what is left. The measure is i.
+-- The last digits of a number, written from the last one on. The loop's invariant: the digits behind place i stand there, and those before it are
+-- the digits of what is left. The measure is i.
 use native.Mathlib.Omega.{arith}
 use native.Mathlib.Nat.{mod-lt}
 use Rattle.numerals.proofs.Writing.{Putting, putting-start, putting-step, putting-done}

@@ -23,7 +23,11 @@ shared-slice-read-if1 : tie.Need-shared-slice-read-if1 Inv-loop μ-loop
 shared-slice-read-if1 c = omega arith
 
 returns : tie.Need-returns Inv-loop μ-loop
-returns c = ends-here (other (c .before .before .before .before .args .b)) (c .before .before .before .before .args .src .now) _ _ (c .before .before .before .loop .inv .1) (c .before .before .before .loop .inv .2) (c .before .before .loop-test .taken) (ap not (eq-eqb _ _ (c .if1 .taken)))
+returns c =
+    let c3 = c .before .before .before in
+    let c4 = c3 .before in
+    ends-here (other (c4 .args .b)) (c4 .args .src .now) _ _ (c3 .loop .inv .1) (c3 .loop .inv .2) (c .before .before .loop-test .taken)
+    (ap not (eq-eqb _ _ (c .if1 .taken)))
 
 add-i : tie.Need-add-i Inv-loop μ-loop
 add-i c = omega arith
@@ -32,10 +36,19 @@ loop-less : tie.Need-loop-less Inv-loop μ-loop
 loop-less c = omega arith
 
 loop-again : tie.Need-loop-again Inv-loop μ-loop
-loop-again c = (omega arith, omega arith, c .before .before .before .loop .inv .2 ∙ run-on (other (c .before .before .before .before .args .b)) (c .before .before .before .before .args .src .now) _ (c .before .before .loop-test .taken) (ap not (ne-eqb _ _ (c .if1 .left))))
+loop-again c =
+    let c3 = c .before .before .before in
+    let c4 = c3 .before in (
+      omega arith,
+      omega arith,
+      c3 .loop .inv .2 ∙ run-on (other (c4 .args .b)) (c4 .args .src .now) _ (c .before .before .loop-test .taken)
+          (ap not (ne-eqb _ _ (c .if1 .left))),
+    )
 
 returns-2 : tie.Need-returns-2 Inv-loop μ-loop
-returns-2 c = ends-out (other (c .before .before .args .b)) (c .before .before .args .src .now) _ _ (c .before .loop .inv .1) (c .before .loop .inv .2) (c .before .loop .inv .0) (c .loop-test .left)
+returns-2 c =
+    ends-out (other (c .before .before .args .b)) (c .before .before .args .src .now) _ _ (c .before .loop .inv .1) (c .before .loop .inv .2)
+    (c .before .loop .inv .0) (c .loop-test .left)
 
 pub find-byte-spec : {M : Type 1} → statement M
 find-byte-spec =

@@ -38,8 +38,12 @@ loop-again c =
     let a = c .before .before .before in
     let s : List ℕ = a .before .args .src .now in
     let p : ℕ = a .before .args .pos in
-    let i : ℕ = a .loop .i in
-    (omega arith, λ e. ⊎-elim (λ w. absurd (true≢false (sym (w .1) ∙ e))) (λ w. passes-more (other (a .before .args .b)) s p (p + i) (p + (i + 1)) (omega arith) (a .loop .inv .1 (sym (w .1) ∙ e)) (ap not (ne-eqb _ _ (w .0 .left)))) (c .if1 .came))
+    let i : ℕ = a .loop .i in (
+      omega arith,
+      λ e. ⊎-elim (λ w. absurd (true≢false (sym (w .1)
+          ∙ e))) (λ w. passes-more (other (a .before .args .b)) s p (p + i) (p + (i + 1)) (omega arith) (a .loop .inv .1 (sym (w .1) ∙ e))
+          (ap not (ne-eqb _ _ (w .0 .left)))) (c .if1 .came),
+    )
 
 returns : tie.Need-returns Inv-loop μ-loop
 returns c e k l h = c .before .loop .inv .1 e k l (omega arith)

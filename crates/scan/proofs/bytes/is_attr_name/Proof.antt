@@ -11,7 +11,10 @@ returns : tie.Need-returns
 returns c = sym (attr-name-yes _ (blank-not _ (omega arith) (omega arith) (omega arith) (omega arith)) (omega arith) (omega arith) (omega arith))
 
 returns-2 : tie.Need-returns-2
-returns-2 c = sym (attr-name-yes _ (blank-not _ (omega arith) (omega arith) (λ e. c .before .before .before .match .rest .1 (inl e)) (λ e. c .before .before .before .match .rest .1 (inr (inl e)))) (λ e. c .before .before .before .match .rest .1 (inr (inr e))) (omega arith) (omega arith))
+returns-2 c =
+    let c3 = c .before .before .before in
+    sym (attr-name-yes _ (blank-not _ (omega arith) (omega arith) (λ e. c3 .match .rest .1 (inl e)) (λ e. c3 .match .rest .1 (inr (inl e))))
+    (λ e. c3 .match .rest .1 (inr (inr e))) (omega arith) (omega arith))
 
 returns-3 : tie.Need-returns-3
 returns-3 c = sym (attr-name-yes _ (blank-not _ (omega arith) (omega arith) (omega arith) (omega arith)) (omega arith) (omega arith) (omega arith))

@@ -11,7 +11,8 @@ returns : tie.Need-returns
 returns c = sym (blank-not _ (omega arith) (omega arith) (omega arith) (omega arith))
 
 returns-2 : tie.Need-returns-2
-returns-2 c = sym (blank-not _ (omega arith) (omega arith) (λ e. c .before .before .match .rest .1 (inl e)) (λ e. c .before .before .match .rest .1 (inr e)))
+returns-2 c =
+    sym (blank-not _ (omega arith) (omega arith) (λ e. c .before .before .match .rest .1 (inl e)) (λ e. c .before .before .match .rest .1 (inr e)))
 
 returns-3 : tie.Need-returns-3
 unfolding blank

@@ -26,7 +26,12 @@ is-of-requires : tie.Need-is-of-requires Inv-loop μ-loop
 is-of-requires c κs = search needs
 
 returns : tie.Need-returns Inv-loop μ-loop
-returns c = ends-here (member (c .before .before .before .before .before .before .args .class)) (c .before .before .before .before .before .before .args .src .now) _ _ (c .before .before .before .before .loop .inv .1) (c .before .before .before .before .loop .inv .2) (c .before .before .before .loop-test .taken) (sym (c .before .is-of .ensures) ∙ not-true _ (c .if1 .taken))
+returns c =
+    let c3 = c .before .before .before in
+    let c4 = c3 .before in
+    let c6 = c4 .before .before in
+    ends-here (member (c6 .args .class)) (c6 .args .src .now) _ _ (c4 .loop .inv .1) (c4 .loop .inv .2) (c3 .loop-test .taken)
+    (sym (c .before .is-of .ensures) ∙ not-true _ (c .if1 .taken))
 
 add-i : tie.Need-add-i Inv-loop μ-loop
 add-i c = omega arith
@@ -35,10 +40,21 @@ loop-less : tie.Need-loop-less Inv-loop μ-loop
 loop-less c = omega arith
 
 loop-again : tie.Need-loop-again Inv-loop μ-loop
-loop-again c = (omega arith, omega arith, c .before .before .before .before .loop .inv .2 ∙ run-on (member (c .before .before .before .before .before .before .args .class)) (c .before .before .before .before .before .before .args .src .now) _ (c .before .before .before .loop-test .taken) (sym (c .before .is-of .ensures) ∙ not-false _ (c .if1 .left)))
+loop-again c =
+    let c3 = c .before .before .before in
+    let c4 = c3 .before in
+    let c6 = c4 .before .before in (
+      omega arith,
+      omega arith,
+      c4 .loop .inv .2 ∙ run-on (member (c6 .args .class)) (c6 .args .src .now) _ (c3 .loop-test .taken)
+          (sym (c .before .is-of .ensures) ∙ not-false _ (c .if1 .left)),
+    )
 
 returns-2 : tie.Need-returns-2 Inv-loop μ-loop
-returns-2 c = ends-out (member (c .before .before .before .args .class)) (c .before .before .before .args .src .now) _ _ (c .before .loop .inv .1) (c .before .loop .inv .2) (c .before .loop .inv .0) (c .loop-test .left)
+returns-2 c =
+    let c3 = c .before .before .before in
+    ends-out (member (c3 .args .class)) (c3 .args .src .now) _ _ (c .before .loop .inv .1) (c .before .loop .inv .2) (c .before .loop .inv .0)
+    (c .loop-test .left)
 
 pub over-each-spec : {M : Type 1} → statement M
 over-each-spec =

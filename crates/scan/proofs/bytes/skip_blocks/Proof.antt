@@ -1,4 +1,5 @@
--- `skip_blocks` meets its contract. The loop's invariant: the run from `pos` ends where the run from `i` does. The measure is what is left of the text.
+-- `skip_blocks` meets its contract. The loop's invariant: the run from `pos` ends where the run from `i` does. The measure is what is left of the
+-- text.
 use Prim.Native.Nat.{_+_, _-_}
 use mathlib.Core.Path.{refl}
 use native.Mathlib.Omega.{arith}
@@ -36,7 +37,8 @@ loop-less c = omega arith
 loop-again : tie.Need-loop-again Inv-loop μ-loop
 loop-again c =
     let a = c .before .before .before in
-    skips-more _ (a .before .before .args .src .now) _ (a .loop .i) (a .loop .i + 16) (omega arith) (omega arith) (a .loop .inv) (c .before .has-byte .ensures (c .if1 .left))
+    skips-more _ (a .before .before .args .src .now) _ (a .loop .i) (a .loop .i + 16) (omega arith) (omega arith) (a .loop .inv)
+    (c .before .has-byte .ensures (c .if1 .left))
 
 returns-2 : tie.Need-returns-2 Inv-loop μ-loop
 returns-2 c = c .before .loop .inv

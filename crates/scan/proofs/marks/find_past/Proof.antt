@@ -11,10 +11,14 @@ add-result : tie.Need-add-result
 add-result c = search needs
 
 returns : tie.Need-returns
-returns c = passed-got (c .before .before .before .before .args .mark .now) (c .before .before .before .before .args .src .now) _ _ (c .before .find-seq .ensures) (c .if1 .taken)
+returns c =
+    let c4 = c .before .before .before .before in
+    passed-got (c4 .args .mark .now) (c4 .args .src .now) _ _ (c .before .find-seq .ensures) (c .if1 .taken)
 
 returns-2 : tie.Need-returns-2
-returns-2 c = passed-none (c .before .before .before .before .args .mark .now) (c .before .before .before .before .args .src .now) _ _ (c .before .find-seq .ensures) (c .if1 .left)
+returns-2 c =
+    let c4 = c .before .before .before .before in
+    passed-none (c4 .args .mark .now) (c4 .args .src .now) _ _ (c .before .find-seq .ensures) (c .if1 .left)
 
 pub find-past-spec : {M : Type 1} → statement M
 find-past-spec = tie.close (tie.spec find-seq-requires add-result returns returns-2)

@@ -1,4 +1,5 @@
--- `find_seq` meets its contract. The loop's invariant: the mark's first place from `pos` on is its first from `i` on. The measure is what is left of the text.
+-- `find_seq` meets its contract. The loop's invariant: the mark's first place from `pos` on is its first from `i` on. The measure is what is left of
+-- the text.
 use Prim.Native.Nat.{_+_, _-_, _≤_}
 use mathlib.Core.Path.{_≡_, refl, sym, _∙_}
 use native.Mathlib.Omega.{arith}
@@ -42,7 +43,8 @@ returns-2 : tie.Need-returns-2 Inv-loop μ-loop
 returns-2 c =
     let a = c .before .before .before .before .before .before in
     let g = a .before .before .before .before .args in
-    found-here (g .mark .now) (g .src .now) _ _ (a .loop .inv .1) (a .loop .inv .3) (omega arith) (sym (c .before .starts-with .ensures .is) ∙ c .if3 .taken) (c .before .starts-with .ensures .whole (c .if3 .taken))
+    found-here (g .mark .now) (g .src .now) _ _ (a .loop .inv .1) (a .loop .inv .3) (omega arith) (sym (c .before .starts-with .ensures .is)
+    ∙ c .if3 .taken) (c .before .starts-with .ensures .whole (c .if3 .taken))
 
 add-i : tie.Need-add-i Inv-loop μ-loop
 add-i c = omega arith
@@ -53,8 +55,13 @@ loop-less c = omega arith
 loop-again : tie.Need-loop-again Inv-loop μ-loop
 loop-again c =
     let a = c .before .before .before .before .before .before in
-    let g = a .before .before .before .before .args in
-    (omega arith, omega arith, omega arith, a .loop .inv .3 ∙ seek-on (g .mark .now) (g .src .now) _ (omega arith) (sym (c .before .starts-with .ensures .is) ∙ c .if3 .left))
+    let g = a .before .before .before .before .args in (
+      omega arith,
+      omega arith,
+      omega arith,
+      a .loop .inv .3 ∙ seek-on (g .mark .now) (g .src .now) _ (omega arith)
+          (sym (c .before .starts-with .ensures .is) ∙ c .if3 .left),
+    )
 
 add-find-far : tie.Need-add-find-far Inv-loop μ-loop
 add-find-far c = omega arith
@@ -77,14 +84,20 @@ loop-less-2 c = omega arith
 loop-again-2 : tie.Need-loop-again-2 Inv-loop μ-loop
 loop-again-2 c =
     let a = c .before .before .before .before .before .before in
-    let g = a .before .before .before .before .args in
-    (omega arith, omega arith, omega arith, a .loop .inv .3 ∙ seek-far (g .mark .now) (g .src .now) (length (g .mark .now) - 1) (a .loop .i) (omega arith) _ _ (c .before .before .if2 .left) refl (c .find-far .ensures))
+    let g = a .before .before .before .before .args in (
+      omega arith,
+      omega arith,
+      omega arith,
+      a .loop .inv .3 ∙ seek-far (g .mark .now) (g .src .now) (length (g .mark .now) - 1) (a .loop .i)
+          (omega arith) _ _ (c .before .before .if2 .left) refl (c .find-far .ensures),
+    )
 
 returns-3 : tie.Need-returns-3 Inv-loop μ-loop
 returns-3 c =
     let a = c .before in
     let g = a .before .before .before .before .args in
-    found-none (g .mark .now) (g .src .now) _ (a .loop .i) (length (g .mark .now) - 1) (a .loop .inv .1) (a .loop .inv .3) (omega arith) (a .loop .inv .0) (omega arith)
+    found-none (g .mark .now) (g .src .now) _ (a .loop .i) (length (g .mark .now) - 1) (a .loop .inv .1) (a .loop .inv .3) (omega arith)
+    (a .loop .inv .0) (omega arith)
 
 pub find-seq-spec : {M : Type 1} → statement M
 find-seq-spec =

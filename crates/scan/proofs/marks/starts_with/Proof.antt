@@ -1,4 +1,5 @@
--- `starts_with` meets its contract. The loop's invariant: the mark stands at `pos` as its bytes from `j` on stand at `i`, `j` bytes further. The measure is what is left of the mark.
+-- `starts_with` meets its contract. The loop's invariant: the mark stands at `pos` as its bytes from `j` on stand at `i`, `j` bytes further. The
+-- measure is what is left of the mark.
 use Prim.Native.Nat.{_+_, _-_, _≤_}
 use mathlib.Core.Path.{_≡_, refl, sym, _∙_}
 use mathlib.Core.Bool.{false≢true}
@@ -19,7 +20,13 @@ loop-holds : tie.Need-loop-holds Inv-loop μ-loop
 loop-holds c = (omega arith, omega arith, omega arith, refl)
 
 returns : tie.Need-returns Inv-loop μ-loop
-returns c = record { is = sym (c .before .before .loop .inv .3 ∙ mark-end (c .before .before .before .args .src .now) (c .before .before .before .args .mark .now) _ _ (c .before .loop-test .taken) (c .if1 .taken)); whole = λ e. absurd (false≢true e) }
+returns c =
+    let c3 = c .before .before .before in
+    record {
+      is = sym (c .before .before .loop .inv .3 ∙ mark-end (c3 .args .src .now) (c3 .args .mark .now) _ _ (c .before .loop-test .taken)
+          (c .if1 .taken));
+      whole = λ e. absurd (false≢true e);
+    }
 
 shared-slice-read-if2 : tie.Need-shared-slice-read-if2 Inv-loop μ-loop
 shared-slice-read-if2 c = omega arith
@@ -28,7 +35,16 @@ shared-slice-read-if2-2 : tie.Need-shared-slice-read-if2-2 Inv-loop μ-loop
 shared-slice-read-if2-2 c = omega arith
 
 returns-2 : tie.Need-returns-2 Inv-loop μ-loop
-returns-2 c = record { is = sym (c .before .before .before .before .before .loop .inv .3 ∙ mark-off (c .before .before .before .before .before .before .args .src .now) (c .before .before .before .before .before .before .args .mark .now) _ _ (c .before .before .before .before .loop-test .taken) (c .before .before .before .if1 .left) (c .if2 .taken)); whole = λ e. absurd (false≢true e) }
+returns-2 c =
+    let c3 = c .before .before .before in
+    let c4 = c3 .before in
+    let c5 = c4 .before in
+    let c6 = c5 .before in
+    record {
+      is = sym (c5 .loop .inv .3 ∙ mark-off (c6 .args .src .now) (c6 .args .mark .now) _ _ (c4 .loop-test .taken) (c3 .if1 .left)
+          (c .if2 .taken));
+      whole = λ e. absurd (false≢true e);
+    }
 
 add-i : tie.Need-add-i Inv-loop μ-loop
 add-i c = omega arith
@@ -40,10 +56,25 @@ loop-less : tie.Need-loop-less Inv-loop μ-loop
 loop-less c = omega arith
 
 loop-again : tie.Need-loop-again Inv-loop μ-loop
-loop-again c = (omega arith, omega arith, omega arith, c .before .before .before .before .before .loop .inv .3 ∙ mark-on (c .before .before .before .before .before .before .args .src .now) (c .before .before .before .before .before .before .args .mark .now) _ _ (c .before .before .before .before .loop-test .taken) (c .before .before .before .if1 .left) (c .if2 .left))
+loop-again c =
+    let c3 = c .before .before .before in
+    let c4 = c3 .before in
+    let c5 = c4 .before in
+    let c6 = c5 .before in (
+      omega arith,
+      omega arith,
+      omega arith,
+      c5 .loop .inv .3
+          ∙ mark-on (c6 .args .src .now) (c6 .args .mark .now) _ _ (c4 .loop-test .taken) (c3 .if1 .left) (c .if2 .left),
+    )
 
 returns-3 : tie.Need-returns-3 Inv-loop μ-loop
-returns-3 c = record { is = sym (c .before .loop .inv .3 ∙ mark-out (c .before .before .args .src .now) (c .before .before .args .mark .now) _ _ (c .loop-test .left)); whole = λ e. omega arith }
+returns-3 c =
+    record {
+      is = sym (c .before .loop .inv .3 ∙ mark-out (c .before .before .args .src .now) (c .before .before .args .mark .now) _ _
+          (c .loop-test .left));
+      whole = λ e. omega arith;
+    }
 
 pub starts-with-spec : {M : Type 1} → statement M
 starts-with-spec =

@@ -1,4 +1,5 @@
--- `eq_ignore_ascii_case` meets its contract. The loop's invariant: the two agree as their bytes from `i` on do. The measure is what is left of the first.
+-- `eq_ignore_ascii_case` meets its contract. The loop's invariant: the two agree as their bytes from `i` on do. The measure is what is left of the
+-- first.
 use Prim.Native.Nat.{_-_, _≤_}
 use mathlib.Core.Path.{_≡_, refl, sym, _∙_}
 use native.Mathlib.Omega.{arith}
@@ -16,7 +17,9 @@ abbrev μ-loop : tie.MeasureT-loop
 μ-loop a b i₀ i = length a - i
 
 returns : tie.Need-returns Inv-loop μ-loop
-returns c = sym (folded-agree _ _ ∙ agree-lengths lower (c .before .before .before .args .a .now) (c .before .before .before .args .b .now) (c .if1 .taken))
+returns c =
+    let c3 = c .before .before .before in
+    sym (folded-agree _ _ ∙ agree-lengths lower (c3 .args .a .now) (c3 .args .b .now) (c .if1 .taken))
 
 loop-holds : tie.Need-loop-holds Inv-loop μ-loop
 loop-holds c = (omega arith, refl)
@@ -36,7 +39,13 @@ to-ascii-lowercase-requires-2 : tie.Need-to-ascii-lowercase-requires-2 Inv-loop 
 to-ascii-lowercase-requires-2 c κs = search needs
 
 returns-2 : tie.Need-returns-2 Inv-loop μ-loop
-returns-2 c = sym (folded-agree _ _ ∙ (c .before .before .before .before .before .before .loop .inv .1 ∙ agree-off lower (c .before .before .before .before .before .before .before .before .before .before .args .a .now) (c .before .before .before .before .before .before .before .before .before .before .args .b .now) _ (c .before .before .before .before .before .loop-test .taken) (omega arith) (λ e. c .if2 .taken (c .before .before .before .to-ascii-lowercase .ensures ∙ (e ∙ sym (c .before .to-ascii-lowercase2 .ensures))))))
+returns-2 c =
+    let c3 = c .before .before .before in
+    let c5 = c3 .before .before in
+    let c6 = c5 .before in
+    let c10 = c6 .before .before .before .before in
+    sym (folded-agree _ _ ∙ (c6 .loop .inv .1 ∙ agree-off lower (c10 .args .a .now) (c10 .args .b .now) _ (c5 .loop-test .taken) (omega arith)
+    (λ e. c .if2 .taken (c3 .to-ascii-lowercase .ensures ∙ (e ∙ sym (c .before .to-ascii-lowercase2 .ensures))))))
 
 add-i : tie.Need-add-i Inv-loop μ-loop
 add-i c = omega arith
@@ -45,10 +54,20 @@ loop-less : tie.Need-loop-less Inv-loop μ-loop
 loop-less c = omega arith
 
 loop-again : tie.Need-loop-again Inv-loop μ-loop
-loop-again c = (omega arith, c .before .before .before .before .before .before .loop .inv .1 ∙ agree-on lower (c .before .before .before .before .before .before .before .before .before .before .args .a .now) (c .before .before .before .before .before .before .before .before .before .before .args .b .now) _ (c .before .before .before .before .before .loop-test .taken) (omega arith) (sym (c .before .before .before .to-ascii-lowercase .ensures) ∙ (c .if2 .left ∙ c .before .to-ascii-lowercase2 .ensures)))
+loop-again c =
+    let c3 = c .before .before .before in
+    let c5 = c3 .before .before in
+    let c6 = c5 .before in
+    let c10 = c6 .before .before .before .before in (
+      omega arith,
+      c6 .loop .inv .1 ∙ agree-on lower (c10 .args .a .now) (c10 .args .b .now) _ (c5 .loop-test .taken) (omega arith)
+          (sym (c3 .to-ascii-lowercase .ensures) ∙ (c .if2 .left ∙ c .before .to-ascii-lowercase2 .ensures)),
+    )
 
 returns-3 : tie.Need-returns-3 Inv-loop μ-loop
-returns-3 c = sym (folded-agree _ _ ∙ (c .before .loop .inv .1 ∙ agree-out lower (c .before .before .before .before .before .args .a .now) (c .before .before .before .before .before .args .b .now) _ (c .loop-test .left) (omega arith)))
+returns-3 c =
+    let c5 = c .before .before .before .before .before in
+    sym (folded-agree _ _ ∙ (c .before .loop .inv .1 ∙ agree-out lower (c5 .args .a .now) (c5 .args .b .now) _ (c .loop-test .left) (omega arith)))
 
 pub eq-ignore-ascii-case-spec : {M : Type 1} → statement M
 eq-ignore-ascii-case-spec =

@@ -26,7 +26,12 @@ shared-slice-read-if2-2 : tie.Need-shared-slice-read-if2-2 Inv-loop μ-loop
 shared-slice-read-if2-2 c = omega arith
 
 returns-2 : tie.Need-returns-2 Inv-loop μ-loop
-returns-2 c = sym (same-agree _ _ ∙ (c .before .before .before .before .loop .inv .1 ∙ agree-off itself (c .before .before .before .before .before .before .args .a .now) (c .before .before .before .before .before .before .args .b .now) _ (c .before .before .before .loop-test .taken) (omega arith) (c .if2 .taken)))
+returns-2 c =
+    let c3 = c .before .before .before in
+    let c4 = c3 .before in
+    let c6 = c4 .before .before in
+    sym (same-agree _ _ ∙ (c4 .loop .inv .1 ∙ agree-off itself (c6 .args .a .now) (c6 .args .b .now) _ (c3 .loop-test .taken) (omega arith)
+    (c .if2 .taken)))
 
 add-i : tie.Need-add-i Inv-loop μ-loop
 add-i c = omega arith
@@ -35,10 +40,16 @@ loop-less : tie.Need-loop-less Inv-loop μ-loop
 loop-less c = omega arith
 
 loop-again : tie.Need-loop-again Inv-loop μ-loop
-loop-again c = (omega arith, c .before .before .before .before .loop .inv .1 ∙ agree-on itself (c .before .before .before .before .before .before .args .a .now) (c .before .before .before .before .before .before .args .b .now) _ (c .before .before .before .loop-test .taken) (omega arith) (c .if2 .left))
+loop-again c =
+    let c3 = c .before .before .before in
+    let c4 = c3 .before in
+    let c6 = c4 .before .before in
+    (omega arith, c4 .loop .inv .1 ∙ agree-on itself (c6 .args .a .now) (c6 .args .b .now) _ (c3 .loop-test .taken) (omega arith) (c .if2 .left))
 
 returns-3 : tie.Need-returns-3 Inv-loop μ-loop
-returns-3 c = sym (same-agree _ _ ∙ (c .before .loop .inv .1 ∙ agree-out itself (c .before .before .before .args .a .now) (c .before .before .before .args .b .now) _ (c .loop-test .left) (omega arith)))
+returns-3 c =
+    let c3 = c .before .before .before in
+    sym (same-agree _ _ ∙ (c .before .loop .inv .1 ∙ agree-out itself (c3 .args .a .now) (c3 .args .b .now) _ (c .loop-test .left) (omega arith)))
 
 pub same-spec : {M : Type 1} → statement M
 same-spec =

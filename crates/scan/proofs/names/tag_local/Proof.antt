@@ -25,7 +25,10 @@ shared-slice-read-if1 : tie.Need-shared-slice-read-if1 Inv-loop μ-loop
 shared-slice-read-if1 c = omega arith
 
 returns : tie.Need-returns Inv-loop μ-loop
-returns c = last-here (c .before .before .before .before .args .name .now) (c .before .before .before .loop .i) (omega arith) (c .before .before .before .loop .inv .0) (c .if1 .taken) (c .before .before .before .loop .inv .1)
+returns c =
+    let c3 = c .before .before .before in
+    let c4 = c3 .before in
+    last-here (c4 .args .name .now) (c3 .loop .i) (omega arith) (c3 .loop .inv .0) (c .if1 .taken) (c3 .loop .inv .1)
 
 sub-i : tie.Need-sub-i Inv-loop μ-loop
 sub-i c = omega arith
@@ -34,7 +37,10 @@ loop-less : tie.Need-loop-less Inv-loop μ-loop
 loop-less c = omega arith
 
 loop-again : tie.Need-loop-again Inv-loop μ-loop
-loop-again c = (omega arith, last-on (c .before .before .before .before .args .name .now) (c .before .before .before .loop .i) (omega arith) (c .before .before .before .loop .inv .0) (c .if1 .left) (c .before .before .before .loop .inv .1))
+loop-again c =
+    let c3 = c .before .before .before in
+    let c4 = c3 .before in
+    (omega arith, last-on (c4 .args .name .now) (c3 .loop .i) (omega arith) (c3 .loop .inv .0) (c .if1 .left) (c3 .loop .inv .1))
 
 returns-2 : tie.Need-returns-2 Inv-loop μ-loop
 returns-2 c = last-none (c .before .before .args .name .now) (c .before .loop .i) (omega arith) (c .before .loop .inv .1)

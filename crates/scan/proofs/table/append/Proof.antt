@@ -1,4 +1,5 @@
--- `append` meets its contract. The loop's invariant: the first `i` bytes of the piece stand from `at` on, and all else is as it was. The measure is what is left of the piece.
+-- `append` meets its contract. The loop's invariant: the first `i` bytes of the piece stand from `at` on, and all else is as it was. The measure is
+-- what is left of the piece.
 use Prim.Native.Nat.{_-_}
 use mathlib.Core.Path.{refl}
 use native.Mathlib.Omega.{arith}
@@ -38,7 +39,9 @@ loop-less : tie.Need-loop-less Inv-loop μ-loop
 loop-less c = omega arith
 
 loop-again : tie.Need-loop-again Inv-loop μ-loop
-loop-again c = copied-more (c .before .before .before .before .args .piece .now) (c .before .before .before .before .args .out .now) _ _ _ (c .before .before .loop .inv) (c .before .loop-test .taken)
+loop-again c =
+    let c4 = c .before .before .before .before in
+    copied-more (c4 .args .piece .now) (c4 .args .out .now) _ _ _ (c .before .before .loop .inv) (c .before .loop-test .taken)
 
 add-t5 : tie.Need-add-t5 Inv-loop μ-loop
 add-t5 c = omega arith
@@ -47,7 +50,14 @@ same-length : tie.Need-same-length Inv-loop μ-loop
 same-length c = omega arith
 
 returns-2 : tie.Need-returns-2 Inv-loop μ-loop
-returns-2 c = record { next = omega arith; within = omega arith; laid = copied-all (c .before .before .before .args .piece .now) (c .before .before .before .args .out .now) _ _ _ (c .before .loop .inv) (c .loop-test .left) }
+returns-2 c =
+    let c3 = c .before .before .before in
+    record {
+      next = omega arith;
+      within = omega arith;
+      laid = copied-all (c3 .args .piece .now) (c3 .args .out .now) _ _ _
+          (c .before .loop .inv) (c .loop-test .left);
+    }
 
 pub append-spec : {M : Type 1} → statement M
 append-spec =

@@ -8,13 +8,13 @@ use Rattle.scan.proofs.table.clear.Statement.{statement}
 use Rattle.scan.proofs.table.clear.Tie as tie
 
 abbrev Inv-loop : tie.InvT-loop
-Inv-loop cells₀ i₀ cells i = Cleared cells₀ i cells
+Inv-loop cells₀ i₀ cells i = Cleared 0 cells₀ i cells
 
 abbrev μ-loop : tie.MeasureT-loop
 μ-loop cells₀ i₀ cells i = length cells₀ - i
 
 loop-holds : tie.Need-loop-holds Inv-loop μ-loop
-loop-holds c = cleared-none _
+loop-holds c = cleared-none 0 _
 
 mul-cells : tie.Need-mul-cells Inv-loop μ-loop
 mul-cells c = search needs
@@ -29,13 +29,13 @@ loop-less : tie.Need-loop-less Inv-loop μ-loop
 loop-less c = omega arith
 
 loop-again : tie.Need-loop-again Inv-loop μ-loop
-loop-again c = cleared-more (c .before .before .args .cells .now) _ _ (c .before .loop .inv) (omega arith)
+loop-again c = cleared-more 0 (c .before .before .args .cells .now) _ _ (c .before .loop .inv) (omega arith)
 
 same-length : tie.Need-same-length Inv-loop μ-loop
 same-length c = omega arith
 
 returns : tie.Need-returns Inv-loop μ-loop
-returns c = cleared-all (c .before .before .args .cells .now) _ _ (c .before .loop .inv) (omega arith)
+returns c = cleared-all 0 (c .before .before .args .cells .now) _ _ (c .before .loop .inv) (omega arith)
 
 pub clear-spec : {M : Type 1} → statement M
 clear-spec =

@@ -1,4 +1,5 @@
--- `clear_bytes` meets its contract. The loop's invariant: the first `i` cells are 0, the others as they were. The measure is what is left of the table.
+-- `clear_bytes` meets its contract. The loop's invariant: the first `i` cells are 0, the others as they were. The measure is what is left of the
+-- table.
 use Prim.Native.Nat.{_-_}
 use native.Mathlib.Omega.{arith}
 use lib.ListN.{length}
@@ -7,13 +8,13 @@ use Rattle.scan.proofs.table.clear_bytes.Statement.{statement}
 use Rattle.scan.proofs.table.clear_bytes.Tie as tie
 
 abbrev Inv-loop : tie.InvT-loop
-Inv-loop cells₀ i₀ cells i = Cleared cells₀ i cells
+Inv-loop cells₀ i₀ cells i = Cleared 0 cells₀ i cells
 
 abbrev μ-loop : tie.MeasureT-loop
 μ-loop cells₀ i₀ cells i = length cells₀ - i
 
 loop-holds : tie.Need-loop-holds Inv-loop μ-loop
-loop-holds c = cleared-none _
+loop-holds c = cleared-none 0 _
 
 slice-write-cells : tie.Need-slice-write-cells Inv-loop μ-loop
 slice-write-cells c = omega arith
@@ -25,13 +26,13 @@ loop-less : tie.Need-loop-less Inv-loop μ-loop
 loop-less c = omega arith
 
 loop-again : tie.Need-loop-again Inv-loop μ-loop
-loop-again c = cleared-more (c .before .before .args .cells .now) _ _ (c .before .loop .inv) (omega arith)
+loop-again c = cleared-more 0 (c .before .before .args .cells .now) _ _ (c .before .loop .inv) (omega arith)
 
 same-length : tie.Need-same-length Inv-loop μ-loop
 same-length c = omega arith
 
 returns : tie.Need-returns Inv-loop μ-loop
-returns c = cleared-all (c .before .before .args .cells .now) _ _ (c .before .loop .inv) (omega arith)
+returns c = cleared-all 0 (c .before .before .args .cells .now) _ _ (c .before .loop .inv) (omega arith)
 
 pub clear-bytes-spec : {M : Type 1} → statement M
 clear-bytes-spec =

@@ -1,0 +1,54 @@
+-- `clear_i64` meets its contract. The loop's invariant: the first `i` cells are 0, the others as they were. The measure is what is left of the table.
+use Prim.Native.Nat.{_-_}
+use native.Mathlib.Omega.{arith}
+use borrow.Author.Needs.{needs}
+use lib.ListN.{length}
+use lib.IntN.{pos}
+use Rattle.scan.proofs.Stores.{Cleared, cleared-none, cleared-more, cleared-all}
+use Rattle.scan.proofs.table.clear_i64.Statement.{statement}
+use Rattle.scan.proofs.table.clear_i64.Tie as tie
+
+abbrev Inv-loop : tie.InvT-loop
+Inv-loop cells₀ i₀ cells i = Cleared (pos 0) cells₀ i cells
+
+abbrev μ-loop : tie.MeasureT-loop
+μ-loop cells₀ i₀ cells i = length cells₀ - i
+
+loop-holds : tie.Need-loop-holds Inv-loop μ-loop
+loop-holds c = cleared-none (pos 0) _
+
+mul-cells : tie.Need-mul-cells Inv-loop μ-loop
+mul-cells c = search needs
+
+slice-set-of-cells : tie.Need-slice-set-of-cells Inv-loop μ-loop
+slice-set-of-cells c = omega arith
+
+add-i : tie.Need-add-i Inv-loop μ-loop
+add-i c = omega arith
+
+loop-less : tie.Need-loop-less Inv-loop μ-loop
+loop-less c = omega arith
+
+loop-again : tie.Need-loop-again Inv-loop μ-loop
+loop-again c = cleared-more (pos 0) (c .before .before .args .cells .now) _ _ (c .before .loop .inv) (omega arith)
+
+same-length : tie.Need-same-length Inv-loop μ-loop
+same-length c = omega arith
+
+returns : tie.Need-returns Inv-loop μ-loop
+returns c = cleared-all (pos 0) (c .before .before .args .cells .now) _ _ (c .before .loop .inv) (omega arith)
+
+pub clear-i64-spec : {M : Type 1} → statement M
+clear-i64-spec =
+    tie.close
+    (tie.spec
+    Inv-loop
+    μ-loop
+    loop-holds
+    mul-cells
+    slice-set-of-cells
+    add-i
+    loop-less
+    loop-again
+    same-length
+    returns)
