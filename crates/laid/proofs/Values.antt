@@ -299,7 +299,8 @@ module _ {S : Type 0} (k : Strings S) where
     inside-element at n l c f inner rest a-break e d g base space before made earlier h =
         rw (e, segmentsIn)
         (bind (Good (levels d)) (Good (levels d)) (counted at made (joined (ended k space earlier) (track.break track.done))) _
-        (counted-good (levels d) at made (joined (ended k space earlier) (track.break track.done)) (joined-good (levels d) (ended k space earlier) (track.break track.done)
+        (counted-good (levels d) at made (joined (ended k space earlier) (track.break track.done))
+        (joined-good (levels d) (ended k space earlier) (track.break track.done)
         (ended-good space (levels d) earlier h) (omega arith, tt)))
         λ given x. rest d (g .2) base space none made given x)
     inside-element at n l c f inner rest a-span e d g base space before made earlier h =
@@ -330,7 +331,8 @@ module _ {S : Type 0} (k : Strings S) where
     nodes-inside (text at s f) d g base space before made earlier h =
         let one = textSegment k (textIn k space before s) in
         bind (Good (levels d)) (Good (levels d)) (counted at made (joined earlier one)) _
-        (counted-good (levels d) at made (joined earlier one) (joined-good (levels d) earlier one h (text-good (levels d) (omega arith) (textIn k space before s))))
+        (counted-good (levels d) at made (joined earlier one)
+        (joined-good (levels d) earlier one h (text-good (levels d) (omega arith) (textIn k space before s))))
         λ given x. nodes-inside f d g base space (lastOf before (k .bytes s)) made given x
     nodes-inside (element at n l c f) d g base space before made earlier h =
         inside-element at n l c f (nodes-inside c) (nodes-inside f) (inlineOf k n) refl d g base space before made earlier h
@@ -339,7 +341,8 @@ module _ {S : Type 0} (k : Strings S) where
         → Holds (Good (levels d)) (contentOf k ctx base space made c)
     unfolding contentOf
     content-good d base space made c g =
-        bind (Good (levels d)) (Good (levels d)) (segmentsIn k ctx base space none made track.done c) _ (nodes-inside c d g base space none made track.done tt)
+        bind (Good (levels d)) (Good (levels d)) (segmentsIn k ctx base space none made track.done c) _
+        (nodes-inside c d g base space none made track.done tt)
         λ given x. holds-is _ (ended k space given) (ended-good space (levels d) given x)
 
     styled-good : (n place made : ℕ) (l : List (Attr S)) (c : Segments S) (v : Bool) → isModelled k l ≡ v → Good n c
