@@ -1,7 +1,7 @@
 -- `apply_tts_attrs`: by the colour.
 use mathlib.Core.Path.{_∙_}
 use borrow.Author.Needs.{needs}
-use Rattle.styling.proofs.Styled.{look-colored, color-refused}
+use Rattle.styling.proofs.Looks.{look-colored, color-refused}
 use Rattle.styling.proofs.look.apply_tts_attrs.Statement.{statement}
 use Rattle.styling.proofs.look.apply_tts_attrs.Tie as tie
 
