@@ -11,7 +11,7 @@ use Rattle.unicode.specs.White.{isWhite, whiteAt, whiteBefore, trimmed}
 use Rattle.numerals.specs.Numerals.{numeralOf}
 use Rattle.unicode.specs.Utf8.{boundary}
 use Rattle.colors.specs.declared.read.Color.{Color}
-use Rattle.colors.specs.Text.{ascii}
+use Rattle.scan.specs.Text.{ascii}
 use Rattle.colors.specs.Named.{rgba, namedIn}
 use Rattle.colors.specs.Colors.{colorIn}
 

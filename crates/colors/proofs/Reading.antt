@@ -24,7 +24,7 @@ use Rattle.numerals.proofs.Numerals.{numeral-inv}
 use Rattle.colors.specs.declared.read.Color.{Color}
 use Rattle.colors.specs.declared.read.Channel.{Channel}
 use Rattle.colors.specs.Named.{colorTable, namedIn}
-use Rattle.colors.specs.Text.{ascii}
+use Rattle.scan.specs.Text.{ascii}
 use Rattle.colors.specs.Colors.{channelOf, hexChannel, full, hexColor, rgbOf, rgbParts, isRgb, color}
 use Rattle.colors.specs.Steps.{Small, copies, channelAt, hexChannels}
 

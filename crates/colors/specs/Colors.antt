@@ -18,7 +18,7 @@ use Rattle.unicode.specs.Utf8.{boundary}
 use Rattle.colors.specs.declared.read.Rgba.{Rgba}
 use Rattle.colors.specs.declared.read.Color.{Color}
 use Rattle.colors.specs.declared.read.Channel.{Channel}
-use Rattle.colors.specs.Text.{ascii}
+use Rattle.scan.specs.Text.{ascii}
 use Rattle.colors.specs.Named.{rgba, colorTable, namedIn}
 
 -- ---- the answer

@@ -1,4 +1,3 @@
-pub mod Text
 pub mod Named
 pub mod Colors
 pub mod Written

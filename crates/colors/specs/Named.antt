@@ -3,7 +3,7 @@ use Prim.Native.Nat.{ℕ}
 use mathlib.Core.Bool.{cond}
 use mathlib.Core.List.{List, [], _∷_}
 use Rattle.scan.specs.Names.{sameFolded}
-use Rattle.colors.specs.Text.{ascii}
+use Rattle.scan.specs.Text.{ascii}
 use Rattle.colors.specs.declared.read.Rgba.{Rgba}
 use Rattle.colors.specs.declared.read.Color.{Color}
 use Rattle.colors.specs.declared.read.Color.the-variants.{Is, Nothing, Cut}

@@ -16,7 +16,7 @@ use Rattle.decimals.specs.Decimal.{decimalOf}
 use Rattle.times.specs.declared.offset.TimingCtx.{TimingCtx}
 use Rattle.times.specs.declared.offset.Time.{Time}
 use Rattle.times.specs.declared.offset.Time.the-variants.{Is, Nothing}
-use Rattle.times.specs.Text.{ascii}
+use Rattle.scan.specs.Text.{ascii}
 use Rattle.times.specs.Sums.{checked}
 use Rattle.times.specs.Expressions.{float, charsLength, microsOf, offsetTime, timeIn}
 use Rattle.times.specs.Written.{clockText}

@@ -12,6 +12,8 @@ use lib.ListN.{length, getD, set, take, drop, replicate, length-take, drop-of-le
 use lib.Seq.{drop-cons, take-append-add, length-take-le, getD-take, sets, sets-eq}
 use borrow.Author.Tests.{le-leb, lt-leb}
 use Rattle.scan.proofs.Stores.{Copied, copied-more}
+use Rattle.unicode.specs.Utf8.{Utf8, FirstChars}
+use Rattle.unicode.proofs.Characters.{chars-count}
 use Rattle.numerals.specs.declared.Whole.{Whole}
 use Rattle.numerals.specs.declared.Numeral.{Numeral}
 use Rattle.numerals.specs.declared.Unsigned.{Unsigned}
@@ -173,3 +175,8 @@ chars-within (suc n) (b ∷ s) = by (leb 0x80 b && leb b 0xBF) refl (chars-withi
         → charsLength (suc n) (b ∷ s) ≤ length (b ∷ s)
     by true e h g = rw e (omega arith)
     by false e h g = rw e (omega arith)
+
+-- of a text in UTF-8 they are the bytes of its first characters
+pub chars-are : {n : ℕ} {s a : List ℕ} → Utf8 s → FirstChars n s a → charsLength n s ≡ length a
+unfolding charsLength
+chars-are = chars-count charsLength (λ n. refl) (λ b s. refl) (λ n b s. refl)

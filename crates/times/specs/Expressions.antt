@@ -25,7 +25,7 @@ use Rattle.times.specs.declared.sums.Sum.{Sum}
 use Rattle.times.specs.declared.offset.TimingCtx.{TimingCtx}
 use Rattle.times.specs.declared.offset.Time.{Time}
 use Rattle.times.specs.declared.offset.Time.the-variants.{Is, Nothing, Beyond, LongFraction, Overflow}
-use Rattle.times.specs.Text.{ascii}
+use Rattle.scan.specs.Text.{ascii}
 use Rattle.times.specs.Sums.{checked, signed}
 
 -- ---- the answer

@@ -1,4 +1,3 @@
-pub mod Text
 pub mod Sums
 pub mod Expressions
 pub mod Written
