@@ -25,7 +25,7 @@ use Rattle.styles.proofs.Walks.{Walks, done, again, first, own-visited}
 use Rattle.styles.proofs.Equations.{walk-walks, walk-is}
 
 -- ---- the walk
-module _ (styles : List Style) where
+module _ (styles : List (Style Bytes)) where
   pub walk-none : (w : Walked) → walk styles [] w ≡ w
   walk-none w = walk-is styles .none w
 

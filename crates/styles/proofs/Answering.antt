@@ -13,10 +13,11 @@ use Rattle.scan.specs.Part.{stringAt}
 use Rattle.unicode.specs.White.{words}
 use Rattle.track.specs.Track.{Bytes, Style}
 use Rattle.track.specs.Tables.{rowsFrom}
+use Rattle.track.specs.Meaning.{lookIn}
 use Rattle.styles.specs.declared.apply.Walk.{Walk}
-use Rattle.styles.specs.Values.{Values, blank}
+use Rattle.styles.specs.Values.{blank}
 use Rattle.styles.specs.Resolve.{Walked, start, walk, answered, resolve}
-use Rattle.styles.specs.Cells.{valuesIn, blankStyling}
+use Rattle.styles.specs.Cells.{blankLook}
 use Rattle.styles.specs.Ids.{idsIn, lastOf, Held, Unlinked}
 use Rattle.styles.specs.Steps.{stylesIn, stateIn, Over, Applies, Overflows, styleOf, Resolves}
 use Rattle.styles.proofs.Clearing.{unlinked-ids, unlinked-within}
@@ -37,9 +38,9 @@ unfolding stringAt
 whole x = rw (zero-add (length x), sub-zero (length x)) (take-length x)
 
 module _ (x s : List ℕ) (f : List Float) (z : List ℕ) (n : ℕ) (t : List ℕ) (w : Walk) (none-yet : w .count ≡ 0) (no-style : w .found ≡ false)
-    (plain : w .values ≡ blankStyling) where
+    (plain : w .look ≡ blankLook) where
   starts : stateIn x z t w ≡ start
-  unfolding start idsIn rowsFrom valuesIn blankStyling blank
+  unfolding start idsIn rowsFrom lookIn blankLook blank
   starts = rw (none-yet, no-style, plain)
 
   module _ (t₁ heads : List ℕ) where

@@ -92,7 +92,7 @@ module _ (x z own : List ℕ) (source at len h : ℕ) (t heads t₁ heads₁ : L
   bucket′ = entry .bucket ∙ ap hashOf here
 
   abbrev pub entered : Walk
-  entered = record { count = w .count + 1; found = w .found; values = w .values }
+  entered = record { count = w .count + 1; found = w .found; look = w .look }
 
   pub entered-held : Held x z t₁ heads₁ (w .count + 1)
   entered-held = held-more x z t heads (w .count) (entry .held) source at len h t₁ heads₁ (entry .room) (entry .few) (entry .stands .known) within

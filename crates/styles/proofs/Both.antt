@@ -91,7 +91,7 @@ both-exactly {P} {Q} l m p q = record {
     second a k = by-test (isIn a l) (λ e. Memᴰ·append-left (others l m) (isIn-member a l e)) (λ e. Memᴰ·append-right l (member-others l a m e k))
 
 -- ---- the walk that goes on
-module _ (styles : List Style) (r : List Bytes) (closed : (a b : Bytes) → a ∈ r → b ∈ parents styles a → b ∈ r) where
+module _ (styles : List (Style Bytes)) (r : List Bytes) (closed : (a b : Bytes) → a ∈ r → b ∈ parents styles a → b ∈ r) where
   -- v is at the ids r and what w has visited besides
   abbrev Beside : Walked → Walked → Type 0
   Beside w v = v .visited ≡ r ++ others r (w .visited)
@@ -153,7 +153,7 @@ module _ (styles : List Style) (r : List Bytes) (closed : (a b : Bytes) → a �
           (g (own styles a u) (own-visited styles a u ∙ own-beside a m u (f (meet a v) (met-unknown a w v h p))))
 
 -- the ids of a value, then what a second value reaches besides
-pub both-ids : (styles : List Style) (value second : Bytes) (w : Walked) → w .visited ≡ resolve styles value .ids
+pub both-ids : (styles : List (Style Bytes)) (value second : Bytes) (w : Walked) → w .visited ≡ resolve styles value .ids
     → walk styles (words second) w .visited ≡ resolve styles value .ids ++ others (resolve styles value .ids) (resolve styles second .ids)
 unfolding resolve answered start others
 both-ids styles value second w e =

@@ -11,16 +11,14 @@ use lib.Ieee.{Float}
 use Rattle.scan.specs.Part.{stringAt}
 use Rattle.unicode.specs.White.{words}
 use Rattle.track.specs.declared.strings.Span.{Span}
-use Rattle.track.specs.Track.{Bytes, Style}
+use Rattle.track.specs.Track.{Bytes, Look, Style}
 use Rattle.track.specs.Tables.{Tables, rowsFrom}
-use Rattle.track.specs.Meaning.{isColor, styleIn}
+use Rattle.track.specs.Meaning.{isColor, lookIn, styleIn}
 use Rattle.records.specs.Find.{Named}
 use Rattle.styles.specs.declared.apply.Walk.{Walk}
 use Rattle.styles.specs.declared.apply.Applied.{Applied}
 use Rattle.styles.specs.Reaches.{parents}
-use Rattle.styles.specs.Values.{Values}
 use Rattle.styles.specs.Resolve.{Walked, own, walk, resolve}
-use Rattle.styles.specs.Cells.{valuesIn}
 use Rattle.styles.specs.Ids.{sourceOf, idsIn, RowWithin, Held}
 
 -- ---- what the tables mean
@@ -41,12 +39,12 @@ bare s f e z = record {
 }
 
 -- the track's styles; whatever their extras
-abbrev pub stylesIn : List ℕ → List Float → List ℕ → List ℕ → ℕ → List Style
+abbrev pub stylesIn : List ℕ → List Float → List ℕ → List ℕ → ℕ → List (Style Bytes)
 stylesIn s f e z n = rowsFrom (styleIn (bare s f e z)) n 0
 
 -- what is known on the way
 abbrev pub stateIn : (x z t : List ℕ) → Walk → Walked
-stateIn x z t w = record { visited = idsIn x z t (w .count); found = w .found; values = valuesIn z (w .values) }
+stateIn x z t w = record { visited = idsIn x z t (w .count); found = w .found; look = lookIn z (w .look) }
 
 -- ---- what is asked
 pub record Chained (s z : List ℕ) (n : ℕ) : Type 0 where
@@ -102,8 +100,8 @@ module _ (x s : List ℕ) (f : List Float) (z : List ℕ) (n : ℕ) (ids : List 
   ApplyPost Applied.Full = Overflows
 
 -- ---- a value resolved: it equals the definition, and every cell is known
-abbrev pub styleOf : List ℕ → Walk → Option Values
-styleOf z r = cond (r .found) (some (valuesIn z (r .values))) none
+abbrev pub styleOf : List ℕ → Walk → Option (Look Bytes)
+styleOf z r = cond (r .found) (some (lookIn z (r .look))) none
 
 module _ (x s : List ℕ) (f : List Float) (z : List ℕ) (n : ℕ) (t t′ : List ℕ) where
   pub record Resolves (r : Walk) : Type 0 where

@@ -7,8 +7,8 @@ ghost use Rattle.scan.specs.Part.{stringAt};
 ghost use Rattle.unicode.specs.White.{words};
 ghost use Rattle.styles.specs.Ids.{Held};
 ghost use Rattle.styles.specs.Steps.{Chained, Ready, Stands, ChainOf, OwnStyle, ApplyPost, ResolvePost};
-use crate::values::Styling;
 use records::Found;
+use track::Look;
 use track::Span;
 use unicode::Word;
 
@@ -17,7 +17,7 @@ use unicode::Word;
 pub struct Walk {
     pub count: usize,
     pub found: bool,
-    pub values: Styling,
+    pub look: Look,
 }
 
 // More ids than there are rows for is Full (number 18).
@@ -47,13 +47,14 @@ fn own_style(styles: &[u32], sizes: &[f32], strings: &[u8], n: usize, name: &[u8
 {
     match records::find_style(styles, strings, n, name) {
         Found::Row(i) => {
-            let above = crate::values::styling_at(styles, sizes, i);
-            let below = w.values;
-            let values = crate::values::overlay(below, above);
+            let style = records::style_at(styles, sizes, i);
+            let above = style.look;
+            let below = w.look;
+            let look = crate::values::overlay_style(below, above);
             Walk {
                 count: w.count,
                 found: true,
-                values,
+                look,
             }
         }
         Found::Nothing => w,
@@ -94,11 +95,11 @@ fn apply_style_ref(
         return Applied::Full;
     }
     crate::ids::add_id(ids, heads, count, h, source, at, len);
-    let values = w.values;
+    let look = w.look;
     let mut s = Walk {
         count: count + 1,
         found: w.found,
-        values,
+        look,
     };
     let chain = chain_of(styles, strings, n, &own[at..end]);
     let from = chain.place;
@@ -211,11 +212,11 @@ pub fn resolve(
         (now (ids .entry)) (now (ids .exit)) r ⌝ }
 {
     let mut heads = [0u32; 4096];
-    let values = crate::values::blank();
+    let look = crate::values::blank();
     let w = Walk {
         count: 0,
         found: false,
-        values,
+        look,
     };
     match apply_refs(
         text,
