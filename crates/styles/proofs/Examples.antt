@@ -23,7 +23,7 @@ use Rattle.track.specs.declared.values.Align.{Align}
 use Rattle.track.specs.Track.{Bytes, Look, Extra, Style, Region, Cue, Track}
 use Rattle.track.specs.Track as abstract
 use Rattle.styles.specs.Values.{blank, overlay, unstyled}
-use Rattle.styles.specs.Resolve.{Resolved, resolve}
+use Rattle.styles.specs.Resolve.{Resolution, resolve}
 use Rattle.styles.specs.Own.{Read, is, ascii}
 use Rattle.styles.specs.Queries.{regionStyle, effectiveStyle}
 
@@ -79,22 +79,22 @@ cue g s = record {
 track : List (Style Bytes) → List (Region Bytes) → List (Cue Bytes) → Track Bytes
 track s g c = record { lang = none; params = []; styles = s; regions = g; cues = c }
 
-noStyle : List String → Resolved
+noStyle : List String → Resolution
 noStyle ids = record { style = none; ids = map ascii ids }
 
-styledAs : List Mark → List String → Resolved
+styledAs : List Mark → List String → Resolution
 unfolding all
 styledAs l ids = record { style = some (all l); ids = map ascii ids }
 
 -- what the definition gives, and the Rust's answer
 record Case : Type 0 where
-  given : Read Resolved
-  expected : Read Resolved
+  given : Read Resolution
+  expected : Read Resolution
 
-query : Read Resolved → Resolved → Case
+query : Read Resolution → Resolution → Case
 query r e = record { given = r; expected = is e }
 
-case : Resolved → Resolved → Case
+case : Resolution → Resolution → Case
 case r e = record { given = is r; expected = is e }
 
 cases : List Case

@@ -54,6 +54,10 @@ look-over z x y =
     )
 
 -- ---- lookups
+pub no-words : words [] ≡ []
+unfolding words
+no-words = wordsFrom-none [] 0 [] (whiteEnd-low [] 0)
+
 module _ (s : List ℕ) (f : List Float) (e z : List ℕ) (n : ℕ) (name : Bytes) where
   abbrev tables : Tables
   tables = bare s f e z
@@ -76,10 +80,6 @@ module _ (s : List ℕ) (f : List Float) (e z : List ℕ) (n : ℕ) (name : Byte
     pub chain-row : parents (stylesIn s f e z n) name ≡ words (stringAt z (getD s (i * 27 + 2) 0) (getD s (i * 27 + 3) 0))
     unfolding parents
     chain-row = rw (chain-found tables name n, h, some-chain i has-chain)
-
-  no-words : words [] ≡ []
-  unfolding words
-  no-words = wordsFrom-none [] 0 [] (whiteEnd-low [] 0)
 
   pub chain-none : firstWith s z name 27 3 n 0 ≡ Found.Nothing → parents (stylesIn s f e z n) name ≡ words (stringAt z 0 0)
   unfolding parents stringAt

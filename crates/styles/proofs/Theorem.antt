@@ -10,7 +10,7 @@ use Rattle.unicode.specs.White.{words}
 use Rattle.track.specs.Track.{Bytes, Look, Style}
 use Rattle.records.specs.Find.{findStyle}
 use Rattle.styles.specs.Reaches.{_∈_, parents, Reaches, named, parent, Distinct, empty, Exactly}
-use Rattle.styles.specs.Resolve.{Walked, start, walk, Resolved, answered, resolve, Answers}
+use Rattle.styles.specs.Resolve.{Walked, start, walk, Resolution, answered, resolve, Answers}
 use Rattle.styles.proofs.Members.{same-count}
 use Rattle.styles.proofs.Walks.{Walks, takes, keeps-distinct, stays-within, closes, Missed, misses, finds-none}
 use Rattle.styles.proofs.Equations.{walk-walks}

@@ -66,21 +66,21 @@ module _ (styles : List (Style Bytes)) where
   walk ids w = each (visitBy (suc (length styles))) ids w
 
 -- the answer to a query: a style or none, and the ids reached
-pub record Resolved : Type 0 where
+pub record Resolution : Type 0 where
   pub style : Option (Look Bytes)
   pub ids : List Bytes
 
-unfoldable pub answered : Walked → Resolved
+unfoldable pub answered : Walked → Resolution
 answered w = record { style = cond (w .found) (some (w .look)) none; ids = w .visited }
 
 -- the Rust's `resolve_referenced_style`
-unfoldable pub resolve : List (Style Bytes) → Bytes → Resolved
+unfoldable pub resolve : List (Style Bytes) → Bytes → Resolution
 unfolding walk start answered
 resolve styles value = answered (walk styles (words value) start)
 
 -- what document 01 says of every answer: "gives no style exactly if no id reachable through chains names one. Added: the ids reached, each
 -- once, … and their count, equal to the number of distinct ids reachable"
-pub record Answers (styles : List (Style Bytes)) (value : Bytes) (r : Resolved) : Type 0 where
+pub record Answers (styles : List (Style Bytes)) (value : Bytes) (r : Resolution) : Type 0 where
   pub ids-reached : Exactly (Reaches styles value) (r .ids)
   pub count : (others : List Bytes) → Exactly (Reaches styles value) others → length (r .ids) ≡ length others
   pub no-style : (r .style ≡ none) ↔ ((a : Bytes) → Reaches styles value a → findStyle a styles ≡ none)

@@ -3,6 +3,7 @@ use mathlib.Core.Path.{_≡_, refl, sym, _∙_}
 use mathlib.Core.List.{[]}
 use native.Mathlib.Omega.{arith}
 use Rattle.styles.proofs.Lookups.{own-row-within, own-row, own-none}
+use Rattle.styles.proofs.Tidying.{tidy-over, tidy-style}
 use borrow.Author.Needs.{needs}
 use Rattle.styles.proofs.apply.own_style.Statement.{statement}
 use Rattle.styles.proofs.apply.own_style.Tie as tie
@@ -33,11 +34,15 @@ returns c =
     let m = i .before .before in
     let a = m .before .before .before .before .before .args in
     let h = sym (m .find-style .ensures) ∙ i .i .given .1 in
-    record { count = refl; is = λ e x t. own-row _ _ e _ _ _ _ h x t (a .w) _ refl refl (c .overlay-style .ensures ∙ rw (k .style-at .ensures)) }
+    record {
+      count = refl;
+      tidy = λ d. rw (c .overlay-style .ensures, k .style-at .ensures) (tidy-over _ _ d (tidy-style _ _ _));
+      is = λ e x t. own-row _ _ e _ _ _ _ h x t (a .w) _ refl refl (c .overlay-style .ensures ∙ rw (k .style-at .ensures));
+    }
 
 returns-2 : tie.Need-returns-2
 returns-2 c =
-    record { count = refl; is = λ e x t. own-none _ _ e _ _ _ (sym (c .before .before .find-style .ensures) ∙ c .enum-told .given .1) _ }
+    record { count = refl; tidy = λ d. d; is = λ e x t. own-none _ _ e _ _ _ (sym (c .before .before .find-style .ensures) ∙ c .enum-told .given .1) _ }
 
 pub own-style-spec : {M : Type 1} → statement M
 own-style-spec =
