@@ -19,13 +19,14 @@ use Rattle.track.specs.Track.{Bytes, Style}
 use Rattle.track.specs.Tables.{rowsFrom}
 use Rattle.styles.specs.declared.apply.Walk.{Walk}
 use Rattle.styles.specs.Resolve.{Walked, meet, own, each, walk}
+use Rattle.styles.specs.Cells.{Tidy}
 use Rattle.styles.specs.Ids.{idsIn, Held}
 use Rattle.styles.specs.Steps.{stylesIn, stateIn, Grown, Over, Applies, Overflows}
 use Rattle.styles.proofs.Walks.{Walks, done, again, first, own-visited}
 use Rattle.styles.proofs.Equations.{walk-walks, walk-is}
 
 -- ---- the walk
-module _ (styles : List Style) where
+module _ (styles : List (Style Bytes)) where
   pub walk-none : (w : Walked) → walk styles [] w ≡ w
   walk-none w = walk-is styles .none w
 
@@ -106,11 +107,12 @@ module _ (x s : List ℕ) (f : List Float) (z : List ℕ) (n : ℕ) (chain : Byt
   pub record Along (p : ℕ) (t heads : List ℕ) (w : Walk) : Type 0 where
     pub place : p ≤ length chain
     pub grown : Grown x z t₀ t heads (w₀ .count) (w .count)
+    pub tidy : Tidy (w₀ .look) → Tidy (w .look)
     pub goes : (e : List ℕ) → from-start e ≡ walk (stylesIn s f e z n) (wordsFrom chain p []) (stateIn x z t w)
 
   pub along-start : (heads : List ℕ) → Held x z t₀ heads (w₀ .count) → Along 0 t₀ heads w₀
   unfolding words
-  along-start heads h = record { place = omega arith; grown = grown-none x z t₀ heads (w₀ .count) h; goes = λ e. refl }
+  along-start heads h = record { place = omega arith; grown = grown-none x z t₀ heads (w₀ .count) h; tidy = λ k. k; goes = λ e. refl }
 
   module _ (p : ℕ) (t heads : List ℕ) (w : Walk) (here : Along p t heads w) where
     pub along-done : ((ws : List Bytes) → wordsFrom chain p ws ≡ ws) → (e : List ℕ) → from-start e ≡ stateIn x z t w
@@ -133,6 +135,7 @@ module _ (x s : List ℕ) (f : List Float) (z : List ℕ) (n : ℕ) (chain : Byt
       along-step t′ heads′ r h = record {
         place = next .within-text;
         grown = grown-more x z t₀ t t′ heads heads′ (w₀ .count) (w .count) (r .count) (here .grown) (h .grown);
+        tidy = λ k. h .tidy (here .tidy k);
         goes = λ e. later e ∙ rw (h .is e);
       }
 

@@ -1,25 +1,36 @@
--- A value resolved from nothing: the program's answer is the definition's. Assumes nothing.
-use Prim.Native.Nat.{ℕ, _+_, _-_, _*_, _≤_, _<_}
+-- Values resolved: the program's answer is the definition's. Assumes nothing.
+--     held-none                        before any id
+--     pairs-over-first, pairs-over, pairs          what `resolve_pair` leaves
+--     lays-none, lays-first, lays-second           what `lay_over` gives
+--     answered-alone, answered-over, answered      what `resolve_over` leaves
+use Prim.Native.Nat.{ℕ, zero, suc, _+_, _-_, _*_, _≤_, _<_}
 use mathlib.Core.Path.{_≡_, refl, sym, ap, _∙_}
-use mathlib.Core.Bool.{Bool, true, false, cond}
-use mathlib.Core.List.{List, [], _∷_}
+use mathlib.Core.Bool.{Bool, true, false, cond, not}
+use mathlib.Core.Logic.{_⊎_, inl, inr}
+use mathlib.Core.List.{List, [], _∷_, _++_, append-nil}
 use mathlib.Core.Option.{Option, none, some}
 use native.Mathlib.Omega.{arith}
-use native.Mathlib.Nat.{zero-add, sub-zero}
-use lib.ListN.{length, getD, replicate, length-replicate, getD-replicate}
-use lib.Seq.{take-length}
+use lib.ListN.{length, getD, replicate, length-append, length-replicate, getD-replicate}
 use lib.Ieee.{Float}
-use Rattle.scan.specs.Part.{stringAt}
 use Rattle.unicode.specs.White.{words}
-use Rattle.track.specs.Track.{Bytes, Style}
+use Rattle.track.specs.declared.values.Look as values
+use Rattle.track.specs.Track.{Bytes, Look, Style}
 use Rattle.track.specs.Tables.{rowsFrom}
+use Rattle.track.specs.Meaning.{given, lookIn}
 use Rattle.styles.specs.declared.apply.Walk.{Walk}
-use Rattle.styles.specs.Values.{Values, blank}
-use Rattle.styles.specs.Resolve.{Walked, start, walk, answered, resolve}
-use Rattle.styles.specs.Cells.{valuesIn, blankStyling}
+use Rattle.styles.specs.Reaches.{_∈_}
+use Rattle.styles.specs.Values.{blank, unstyled, laidOver}
+use Rattle.styles.specs.Resolve.{Walked, Resolution, start, walk, answered, resolve}
+use Rattle.styles.specs.Queries.{others, both, styled, withOwn}
+use Rattle.styles.specs.Cells.{overlaid, blankLook, isPlain, Tidy}
 use Rattle.styles.specs.Ids.{idsIn, lastOf, Held, Unlinked}
-use Rattle.styles.specs.Steps.{stylesIn, stateIn, Over, Applies, Overflows, styleOf, Resolves}
+use Rattle.styles.specs.Steps.{stylesIn, stateIn, Over, Applies, Overflows, styleOf, Stood, LaysOver, idsOfBoth, Pairs, PairsOver, answerOf, Answered, AnswerOver}
 use Rattle.styles.proofs.Clearing.{unlinked-ids, unlinked-within}
+use Rattle.styles.proofs.Along.{over-kept, over-longer, walk-none}
+use Rattle.styles.proofs.Lookups.{look-over, no-words}
+use Rattle.styles.proofs.Overlays.{plain-unstyled}
+use Rattle.styles.proofs.Both.{both-ids, both-longer}
+use Rattle.styles.proofs.Tidying.{tidy-blank, tidy-over}
 
 pub held-none : (x z t : List ℕ) → Held x z t (replicate 4096 0) 0
 unfolding lastOf
@@ -32,42 +43,144 @@ held-none x z t = record {
   link = λ i l. absurd (omega arith);
 }
 
-whole : (x : List ℕ) → stringAt x 0 (length x) ≡ x
-unfolding stringAt
-whole x = rw (zero-add (length x), sub-zero (length x)) (take-length x)
+zeros : (n i : ℕ) → _≡_ {A = ℕ} (getD (replicate n 0) i 0) 0
+zeros zero i = refl
+zeros (suc n) zero = refl
+zeros (suc n) (suc i) = zeros n i
 
-module _ (x s : List ℕ) (f : List Float) (z : List ℕ) (n : ℕ) (t : List ℕ) (w : Walk) (none-yet : w .count ≡ 0) (no-style : w .found ≡ false)
-    (plain : w .values ≡ blankStyling) where
+-- nothing is resolved to nothing
+pub resolve-nothing : (styles : List (Style Bytes)) → resolve styles [] ≡ record { style = none; ids = [] }
+unfolding resolve answered start
+resolve-nothing styles = ap (λ (ids : List Bytes). answered (walk styles ids start)) no-words ∙ ap answered (walk-none styles start)
+
+pub both-nothing : (styles : List (Style Bytes)) (l : List Bytes) → l ++ others l (resolve styles [] .ids) ≡ l
+unfolding others
+both-nothing styles l = rw (resolve-nothing styles) (append-nil l)
+
+module _ (x s : List ℕ) (f : List Float) (z : List ℕ) (n : ℕ) (first second : Bytes) (t : List ℕ) (w : Walk) (none-yet : w .count ≡ 0)
+    (no-style : w .found ≡ false) (plain : w .look ≡ blankLook) (t₁ h₁ : List ℕ) where
   starts : stateIn x z t w ≡ start
-  unfolding start idsIn rowsFrom valuesIn blankStyling blank
+  unfolding start idsIn rowsFrom lookIn blankLook blank
   starts = rw (none-yet, no-style, plain)
 
-  module _ (t₁ heads : List ℕ) where
-    abbrev text : List Bytes
-    text = words (stringAt x 0 (length x))
+  from-start : (e : List ℕ) → walk (stylesIn s f e z n) (words first) (stateIn x z t w) ≡ walk (stylesIn s f e z n) (words first) start
+  from-start e = rw starts
 
-    from-start : (e : List ℕ) → walk (stylesIn s f e z n) text (stateIn x z t w) ≡ walk (stylesIn s f e z n) (words x) start
-    from-start e = rw (whole x, starts)
+  pub pairs-over-first : Overflows x s f z n (words first) t t₁ h₁ w → PairsOver x s f z n first second t t₁
+  unfolding resolve answered
+  pairs-over-first o = record {
+    kept = o .kept;
+    over = λ e.
+        let l : List Bytes = walk (stylesIn s f e z n) (words first) start .visited in
+        let k : List Bytes = others l (walk (stylesIn s f e z n) (words second) start .visited) in
+        over-longer t l (l ++ k) (omega (arith, length-append l k)) (rw (from-start e) at (o .over e));
+  }
 
-    pub resolved-over : Overflows x s f z n text t t₁ heads w → (e : List ℕ) → Over t (resolve (stylesIn s f e z n) x .ids)
+  module _ (a : Walk) (done : Applies x s f z n (words first) t t₁ h₁ w a) where
+    ends : (e : List ℕ) → walk (stylesIn s f e z n) (words first) start ≡ stateIn x z t₁ a
+    ends e = sym (from-start e) ∙ done .is e
+
+    first-ids : (e : List ℕ) → stateIn x z t₁ a .visited ≡ resolve (stylesIn s f e z n) first .ids
     unfolding resolve answered
-    resolved-over o e = rw (from-start e) at (o .over e)
+    first-ids e = sym (ap (λ (v : Walked). v .visited) (ends e))
 
-    module _ (r : Walk) (done : Applies x s f z n text t t₁ heads w r) where
-      ends : (e : List ℕ) → walk (stylesIn s f e z n) (words x) start ≡ stateIn x z t₁ r
-      ends e = sym (from-start e) ∙ done .is e
+    all-ids : (e : List ℕ) → walk (stylesIn s f e z n) (words second) (stateIn x z t₁ a) .visited ≡ idsOfBoth x s f z n first second t t₁ e
+    all-ids e = both-ids (stylesIn s f e z n) first second (stateIn x z t₁ a) (first-ids e)
 
-      pub resolved : (t₂ : List ℕ) → Unlinked t₁ t₂ (r .count) → Resolves x s f z n t t₂ r
+    module _ (t₂ h₂ : List ℕ) where
+      pub pairs-over : Overflows x s f z n (words second) t₁ t₂ h₂ a → PairsOver x s f z n first second t t₂
+      pairs-over o = record {
+        kept = o .kept ∙ done .grown .kept;
+        over = λ e. over-kept t t₁ (idsOfBoth x s f z n first second t t₁ e) (done .grown .kept) (rw (all-ids e) at (o .over e));
+      }
+
+      pub pairs : (b : Walk) → Applies x s f z n (words second) t₁ t₂ h₂ a b → (t₃ : List ℕ) → Unlinked t₂ t₃ (b .count)
+          → (r : Walk) → r .count ≡ b .count → r .found ≡ a .found → r .look ≡ a .look → Pairs x s f z n first second t t₃ r
       unfolding resolve answered
-      resolved t₂ u =
-          let h = done .grown .held in
+      pairs b more t₃ u r c g k =
+          let h = more .grown .held in
           record {
-            style = λ e. rw (ends e);
-            ids = λ e. unlinked-ids x z t₁ t₂ (r .count) u (r .count) ∙ sym (ap (λ (v : Walked). v .visited) (ends e));
-            kept = u .kept ∙ done .grown .kept;
-            fits = omega (arith, h .rows, done .grown .kept);
-            few = h .few;
-            rows = λ i l. unlinked-within x z t₁ t₂ (r .count) u i (h .within i l);
-            marks = u .zeros;
-            behind = λ k l. u .behind k l ∙ done .grown .behind k l;
+            style = λ e. rw (ends e, g, k);
+            ids = λ e.
+                rw c (unlinked-ids x z t₂ t₃ (b .count) u (b .count))
+                ∙ (sym (ap (λ (v : Walked). v .visited) (more .is e)) ∙ all-ids e);
+            tidy = rw k (done .tidy (rw plain tidy-blank));
+            kept = u .kept ∙ (more .grown .kept ∙ done .grown .kept);
+            stood = rw c (record {
+              fits = omega (arith, h .rows, u .kept);
+              few = h .few;
+              rows = λ i l. unlinked-within x z t₂ t₃ (b .count) u i (h .within i l);
+              marks = u .zeros;
+            });
+            behind = λ i l.
+                let m : b .count * 4 ≤ i = rw c at l in
+                u .behind i m ∙ (more .grown .behind i m ∙ done .grown .behind i (omega (arith, more .grown .more)));
           }
+
+-- ---- a look over an answer
+under-none : (x : Option (Look Bytes)) → x ≡ laidOver x none
+under-none none = refl
+under-none (some x) = refl
+
+module _ (below : Walk) (has : Bool) (above : values.Look) where
+  pub lays-none : has ≡ false → LaysOver below has above below
+  lays-none h = record { count = refl; is = λ z. rw h (under-none (styleOf z below)); tidy = λ a b. a }
+
+  module _ (r : Walk) (h : has ≡ true) (c : r .count ≡ below .count) (g : r .found ≡ true) where
+    pub lays-first : below .found ≡ false → r .look ≡ above → LaysOver below has above r
+    lays-first n k = record { count = c; is = λ z. rw (h, g, n, k); tidy = λ a b. rw k b }
+
+    pub lays-second : below .found ≡ true → r .look ≡ overlaid (below .look) above → LaysOver below has above r
+    lays-second n k = record {
+      count = c;
+      is = λ z. rw (h, g, n, k, look-over z (below .look) above);
+      tidy = λ a b. rw k (tidy-over (below .look) above a b);
+    }
+
+-- ---- a look, and a second value
+given-cond : {A : Type 0} (b : Bool) (x : A) → given (not b) x ≡ cond b none (some x)
+given-cond true x = refl
+given-cond false x = refl
+
+module _ (x s : List ℕ) (f : List Float) (z : List ℕ) (n : ℕ) (first second : Bytes) (look : values.Look) (t : List ℕ) where
+  -- the second alone has not more ids than both
+  pub answered-alone : (t′ : List ℕ) → PairsOver x s f z n second [] t t′ → AnswerOver x s f z n first second t t′ look
+  answered-alone t′ o = record {
+    kept = o .kept;
+    over = λ e.
+        let styles : List (Style Bytes) = stylesIn s f e z n in
+        over-longer t (resolve styles second .ids) (answerOf x s f z n first second t t′ look e .ids) (both-longer styles first second)
+        (rw (both-nothing styles (resolve styles second .ids)) at (o .over e));
+  }
+
+  module _ (m₀ : ℕ) (t₁ : List ℕ) (kept : m₀ ≡ length t) (cleared : t₁ ≡ replicate m₀ 0) (t₂ : List ℕ) where
+    as-long : length t₁ ≡ length t
+    as-long = rw (cleared, ← kept) (length-replicate {A = ℕ} m₀ 0)
+
+    pub answered-over : PairsOver x s f z n first second t₁ t₂ → AnswerOver x s f z n first second t t₂ look
+    answered-over o = record {
+      kept = o .kept ∙ as-long;
+      over = λ e. over-kept t t₁ (idsOfBoth x s f z n first second t₁ t₂ e) as-long (o .over e);
+    }
+
+    answerFirst : List ℕ → Option (Look Bytes)
+    answerFirst e = withOwn (resolve (stylesIn s f e z n) first) (lookIn z look) .style
+
+    pub is-answered : (b : Walk) (u v : List ℕ) → Pairs x s f z n second [] u v b → (a : Walk) → Pairs x s f z n first second t₁ t₂ a
+        → (m r : Walk) → LaysOver a (not (isPlain look)) look m → LaysOver m (b .found) (b .look) r
+        → Answered x s f z n first second t t₂ look r
+    unfolding answerFirst
+    is-answered b u v alone a pair m r below above =
+        let c : r .count ≡ a .count = above .count ∙ below .count in
+        record {
+          style = λ e.
+              above .is z ∙ rw (below .is z, pair .style e, given-cond (isPlain look) (lookIn z look), plain-unstyled z look) (ap
+              (laidOver (answerFirst e)) (alone .style e));
+          ids = λ e. rw c (pair .ids e);
+          tidy = λ h. above .tidy (below .tidy (pair .tidy) h) (alone .tidy);
+          kept = pair .kept ∙ as-long;
+          stood = rw c (pair .stood);
+          behind = λ i l.
+              let k : a .count * 4 ≤ i = rw c at l in
+              pair .behind i k ∙ rw cleared (zeros m₀ i);
+        }

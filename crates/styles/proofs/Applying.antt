@@ -22,6 +22,7 @@ use Rattle.track.specs.Track.{Bytes, Style}
 use Rattle.styles.specs.declared.apply.Walk.{Walk}
 use Rattle.styles.specs.Reaches.{parents}
 use Rattle.styles.specs.Resolve.{Walked, meet, own, walk}
+use Rattle.styles.specs.Cells.{Tidy}
 use Rattle.styles.specs.Ids.{sourceOf, idsIn, hashOf, Held}
 use Rattle.styles.specs.Steps.{stylesIn, stateIn, Stands, ChainOf, OwnStyle, Grown, Over, Applies, Overflows}
 use Rattle.styles.proofs.Walks.{own-visited}
@@ -36,6 +37,7 @@ module _ (x s : List ℕ) (f : List Float) (z : List ℕ) (n : ℕ) (id : Bytes)
   pub applied-again : isIn id (idsIn x z t (w .count)) ≡ true → Applies x s f z n (id ∷ []) t t heads w w
   applied-again h = record {
     grown = grown-none x z t heads (w .count) held;
+    tidy = λ k. k;
     is = λ e. walk-is (stylesIn s f e z n) .again id [] state h ∙ walk-none (stylesIn s f e z n) state;
   }
 
@@ -92,7 +94,7 @@ module _ (x z own : List ℕ) (source at len h : ℕ) (t heads t₁ heads₁ : L
   bucket′ = entry .bucket ∙ ap hashOf here
 
   abbrev pub entered : Walk
-  entered = record { count = w .count + 1; found = w .found; values = w .values }
+  entered = record { count = w .count + 1; found = w .found; look = w .look }
 
   pub entered-held : Held x z t₁ heads₁ (w .count + 1)
   entered-held = held-more x z t heads (w .count) (entry .held) source at len h t₁ heads₁ (entry .room) (entry .few) (entry .stands .known) within
@@ -124,10 +126,11 @@ module _ (x z own : List ℕ) (source at len h : ℕ) (t heads t₁ heads₁ : L
     as-walked e = rw (of .is f e, meets)
 
     pub applied-first : (t₂ heads₂ : List ℕ) (v r : Walk) → Grown x z t₁ t₂ heads₂ (w .count + 1) (v .count)
-        → ((e : List ℕ) → walked e ≡ stateIn x z t₂ v) → OwnStyle s f z n (stringAt own at len) v r
+        → (Tidy (w .look) → Tidy (v .look)) → ((e : List ℕ) → walked e ≡ stateIn x z t₂ v) → OwnStyle s f z n (stringAt own at len) v r
         → Applies x s f z n (stringAt own at len ∷ []) t t₂ heads₂ w r
-    applied-first t₂ heads₂ v r g k o = record {
+    applied-first t₂ heads₂ v r g d k o = record {
       grown = rw (o .count) (grown-more x z t t₁ t₂ heads₁ heads₂ (w .count) (w .count + 1) (v .count) entered-grown g);
+      tidy = λ h. o .tidy (d h);
       is = λ e. opened x s f z n (stringAt own at len) t heads w (entry .held) (entry .new) e ∙ rw (as-walked e, k e) (sym (o .is e x t₂));
     }
 

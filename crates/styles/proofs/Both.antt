@@ -3,7 +3,7 @@
 --     others-member, member-others       what is left out
 --     both-exactly                       exactly the ids that the one or the other reaches, each once
 --     both-ids                           the walk that goes on
-use Prim.Native.Nat.{ℕ}
+use Prim.Native.Nat.{ℕ, _≤_}
 use mathlib.Core.Path.{_≡_, refl, sym, ap, _∙_}
 use mathlib.Core.Bool.{Bool, true, false, cond}
 use mathlib.Core.Logic.{_⊎_, inl, inr}
@@ -22,6 +22,7 @@ use mathlib.Core.List.{
   Memᴰ·append-right,
   Memᴰ·cast,
 }
+use lib.ListN.{length}
 use Rattle.unicode.specs.White.{words}
 use Rattle.unicode.proofs.Utf8Laws.{by-test}
 use Rattle.names.specs.Numbers.{isIn}
@@ -30,7 +31,7 @@ use Rattle.track.specs.Track.{Bytes, Style}
 use Rattle.styles.specs.Reaches.{_∈_, parents, Reaches, parent, Distinct, empty, fresh, Exactly}
 use Rattle.styles.specs.Resolve.{Walked, start, meet, own, walk, answered, resolve}
 use Rattle.styles.specs.Queries.{others}
-use Rattle.styles.proofs.Members.{isIn-member, member-isIn, fresh-member}
+use Rattle.styles.proofs.Members.{isIn-member, member-isIn, fresh-member, no-longer}
 use Rattle.styles.proofs.Walks.{Walks, done, again, first, own-visited}
 use Rattle.styles.proofs.Equations.{walk-walks, walk-is}
 use Rattle.styles.proofs.Theorem.{resolve-answers}
@@ -90,8 +91,18 @@ both-exactly {P} {Q} l m p q = record {
     second : (a : Bytes) → a ∈ m → a ∈ (l ++ others l m)
     second a k = by-test (isIn a l) (λ e. Memᴰ·append-left (others l m) (isIn-member a l e)) (λ e. Memᴰ·append-right l (member-others l a m e k))
 
+-- not fewer than those of the second
+pub both-longer : (styles : List (Style Bytes)) (value second : Bytes)
+    → length (resolve styles second .ids) ≤ length (resolve styles value .ids ++ others (resolve styles value .ids) (resolve styles second .ids))
+both-longer styles value second =
+    let l = resolve styles value .ids in
+    let m = resolve styles second .ids in
+    let e = both-exactly l m (resolve-answers styles value .ids-reached) (resolve-answers styles second .ids-reached) in
+    no-longer m (l ++ others l m) (resolve-answers styles second .ids-reached .once)
+    (λ a k. e .all a (inr (resolve-answers styles second .ids-reached .only a k)))
+
 -- ---- the walk that goes on
-module _ (styles : List Style) (r : List Bytes) (closed : (a b : Bytes) → a ∈ r → b ∈ parents styles a → b ∈ r) where
+module _ (styles : List (Style Bytes)) (r : List Bytes) (closed : (a b : Bytes) → a ∈ r → b ∈ parents styles a → b ∈ r) where
   -- v is at the ids r and what w has visited besides
   abbrev Beside : Walked → Walked → Type 0
   Beside w v = v .visited ≡ r ++ others r (w .visited)
@@ -153,7 +164,7 @@ module _ (styles : List Style) (r : List Bytes) (closed : (a b : Bytes) → a �
           (g (own styles a u) (own-visited styles a u ∙ own-beside a m u (f (meet a v) (met-unknown a w v h p))))
 
 -- the ids of a value, then what a second value reaches besides
-pub both-ids : (styles : List Style) (value second : Bytes) (w : Walked) → w .visited ≡ resolve styles value .ids
+pub both-ids : (styles : List (Style Bytes)) (value second : Bytes) (w : Walked) → w .visited ≡ resolve styles value .ids
     → walk styles (words second) w .visited ≡ resolve styles value .ids ++ others (resolve styles value .ids) (resolve styles second .ids)
 unfolding resolve answered start others
 both-ids styles value second w e =

@@ -23,11 +23,11 @@ use Rattle.styles.specs.Resolve.{Walked, meet, own, IsWalk, each, visitA
 use Rattle.styles.proofs.Members.{isIn-member, member-isIn}
 use Rattle.styles.proofs.Walks.{Walks, done, again, first, own-visited, grows}
 
-unfoldable pub left : List Style → List Bytes → ℕ
+unfoldable pub left : List (Style Bytes) → List Bytes → ℕ
 left [] v = 0
 left (x ∷ l) v = cond (isIn (x .name) v) (left l v) (suc (left l v))
 
-pub left-all : (l : List Style) (v : List Bytes) → left l v ≤ length l
+pub left-all : (l : List (Style Bytes)) (v : List Bytes) → left l v ≤ length l
 unfolding left
 left-all [] v = omega arith
 left-all (x ∷ l) v = by-test (isIn (x .name) v) (λ e. rw e (omega (arith, left-all l v))) (λ e. rw e (omega (arith, left-all l v)))
@@ -37,7 +37,7 @@ module _ (v w : List Bytes) (h : (a : Bytes) → a ∈ v → a ∈ w) where
   still : (a : Bytes) → isIn a v ≡ true → isIn a w ≡ true
   still a e = member-isIn a w (h a (isIn-member a v e))
 
-  pub left-less : (l : List Style) → left l w ≤ left l v
+  pub left-less : (l : List (Style Bytes)) → left l w ≤ left l v
   unfolding left
   left-less [] = omega arith
   left-less (x ∷ l) =
@@ -46,7 +46,7 @@ module _ (v w : List Bytes) (h : (a : Bytes) → a ∈ v → a ∈ w) where
 
 -- an id is visited that was not: it has no chain, or a style less is left
 module _ (a : Bytes) (v : List Bytes) (new : isIn a v ≡ false) where
-  abbrev chained : Style → Bool
+  abbrev chained : Style Bytes → Bool
   chained x = isSome (x .chain) && sameBytes (x .name) a
 
   more : (b : Bytes) → b ∈ v → b ∈ (v ++ (a ∷ []))
@@ -55,7 +55,7 @@ module _ (a : Bytes) (v : List Bytes) (new : isIn a v ≡ false) where
   in-more : isIn a (v ++ (a ∷ [])) ≡ true
   in-more = member-isIn a (v ++ (a ∷ [])) (Memᴰ·append-right v (List·Memᴰ·head refl))
 
-  left-falls : (l : List Style) → (firstThat chained l ≡ none) ⊎ (left l (v ++ (a ∷ [])) < left l v)
+  left-falls : (l : List (Style Bytes)) → (firstThat chained l ≡ none) ⊎ (left l (v ++ (a ∷ [])) < left l v)
   unfolding left firstThat
   left-falls [] = inl refl
   left-falls (x ∷ l) =
@@ -72,11 +72,11 @@ module _ (a : Bytes) (v : List Bytes) (new : isIn a v ≡ false) where
           inr (by-test (isIn (x .name) v) (λ f. rw (f, still v (v ++ (a ∷ [])) more (x .name) f) q)
           (λ f. by-test (isIn (x .name) (v ++ (a ∷ []))) (λ g. rw (f, g) (omega arith)) (λ g. rw (f, g) (omega arith))))
 
-  pub parents-or-less : (l : List Style) → (parents l a ≡ []) ⊎ (left l (v ++ (a ∷ [])) < left l v)
+  pub parents-or-less : (l : List (Style Bytes)) → (parents l a ≡ []) ⊎ (left l (v ++ (a ∷ [])) < left l v)
   unfolding parents findChain
   parents-or-less l = elim (left-falls l) [ inl q ↦ inl (rw q) | inr q ↦ inr q ]
 
-module _ (styles : List Style) where
+module _ (styles : List (Style Bytes)) where
   abbrev pub leftIn : Walked → ℕ
   leftIn w = left styles (w .visited)
 

@@ -20,20 +20,20 @@ use Rattle.colors.specs.declared.read.Rgba.{Rgba}
 use Rattle.colors.specs.Named.{rgba, namedIn}
 use Rattle.decimals.specs.declared.size.Size.{Size}
 use Rattle.track.specs.declared.values.Align.{Align}
-use Rattle.track.specs.Track.{Bytes, Extra, Style, Region, Cue, Track}
+use Rattle.track.specs.Track.{Bytes, Look, Extra, Style, Region, Cue, Track}
 use Rattle.track.specs.Track as abstract
-use Rattle.styles.specs.Values.{Values, valuesOf, blank, overlay, unstyled}
-use Rattle.styles.specs.Resolve.{Resolved, resolve}
+use Rattle.styles.specs.Values.{blank, overlay, unstyled}
+use Rattle.styles.specs.Resolve.{Resolution, resolve}
 use Rattle.styles.specs.Own.{Read, is, ascii}
 use Rattle.styles.specs.Queries.{regionStyle, effectiveStyle}
 
 data Mark : Type 0 where
   red blue lime bold italic underline strike center end left : Mark
 
-marked : Option Rgba → (bold italic underline strike : Bool) → Align → Values
+marked : Option Rgba → (bold italic underline strike : Bool) → Align → Look Bytes
 marked c b i u s a = record { color = c; back = none; family = none; size = none; bold = b; italic = i; underline = u; strike = s; align = a }
 
-mark : Mark → Values
+mark : Mark → Look Bytes
 unfolding marked
 mark red = marked (some (rgba 255 0 0 255)) false false false false Align.Start
 mark blue = marked (some (rgba 0 0 255 255)) false false false false Align.Start
@@ -46,7 +46,7 @@ mark center = marked none false false false false Align.Center
 mark end = marked none false false false false Align.End
 mark left = marked none false false false false Align.Left
 
-all : List Mark → Values
+all : List Mark → Look Bytes
 unfolding mark overlay blank
 all [] = blank
 all (m ∷ l) = overlay (mark m) (all l)
@@ -54,32 +54,17 @@ all (m ∷ l) = overlay (mark m) (all l)
 optional : String → Option Bytes
 optional s = cond (eqb (length (ascii s)) 0) none (some (ascii s))
 
-style : String → String → List Mark → Style
+style : String → String → List Mark → Style Bytes
 unfolding all optional
-style name chain l =
-    let v = all l in
-    record {
-      name = ascii name;
-      chain = optional chain;
-      color = v .color;
-      back = v .back;
-      family = v .family;
-      size = v .size;
-      bold = v .bold;
-      italic = v .italic;
-      underline = v .underline;
-      strike = v .strike;
-      align = v .align;
-      extras = [];
-    }
+style name chain l = record { name = ascii name; chain = optional chain; look = all l; extras = [] }
 
-extra : ℕ → String → Extra
+extra : ℕ → String → Extra Bytes
 extra n v = record { number = n; value = ascii v }
 
-region : String → List Extra → Region
+region : String → List (Extra Bytes) → Region Bytes
 region id l = record { id = ascii id; extras = l }
 
-cue : String → String → Cue
+cue : String → String → Cue Bytes
 unfolding optional
 cue g s = record {
   start = pos 0;
@@ -91,25 +76,25 @@ cue g s = record {
   segments = abstract.done;
 }
 
-track : List Style → List Region → List Cue → Track
+track : List (Style Bytes) → List (Region Bytes) → List (Cue Bytes) → Track Bytes
 track s g c = record { lang = none; params = []; styles = s; regions = g; cues = c }
 
-noStyle : List String → Resolved
+noStyle : List String → Resolution
 noStyle ids = record { style = none; ids = map ascii ids }
 
-styledAs : List Mark → List String → Resolved
+styledAs : List Mark → List String → Resolution
 unfolding all
 styledAs l ids = record { style = some (all l); ids = map ascii ids }
 
 -- what the definition gives, and the Rust's answer
 record Case : Type 0 where
-  given : Read Resolved
-  expected : Read Resolved
+  given : Read Resolution
+  expected : Read Resolution
 
-query : Read Resolved → Resolved → Case
+query : Read Resolution → Resolution → Case
 query r e = record { given = r; expected = is e }
 
-case : Resolved → Resolved → Case
+case : Resolution → Resolution → Case
 case r e = record { given = is r; expected = is e }
 
 cases : List Case
@@ -161,6 +146,6 @@ cases =
     ∷ []
 
 as-the-rust : map (λ (c : Case). c .given) cases ≡ map (λ (c : Case). c .expected) cases
-unfolding cases resolve regionStyle effectiveStyle unstyled isIn findStyle findChain findRegion sameBytes valuesOf words loop go whiteAt sequenceAt
+unfolding cases resolve regionStyle effectiveStyle unstyled isIn findStyle findChain findRegion sameBytes words loop go whiteAt sequenceAt
     isWhite charAt trimmed whiteBefore sameFolded colorIn startsAt namedIn
 as-the-rust = refl

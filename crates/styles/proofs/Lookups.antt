@@ -1,5 +1,5 @@
 -- What the lookups in the tables give the walk. Assumes nothing.
---     values-over                    an overlay of what the program holds means the overlay
+--     look-over                    an overlay of what the program holds means the overlay
 --     chain-row, chain-none          the parents of an id, where a row with a chain is found, and where none is
 --     own-row, own-none              the same of its own style
 use Prim.Native.Nat.{ℕ, _+_, _*_, _≤_, _<_}
@@ -20,17 +20,17 @@ use Rattle.decimals.proofs.Tests.{both}
 use Rattle.track.specs.declared.strings.Span.{Span}
 use Rattle.track.specs.Track.{Bytes, Style}
 use Rattle.track.specs.Tables.{Tables, cell, rowsFrom, lookAt, styleAt}
-use Rattle.track.specs.Meaning.{bytesAt, given, styleIn}
+use Rattle.track.specs.Meaning.{bytesAt, given, lookIn, styleIn}
 use Rattle.records.specs.declared.find.Found.{Found}
 use Rattle.records.specs.Find.{isNamed, firstRow, firstWith, chainFrom, foundIn}
 use Rattle.records.proofs.Finding.{named, namedWith}
 use Rattle.records.proofs.FoundRows.{First, row-first, with-first, style-found, chain-found}
-use Rattle.styles.specs.declared.values.Styling.{Styling}
+use Rattle.track.specs.declared.values.Look.{Look}
 use Rattle.styles.specs.declared.apply.Walk.{Walk}
 use Rattle.styles.specs.Reaches.{chainWords, parents}
-use Rattle.styles.specs.Values.{Values, valuesOf, orElse, overlay}
+use Rattle.styles.specs.Values.{orElse, overlay}
 use Rattle.styles.specs.Resolve.{Walked, applied, own}
-use Rattle.styles.specs.Cells.{valuesIn, stylingOf, lookOver, overlaid}
+use Rattle.styles.specs.Cells.{overlaid}
 use Rattle.styles.specs.Steps.{bare, stylesIn, stateIn}
 
 -- ---- overlays
@@ -43,19 +43,21 @@ family-over : (z : List ℕ) (b c : Bool) (x y : Span) → given (c || b) (bytes
 family-over z b true x y = refl
 family-over z b false x y = refl
 
-pub values-over : (z : List ℕ) (x y : Styling) → valuesIn z (overlaid x y) ≡ overlay (valuesIn z x) (valuesIn z y)
-unfolding valuesIn overlaid overlay
-values-over z x y =
-    let a = x .look in
-    let b = y .look in
+pub look-over : (z : List ℕ) (x y : Look) → lookIn z (overlaid x y) ≡ overlay (lookIn z x) (lookIn z y)
+unfolding lookIn overlaid overlay
+look-over z x y =
     rw (
-      given-over (a .«has_color») (b .«has_color») (a .color) (b .color),
-      given-over (a .«has_back») (b .«has_back») (a .back) (b .back),
-      family-over z (a .«has_family») (b .«has_family») (a .family) (b .family),
-      given-over (a .«has_size») (b .«has_size») (a .size) (b .size),
+      given-over (x .«has_color») (y .«has_color») (x .color) (y .color),
+      given-over (x .«has_back») (y .«has_back») (x .back) (y .back),
+      family-over z (x .«has_family») (y .«has_family») (x .family) (y .family),
+      given-over (x .«has_size») (y .«has_size») (x .size) (y .size),
     )
 
 -- ---- lookups
+pub no-words : words [] ≡ []
+unfolding words
+no-words = wordsFrom-none [] 0 [] (whiteEnd-low [] 0)
+
 module _ (s : List ℕ) (f : List Float) (e z : List ℕ) (n : ℕ) (name : Bytes) where
   abbrev tables : Tables
   tables = bare s f e z
@@ -79,27 +81,23 @@ module _ (s : List ℕ) (f : List Float) (e z : List ℕ) (n : ℕ) (name : Byte
     unfolding parents
     chain-row = rw (chain-found tables name n, h, some-chain i has-chain)
 
-  no-words : words [] ≡ []
-  unfolding words
-  no-words = wordsFrom-none [] 0 [] (whiteEnd-low [] 0)
-
   pub chain-none : firstWith s z name 27 3 n 0 ≡ Found.Nothing → parents (stylesIn s f e z n) name ≡ words (stringAt z 0 0)
   unfolding parents stringAt
   chain-none h = rw (chain-found tables name n, h) (sym no-words)
 
-  -- a row's values
-  row-values : (i : ℕ) → valuesOf (styleIn tables i) ≡ valuesIn z (stylingOf (styleAt s f i))
-  unfolding valuesOf styleIn styleAt valuesIn
-  row-values i = refl
+  -- what a row says
+  row-look : (i : ℕ) → styleIn tables i .look ≡ lookIn z (styleAt s f i .look)
+  unfolding styleIn styleAt lookIn
+  row-look i = refl
 
   module _ (i : ℕ) (h : firstRow s z name 27 n 0 ≡ Found.Row i) where
     pub own-row-within : i < n
     own-row-within = omega (arith, row-first s z name 27 n i h .within)
 
-    pub own-row : (x t : List ℕ) (w r : Walk) → r .count ≡ w .count → r .found ≡ true → r .values ≡ overlaid (w .values) (stylingOf (styleAt s f i))
+    pub own-row : (x t : List ℕ) (w r : Walk) → r .count ≡ w .count → r .found ≡ true → r .look ≡ overlaid (w .look) (styleAt s f i .look)
         → stateIn x z t r ≡ own (stylesIn s f e z n) name (stateIn x z t w)
     unfolding own
-    own-row x t w r a b c = rw (style-found tables name n, h, row-values i, a, b, c, values-over z (w .values) (stylingOf (styleAt s f i)))
+    own-row x t w r a b c = rw (style-found tables name n, h, row-look i, a, b, c, look-over z (w .look) (styleAt s f i .look))
 
   pub own-none : firstRow s z name 27 n 0 ≡ Found.Nothing → (w : Walked) → w ≡ own (stylesIn s f e z n) name w
   unfolding own

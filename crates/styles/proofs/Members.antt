@@ -78,7 +78,7 @@ module _ {A : Type 0} where
           rest y (List·Memᴰ·head d) = inr (List·Memᴰ·head d)
           rest y (List·Memᴰ·tail k) = pass (o .others y k)
 
-  no-longer : (l r : List A) → Distinct l → ((x : A) → x ∈ l → x ∈ r) → length l ≤ length r
+  pub no-longer : (l r : List A) → Distinct l → ((x : A) → x ∈ l → x ∈ r) → length l ≤ length r
   no-longer [] r d h = omega arith
   no-longer (a ∷ l) r (fresh g d) h = go (without (h a (List·Memᴰ·head refl))) (no-longer l)
     where

@@ -6,10 +6,11 @@ use mathlib.Core.List.{List}
 use mathlib.Core.Option.{Option, none, some}
 use Rattle.track.specs.declared.values.Align.{Align}
 use Rattle.track.specs.Layout.{isSome}
-use Rattle.track.specs.Meaning.{given}
-use Rattle.styles.specs.declared.values.Styling.{Styling}
-use Rattle.styles.specs.Values.{Values, blank, orElse, alignOver, overlay, unstyled}
-use Rattle.styles.specs.Cells.{valuesIn, isPlain}
+use Rattle.track.specs.Meaning.{given, lookIn}
+use Rattle.track.specs.Track.{Bytes, Look}
+use Rattle.track.specs.declared.values.Look as values
+use Rattle.styles.specs.Values.{blank, orElse, alignOver, overlay, unstyled}
+use Rattle.styles.specs.Cells.{isPlain}
 
 pub blank-unstyled : unstyled blank ≡ true
 unfolding unstyled blank
@@ -30,7 +31,7 @@ above-false : (b : Bool) → (b || false) ≡ b
 above-false true = refl
 above-false false = refl
 
-pub over-blank : (x : Values) → overlay blank x ≡ x
+pub over-blank : (x : Look Bytes) → overlay blank x ≡ x
 unfolding overlay blank
 over-blank x =
     rw (
@@ -50,14 +51,12 @@ given-some true x = refl
 given-some false x = refl
 
 -- what the program tests is what is meant
-pub plain-unstyled : (z : List ℕ) (x : Styling) → isPlain x ≡ unstyled (valuesIn z x)
-unfolding isPlain unstyled valuesIn
+pub plain-unstyled : (z : List ℕ) (x : values.Look) → isPlain x ≡ unstyled (lookIn z x)
+unfolding isPlain unstyled lookIn
 plain-unstyled z x =
-    let l = x .look in
     rw (
-      given-some (l .«has_family») _,
-      given-some (l .«has_size») (l .size),
-      given-some (l .«has_color») (l .color),
-      given-some (l .«has_back») (l
-          .back),
+      given-some (x .«has_family») _,
+      given-some (x .«has_size») (x .size),
+      given-some (x .«has_color») (x .color),
+      given-some (x .«has_back») (x .back),
     )

@@ -7,16 +7,15 @@ use mathlib.Core.Option.{Option, none, some}
 use mathlib.Core.List.{List, [], List·Memᴰ·not-nil}
 use Rattle.decimals.proofs.Tests.{no}
 use Rattle.unicode.specs.White.{words}
-use Rattle.track.specs.Track.{Bytes, Style}
+use Rattle.track.specs.Track.{Bytes, Look, Style}
 use Rattle.records.specs.Find.{findStyle}
 use Rattle.styles.specs.Reaches.{_∈_, parents, Reaches, named, parent, Distinct, empty, Exactly}
-use Rattle.styles.specs.Values.{Values}
-use Rattle.styles.specs.Resolve.{Walked, start, walk, Resolved, answered, resolve, Answers}
+use Rattle.styles.specs.Resolve.{Walked, start, walk, Resolution, answered, resolve, Answers}
 use Rattle.styles.proofs.Members.{same-count}
 use Rattle.styles.proofs.Walks.{Walks, takes, keeps-distinct, stays-within, closes, Missed, misses, finds-none}
 use Rattle.styles.proofs.Equations.{walk-walks}
 
-module _ (styles : List Style) (value : Bytes) where
+module _ (styles : List (Style Bytes)) (value : Bytes) where
   end : Walked
   end = walk styles (words value) start
 
@@ -45,10 +44,10 @@ module _ (styles : List Style) (value : Bytes) where
   }
 
   -- ---- styles
-  is-none : (b : Bool) (x : Values) → cond b (some x) none ≡ none → b ≡ false
+  is-none : (b : Bool) (x : Look Bytes) → cond b (some x) none ≡ none → b ≡ false
   is-none true x e = absurd (not-none x e)
     where
-      not-none : (x : Values) → some x ≡ none → ⊥
+      not-none : (x : Look Bytes) → some x ≡ none → ⊥
       not-none x e = let z : _≡_ {A = Bool} true false = cc in no z
   is-none false x e = refl
 
@@ -64,5 +63,5 @@ module _ (styles : List Style) (value : Bytes) where
   resolve-answers = record {
     ids-reached = visited-exactly;
     count = λ others e. same-count (end .visited) others visited-exactly e;
-    no-style = (λ h. unnamed (is-none (end .found) (end .values) h), λ h. rw (unfound h));
+    no-style = (λ h. unnamed (is-none (end .found) (end .look) h), λ h. rw (unfound h));
   }

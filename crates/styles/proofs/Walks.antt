@@ -31,14 +31,14 @@ use Rattle.styles.specs.Reaches.{_∈_, parents, Distinct}
 use Rattle.styles.specs.Resolve.{Walked, meet, applied, own}
 use Rattle.styles.proofs.Members.{isIn-member, fresh-member, distinct-last}
 
-module _ (styles : List Style) where
+module _ (styles : List (Style Bytes)) where
   pub data Walks : List Bytes → Walked → Walked → Type 0 where
     done : {w r : Walked} → r ≡ w → Walks [] w r
     again : {a : Bytes} {ids : List Bytes} {w r : Walked} → isIn a (w .visited) ≡ true → Walks ids w r → Walks (a ∷ ids) w r
     first : {a : Bytes} {ids : List Bytes} {w m r : Walked} → isIn a (w .visited) ≡ false
         → Walks (parents styles a) (meet a w) m → Walks ids (own styles a m) r → Walks (a ∷ ids) w r
 
-  applied-visited : (w : Walked) (x : Option Style) → applied w x .visited ≡ w .visited
+  applied-visited : (w : Walked) (x : Option (Style Bytes)) → applied w x .visited ≡ w .visited
   applied-visited w none = refl
   applied-visited w (some x) = refl
 
@@ -124,7 +124,7 @@ module _ (styles : List Style) where
   Unnamed a = findStyle a styles ≡ none
 
   -- only an id without a style adds none
-  applied-none : (w : Walked) (x : Option Style) → applied w x .found ≡ false → (x ≡ none) × (w .found ≡ false)
+  applied-none : (w : Walked) (x : Option (Style Bytes)) → applied w x .found ≡ false → (x ≡ none) × (w .found ≡ false)
   applied-none w none h = (refl, h)
   applied-none w (some x) h = no h
 

@@ -22,9 +22,8 @@ use Rattle.decimals.specs.Size.{sizeOf}
 use Rattle.names.specs.declared.tables.Listed.{Listed}
 use Rattle.names.specs.Lists.{nameOf}
 use Rattle.track.specs.declared.values.Align.{Align}
-use Rattle.track.specs.Track.{Bytes, Extra}
+use Rattle.track.specs.Track.{Bytes, Look, Extra}
 use Rattle.records.specs.Find.{firstThat}
-use Rattle.styles.specs.Values.{Values}
 
 -- an answer, or document 01's number of what refuses it
 pub data Read (A : Type 0) : Type 0 where
@@ -40,14 +39,14 @@ ascii string.[] = []
 ascii (string._∷_ c s) = code c ∷ ascii s
 
 -- ---- the value of the first kept attribute of this name
-abbrev pub valueFrom : Option Extra → Option Bytes
+abbrev pub valueFrom : Option (Extra Bytes) → Option Bytes
 valueFrom none = none
 valueFrom (some x) = some (x .value)
 
-abbrev pub isNamed : String → Extra → Bool
+abbrev pub isNamed : String → Extra Bytes → Bool
 isNamed name x = sameBytes (nameOf Listed.RegionAttr (x .number)) (ascii name)
 
-unfoldable pub valueOf : String → List Extra → Option Bytes
+unfoldable pub valueOf : String → List (Extra Bytes) → Option Bytes
 unfolding firstThat
 valueOf name extras = valueFrom (firstThat (isNamed name) extras)
 
@@ -90,7 +89,7 @@ alignIn (some v) =
     (cond (sameFolded w (ascii "right")) Align.Right Align.Start)))
 
 -- colour, background and size are read in this order: the first that is refused is the answer
-unfoldable pub ownValues : List Extra → Read Values
+unfoldable pub ownValues : List (Extra Bytes) → Read (Look Bytes)
 unfolding valueOf
 ownValues e =
     next (colorOf (valueOf "tts:color" e)) λ color.

@@ -5,38 +5,38 @@ use mathlib.Core.Bool.{Bool, true, false, cond}
 use mathlib.Core.List.{List, [], _∷_, _++_}
 use mathlib.Core.Option.{Option, none, some}
 use Rattle.names.specs.Numbers.{isIn}
-use Rattle.track.specs.Track.{Bytes, Style, Region, Cue, Track}
+use Rattle.track.specs.Track.{Bytes, Look, Style, Region, Cue, Track}
 use Rattle.records.specs.Find.{findRegion}
-use Rattle.styles.specs.Values.{Values, unstyled, laidOver}
-use Rattle.styles.specs.Resolve.{Resolved, resolve}
+use Rattle.styles.specs.Values.{unstyled, laidOver}
+use Rattle.styles.specs.Resolve.{Resolution, resolve}
 use Rattle.styles.specs.Own.{Read, is, refused, next, valueOf, ownValues}
 
 -- ---- a value that may be absent
-unfoldable pub nothing : Resolved
+unfoldable pub nothing : Resolution
 nothing = record { style = none; ids = [] }
 
-abbrev pub resolveOptional : List Style → Option Bytes → Resolved
+abbrev pub resolveOptional : List (Style Bytes) → Option Bytes → Resolution
 resolveOptional styles none = nothing
 resolveOptional styles (some v) = resolve styles v
 
 -- the Rust's `resolve_referenced_style`
-abbrev pub referencedStyle : Track → Bytes → Resolved
+abbrev pub referencedStyle : Track Bytes → Bytes → Resolution
 referencedStyle t value = resolve (t .styles) value
 
 -- ---- a region: its chain, and over it what it says itself
-abbrev pub styled : Values → Option Values
+abbrev pub styled : Look Bytes → Option (Look Bytes)
 styled x = cond (unstyled x) none (some x)
 
-abbrev pub withOwn : Resolved → Values → Resolved
+abbrev pub withOwn : Resolution → Look Bytes → Resolution
 withOwn r x = record { style = laidOver (r .style) (styled x); ids = r .ids }
 
-abbrev pub regionFound : List Style → Option Region → Read Resolved
+abbrev pub regionFound : List (Style Bytes) → Option (Region Bytes) → Read Resolution
 regionFound styles none = is nothing
 regionFound styles (some g) =
     next (ownValues (g .extras)) λ own. is (withOwn (resolveOptional styles (valueOf "style" (g .extras))) own)
 
 -- the Rust's `region_style`
-unfoldable pub regionStyle : Track → Bytes → Read Resolved
+unfoldable pub regionStyle : Track Bytes → Bytes → Read Resolution
 unfolding nothing resolve ownValues valueOf
 regionStyle t id = regionFound (t .styles) (findRegion id (t .regions))
 
@@ -45,14 +45,14 @@ unfoldable pub others : List Bytes → List Bytes → List Bytes
 others l [] = []
 others l (a ∷ ids) = cond (isIn a l) (others l ids) (a ∷ others l ids)
 
-abbrev pub both : Resolved → Resolved → Resolved
+abbrev pub both : Resolution → Resolution → Resolution
 both r s = record { style = laidOver (r .style) (s .style); ids = r .ids ++ others (r .ids) (s .ids) }
 
-abbrev pub regionOptional : Track → Option Bytes → Read Resolved
+abbrev pub regionOptional : Track Bytes → Option Bytes → Read Resolution
 regionOptional t none = is nothing
 regionOptional t (some id) = regionStyle t id
 
-abbrev pub cueFound : Track → Option Cue → Read Resolved
+abbrev pub cueFound : Track Bytes → Option (Cue Bytes) → Read Resolution
 cueFound t none = is nothing
 cueFound t (some c) = next (regionOptional t (c .region)) λ r. is (both r (resolveOptional (t .styles) (c .style)))
 
@@ -62,6 +62,6 @@ nth (x ∷ l) zero = some x
 nth (x ∷ l) (suc i) = nth l i
 
 -- the Rust's `effective_style_for_cue_index`: "A cue index past the end gives no style."
-unfoldable pub effectiveStyle : Track → ℕ → Read Resolved
+unfoldable pub effectiveStyle : Track Bytes → ℕ → Read Resolution
 unfolding nothing resolve regionStyle others nth
 effectiveStyle t i = cueFound t (nth (t .cues) i)

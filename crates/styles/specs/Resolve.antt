@@ -9,32 +9,32 @@ use mathlib.Core.Option.{Option, none, some}
 use lib.ListN.{length}
 use Rattle.unicode.specs.White.{words}
 use Rattle.names.specs.Numbers.{isIn}
-use Rattle.track.specs.Track.{Bytes, Style}
+use Rattle.track.specs.Track.{Bytes, Look, Style}
 use Rattle.records.specs.Find.{findStyle}
 use Rattle.styles.specs.Reaches.{parents, Reaches, Exactly}
-use Rattle.styles.specs.Values.{Values, valuesOf, blank, overlay}
+use Rattle.styles.specs.Values.{blank, overlay}
 
 -- What is known on the way: the ids visited, in the order of their first visit; whether a style was met; the styles met so far, each laid
 -- over those before it.
 pub record Walked : Type 0 where
   pub visited : List Bytes
   pub found : Bool
-  pub values : Values
+  pub look : Look Bytes
 
 unfoldable pub start : Walked
 unfolding blank
-start = record { visited = []; found = false; values = blank }
+start = record { visited = []; found = false; look = blank }
 
 -- an id is visited for the first time
 unfoldable pub meet : Bytes → Walked → Walked
-meet a w = record { visited = w .visited ++ (a ∷ []); found = w .found; values = w .values }
+meet a w = record { visited = w .visited ++ (a ∷ []); found = w .found; look = w .look }
 
 -- a style is applied
-abbrev pub applied : Walked → Option Style → Walked
+abbrev pub applied : Walked → Option (Style Bytes) → Walked
 applied w none = w
-applied w (some x) = record { visited = w .visited; found = true; values = overlay (w .values) (valuesOf x) }
+applied w (some x) = record { visited = w .visited; found = true; look = overlay (w .look) (x .look) }
 
-module _ (styles : List Style) where
+module _ (styles : List (Style Bytes)) where
   -- the style of this name itself, the first of equal names
   unfoldable pub own : Bytes → Walked → Walked
   own a w = applied w (findStyle a styles)
@@ -66,21 +66,21 @@ module _ (styles : List Style) where
   walk ids w = each (visitBy (suc (length styles))) ids w
 
 -- the answer to a query: a style or none, and the ids reached
-pub record Resolved : Type 0 where
-  pub style : Option Values
+pub record Resolution : Type 0 where
+  pub style : Option (Look Bytes)
   pub ids : List Bytes
 
-unfoldable pub answered : Walked → Resolved
-answered w = record { style = cond (w .found) (some (w .values)) none; ids = w .visited }
+unfoldable pub answered : Walked → Resolution
+answered w = record { style = cond (w .found) (some (w .look)) none; ids = w .visited }
 
 -- the Rust's `resolve_referenced_style`
-unfoldable pub resolve : List Style → Bytes → Resolved
+unfoldable pub resolve : List (Style Bytes) → Bytes → Resolution
 unfolding walk start answered
 resolve styles value = answered (walk styles (words value) start)
 
 -- what document 01 says of every answer: "gives no style exactly if no id reachable through chains names one. Added: the ids reached, each
 -- once, … and their count, equal to the number of distinct ids reachable"
-pub record Answers (styles : List Style) (value : Bytes) (r : Resolved) : Type 0 where
+pub record Answers (styles : List (Style Bytes)) (value : Bytes) (r : Resolution) : Type 0 where
   pub ids-reached : Exactly (Reaches styles value) (r .ids)
   pub count : (others : List Bytes) → Exactly (Reaches styles value) others → length (r .ids) ≡ length others
   pub no-style : (r .style ≡ none) ↔ ((a : Bytes) → Reaches styles value a → findStyle a styles ≡ none)

@@ -2,25 +2,27 @@
 --     x is the query's text, s the styles' table, f the sizes, e the extras, z the strings, n the number of styles, t the rows of ids
 use Prim.Native.Nat.{ℕ, _+_, _*_, _≤_, _<_}
 use mathlib.Core.Path.{_≡_}
-use mathlib.Core.Bool.{true, cond}
+use mathlib.Core.Bool.{Bool, true, cond}
 use mathlib.Core.Logic.{_⊎_}
-use mathlib.Core.List.{List, []}
+use mathlib.Core.List.{List, [], _++_}
 use mathlib.Core.Option.{Option, none, some}
 use lib.ListN.{length, getD}
 use lib.Ieee.{Float}
 use Rattle.scan.specs.Part.{stringAt}
 use Rattle.unicode.specs.White.{words}
 use Rattle.track.specs.declared.strings.Span.{Span}
-use Rattle.track.specs.Track.{Bytes, Style}
+use Rattle.track.specs.declared.values.Look as values
+use Rattle.track.specs.Track.{Bytes, Look, Style}
 use Rattle.track.specs.Tables.{Tables, rowsFrom}
-use Rattle.track.specs.Meaning.{isColor, styleIn}
+use Rattle.track.specs.Meaning.{isColor, given, lookIn, styleIn}
 use Rattle.records.specs.Find.{Named}
 use Rattle.styles.specs.declared.apply.Walk.{Walk}
 use Rattle.styles.specs.declared.apply.Applied.{Applied}
 use Rattle.styles.specs.Reaches.{parents}
-use Rattle.styles.specs.Values.{Values}
-use Rattle.styles.specs.Resolve.{Walked, own, walk, resolve}
-use Rattle.styles.specs.Cells.{valuesIn}
+use Rattle.styles.specs.Values.{laidOver}
+use Rattle.styles.specs.Resolve.{Walked, Resolution, own, walk, resolve}
+use Rattle.styles.specs.Queries.{others, both, withOwn}
+use Rattle.styles.specs.Cells.{Tidy}
 use Rattle.styles.specs.Ids.{sourceOf, idsIn, RowWithin, Held}
 
 -- ---- what the tables mean
@@ -41,12 +43,12 @@ bare s f e z = record {
 }
 
 -- the track's styles; whatever their extras
-abbrev pub stylesIn : List ℕ → List Float → List ℕ → List ℕ → ℕ → List Style
+abbrev pub stylesIn : List ℕ → List Float → List ℕ → List ℕ → ℕ → List (Style Bytes)
 stylesIn s f e z n = rowsFrom (styleIn (bare s f e z)) n 0
 
 -- what is known on the way
 abbrev pub stateIn : (x z t : List ℕ) → Walk → Walked
-stateIn x z t w = record { visited = idsIn x z t (w .count); found = w .found; values = valuesIn z (w .values) }
+stateIn x z t w = record { visited = idsIn x z t (w .count); found = w .found; look = lookIn z (w .look) }
 
 -- ---- what is asked
 pub record Chained (s z : List ℕ) (n : ℕ) : Type 0 where
@@ -75,6 +77,7 @@ pub record ChainOf (s z : List ℕ) (n : ℕ) (name : Bytes) (r : Span) : Type 0
 
 pub record OwnStyle (s : List ℕ) (f : List Float) (z : List ℕ) (n : ℕ) (name : Bytes) (w r : Walk) : Type 0 where
   pub count : r .count ≡ w .count
+  pub tidy : Tidy (w .look) → Tidy (r .look)
   pub is : (e x t : List ℕ) → stateIn x z t r ≡ own (stylesIn s f e z n) name (stateIn x z t w)
 
 -- rows were added, and all stand as they should; those behind them are as they were
@@ -91,6 +94,7 @@ Over t ids = (length t < length ids * 4) ⊎ (65536 < length ids)
 module _ (x s : List ℕ) (f : List Float) (z : List ℕ) (n : ℕ) (ids : List Bytes) (t t′ heads : List ℕ) (w : Walk) where
   pub record Applies (r : Walk) : Type 0 where
     pub grown : Grown x z t t′ heads (w .count) (r .count)
+    pub tidy : Tidy (w .look) → Tidy (r .look)
     pub is : (e : List ℕ) → walk (stylesIn s f e z n) ids (stateIn x z t w) ≡ stateIn x z t′ r
 
   pub record Overflows : Type 0 where
@@ -101,21 +105,63 @@ module _ (x s : List ℕ) (f : List Float) (z : List ℕ) (n : ℕ) (ids : List 
   ApplyPost (Applied.Done r) = Applies r
   ApplyPost Applied.Full = Overflows
 
--- ---- a value resolved: it equals the definition, and every cell is known
-abbrev pub styleOf : List ℕ → Walk → Option Values
-styleOf z r = cond (r .found) (some (valuesIn z (r .values))) none
+-- ---- answers
+abbrev pub styleOf : List ℕ → Walk → Option (Look Bytes)
+styleOf z r = cond (r .found) (some (lookIn z (r .look))) none
 
-module _ (x s : List ℕ) (f : List Float) (z : List ℕ) (n : ℕ) (t t′ : List ℕ) where
-  pub record Resolves (r : Walk) : Type 0 where
-    pub style : (e : List ℕ) → styleOf z r ≡ resolve (stylesIn s f e z n) x .style
-    pub ids : (e : List ℕ) → idsIn x z t′ (r .count) ≡ resolve (stylesIn s f e z n) x .ids
+-- n ids stand in t, and nothing else: each within its source, and marked by nothing
+pub record Stood (x z t : List ℕ) (n : ℕ) : Type 0 where
+  pub fits : n * 4 ≤ length t
+  pub few : n ≤ 65536
+  pub rows : (i : ℕ) → i < n → RowWithin x z t i
+  pub marks : (i : ℕ) → i < n → getD t (i * 4 + 3) 0 ≡ 0
+
+-- what is laid over an answer
+pub record LaysOver (below : Walk) (has : Bool) (above : values.Look) (r : Walk) : Type 0 where
+  pub count : r .count ≡ below .count
+  pub is : (z : List ℕ) → styleOf z r ≡ laidOver (styleOf z below) (given has (lookIn z above))
+  pub tidy : Tidy (below .look) → Tidy above → Tidy (r .look)
+
+-- two values, the second from where the first ended: the style of the first, and the ids of both in the order of their first visits
+module _ (x s : List ℕ) (f : List Float) (z : List ℕ) (n : ℕ) (first second : Bytes) (t t′ : List ℕ) where
+  abbrev pub idsOfBoth : List ℕ → List Bytes
+  idsOfBoth e =
+      let a = resolve (stylesIn s f e z n) first .ids in
+      a ++ others a (resolve (stylesIn s f e z n) second .ids)
+
+  pub record Pairs (r : Walk) : Type 0 where
+    pub style : (e : List ℕ) → styleOf z r ≡ resolve (stylesIn s f e z n) first .style
+    pub ids : (e : List ℕ) → idsIn x z t′ (r .count) ≡ idsOfBoth e
+    pub tidy : Tidy (r .look)
     pub kept : length t′ ≡ length t
-    pub fits : r .count * 4 ≤ length t
-    pub few : r .count ≤ 65536
-    pub rows : (i : ℕ) → i < r .count → RowWithin x z t′ i
-    pub marks : (i : ℕ) → i < r .count → getD t′ (i * 4 + 3) 0 ≡ 0
+    pub stood : Stood x z t′ (r .count)
     pub behind : (k : ℕ) → r .count * 4 ≤ k → getD t′ k 0 ≡ getD t k 0
 
-  abbrev pub ResolvePost : Applied → Type 0
-  ResolvePost (Applied.Done r) = Resolves r
-  ResolvePost Applied.Full = (e : List ℕ) → Over t (resolve (stylesIn s f e z n) x .ids)
+  pub record PairsOver : Type 0 where
+    pub kept : length t′ ≡ length t
+    pub over : (e : List ℕ) → Over t (idsOfBoth e)
+
+  abbrev pub PairPost : Applied → Type 0
+  PairPost (Applied.Done r) = Pairs r
+  PairPost Applied.Full = PairsOver
+
+  -- a value, over it a look, and over that the second value: it equals the definition, and every cell is known
+  module _ (look : values.Look) where
+    abbrev pub answerOf : List ℕ → Resolution
+    answerOf e = both (withOwn (resolve (stylesIn s f e z n) first) (lookIn z look)) (resolve (stylesIn s f e z n) second)
+
+    pub record Answered (r : Walk) : Type 0 where
+      pub style : (e : List ℕ) → styleOf z r ≡ answerOf e .style
+      pub ids : (e : List ℕ) → idsIn x z t′ (r .count) ≡ answerOf e .ids
+      pub tidy : Tidy look → Tidy (r .look)
+      pub kept : length t′ ≡ length t
+      pub stood : Stood x z t′ (r .count)
+      pub behind : (k : ℕ) → r .count * 4 ≤ k → getD t′ k 0 ≡ 0
+
+    pub record AnswerOver : Type 0 where
+      pub kept : length t′ ≡ length t
+      pub over : (e : List ℕ) → Over t (answerOf e .ids)
+
+    abbrev pub AnswerPost : Applied → Type 0
+    AnswerPost (Applied.Done r) = Answered r
+    AnswerPost Applied.Full = AnswerOver

@@ -1,14 +1,13 @@
 // The resolution of a style value: each id once, its parents before itself.
 ghost use mathlib.Core.Path.{_≡_};
 ghost use mathlib.Core.List.{[], _∷_};
-ghost use Prim.Native.Nat.{_+_, _≤_};
-ghost use lib.ListN.{length};
 ghost use Rattle.scan.specs.Part.{stringAt};
 ghost use Rattle.unicode.specs.White.{words};
+ghost use Rattle.track.specs.Meaning.{bytesAt};
 ghost use Rattle.styles.specs.Ids.{Held};
-ghost use Rattle.styles.specs.Steps.{Chained, Ready, Stands, ChainOf, OwnStyle, ApplyPost, ResolvePost};
-use crate::values::Styling;
+ghost use Rattle.styles.specs.Steps.{Chained, Ready, Stands, ChainOf, OwnStyle, ApplyPost, LaysOver, PairPost, AnswerPost};
 use records::Found;
+use track::Look;
 use track::Span;
 use unicode::Word;
 
@@ -17,7 +16,7 @@ use unicode::Word;
 pub struct Walk {
     pub count: usize,
     pub found: bool,
-    pub values: Styling,
+    pub look: Look,
 }
 
 // More ids than there are rows for is Full (number 18).
@@ -47,13 +46,14 @@ fn own_style(styles: &[u32], sizes: &[f32], strings: &[u8], n: usize, name: &[u8
 {
     match records::find_style(styles, strings, n, name) {
         Found::Row(i) => {
-            let above = crate::values::styling_at(styles, sizes, i);
-            let below = w.values;
-            let values = crate::values::overlay(below, above);
+            let style = records::style_at(styles, sizes, i);
+            let above = style.look;
+            let below = w.look;
+            let look = crate::values::overlay_style(below, above);
             Walk {
                 count: w.count,
                 found: true,
-                values,
+                look,
             }
         }
         Found::Nothing => w,
@@ -94,11 +94,11 @@ fn apply_style_ref(
         return Applied::Full;
     }
     crate::ids::add_id(ids, heads, count, h, source, at, len);
-    let values = w.values;
+    let look = w.look;
     let mut s = Walk {
         count: count + 1,
         found: w.found,
-        values,
+        look,
     };
     let chain = chain_of(styles, strings, n, &own[at..end]);
     let from = chain.place;
@@ -141,7 +141,7 @@ fn apply_style_ref(
 
 // The ids of a value, one after the other: `len` bytes of `own` (as above) from a place on. What was
 // visited before stays visited.
-pub fn apply_refs(
+fn apply_refs(
     text: &[u8],
     styles: &[u32],
     sizes: &[f32],
@@ -197,25 +197,31 @@ pub fn apply_refs(
     }
 }
 
-// The Rust's `resolve_referenced_style`, the value being the query's text.
-pub fn resolve(
+// Two values, the second from where the first ended: the style of the first, and the ids of both. The
+// first stands in `own` (as above), the second in the track's strings.
+fn resolve_pair(
     text: &[u8],
     styles: &[u32],
     sizes: &[f32],
     strings: &[u8],
     n: usize,
+    own: &[u8],
+    source: u32,
+    first: Span,
+    second: Span,
     ids: &mut [u32],
 ) -> Applied
-    requires { ⌜ Ready (now styles) (now sizes) (now strings) n × (length (now text) ≤ 65536) ⌝ }
-    ensures { λ r. ⌜ ResolvePost (now (text .entry)) (now (styles .entry)) (now (sizes .entry)) (now (strings .entry)) n
-        (now (ids .entry)) (now (ids .exit)) r ⌝ }
+    requires { ⌜ Ready (now styles) (now sizes) (now strings) n × Stands (now text) (now strings) (now own) source (first .place) (first .len)
+        × Stands (now text) (now strings) (now strings) 1 (second .place) (second .len) ⌝ }
+    ensures { λ r. ⌜ PairPost (now (text .entry)) (now (styles .entry)) (now (sizes .entry)) (now (strings .entry)) n
+        (bytesAt (now (own .entry)) first) (bytesAt (now (strings .entry)) second) (now (ids .entry)) (now (ids .exit)) r ⌝ }
 {
     let mut heads = [0u32; 4096];
-    let values = crate::values::blank();
+    let look = crate::values::blank();
     let w = Walk {
         count: 0,
         found: false,
-        values,
+        look,
     };
     match apply_refs(
         text,
@@ -223,18 +229,103 @@ pub fn resolve(
         sizes,
         strings,
         n,
-        text,
-        0,
-        0,
-        text.len(),
+        own,
+        source,
+        first.place,
+        first.len,
         ids,
         &mut heads,
         w,
     ) {
         Applied::Full => Applied::Full,
-        Applied::Done(r) => {
-            crate::ids::clear_links(ids, r.count);
-            Applied::Done(r)
+        Applied::Done(a) => match apply_refs(
+            text,
+            styles,
+            sizes,
+            strings,
+            n,
+            strings,
+            1,
+            second.place,
+            second.len,
+            ids,
+            &mut heads,
+            a,
+        ) {
+            Applied::Full => Applied::Full,
+            Applied::Done(b) => {
+                crate::ids::clear_links(ids, b.count);
+                let look = a.look;
+                Applied::Done(Walk {
+                    count: b.count,
+                    found: a.found,
+                    look,
+                })
+            }
+        },
+    }
+}
+
+// A look over an answer, where there is one.
+fn lay_over(below: Walk, has: bool, above: Look) -> Walk
+    ensures { λ r. ⌜ LaysOver below has above r ⌝ }
+{
+    if !has {
+        return below;
+    }
+    let count = below.count;
+    if !below.found {
+        return Walk {
+            count,
+            found: true,
+            look: above,
+        };
+    }
+    let lower = below.look;
+    let look = crate::values::overlay_style(lower, above);
+    Walk {
+        count,
+        found: true,
+        look,
+    }
+}
+
+// A value (as above), over its style a look, and over that the style of a second value. Each value is resolved
+// with ids of its own; the ids of both are given, each once.
+pub fn resolve_over(
+    text: &[u8],
+    styles: &[u32],
+    sizes: &[f32],
+    strings: &[u8],
+    n: usize,
+    own: &[u8],
+    source: u32,
+    first: Span,
+    look: Look,
+    second: Span,
+    ids: &mut [u32],
+) -> Applied
+    requires { ⌜ Ready (now styles) (now sizes) (now strings) n × Stands (now text) (now strings) (now own) source (first .place) (first .len)
+        × Stands (now text) (now strings) (now strings) 1 (second .place) (second .len) ⌝ }
+    ensures { λ r. ⌜ AnswerPost (now (text .entry)) (now (styles .entry)) (now (sizes .entry)) (now (strings .entry)) n
+        (bytesAt (now (own .entry)) first) (bytesAt (now (strings .entry)) second) (now (ids .entry)) (now (ids .exit)) look r ⌝ }
+{
+    let none = Span { place: 0, len: 0 };
+    match resolve_pair(text, styles, sizes, strings, n, strings, 1, second, none, ids) {
+        Applied::Full => Applied::Full,
+        Applied::Done(b) => {
+            scan::clear(ids);
+            match resolve_pair(
+                text, styles, sizes, strings, n, own, source, first, second, ids,
+            ) {
+                Applied::Full => Applied::Full,
+                Applied::Done(a) => {
+                    let has = !crate::values::style_is_unstyled(look);
+                    let below = lay_over(a, has, look);
+                    let above = b.look;
+                    Applied::Done(lay_over(below, b.found, above))
+                }
+            }
         }
     }
 }

@@ -1,27 +1,13 @@
-// The values of a style, and how one style is laid over another.
+// What a style says, and how one style is laid over another.
 ghost use mathlib.Core.Path.{_≡_};
-ghost use mathlib.Core.Bool.{true, cond, _||_};
-ghost use Prim.Native.Nat.{_+_, _*_, _≤_};
-ghost use lib.ListN.{length};
-ghost use Rattle.track.specs.Tables.{styleAt};
-ghost use Rattle.track.specs.Meaning.{isColor};
+ghost use mathlib.Core.Bool.{cond, _||_};
 ghost use Rattle.styles.specs.Values.{alignOver, isStart};
-ghost use Rattle.styles.specs.Cells.{lookOver, overlaid, blankStyling, isPlain, stylingOf};
+ghost use Rattle.styles.specs.Cells.{overlaid, blankLook, isPlain};
 use colors::Rgba;
 use decimals::Size;
 use track::Align;
 use track::Look;
 use track::Span;
-
-// What a style says. A part that may be absent has a flag in `look`.
-pub struct Styling {
-    pub look: Look,
-    pub bold: bool,
-    pub italic: bool,
-    pub underline: bool,
-    pub strike: bool,
-    pub align: Align,
-}
 
 // One of the two holds.
 fn either(a: bool, b: bool) -> bool
@@ -72,13 +58,17 @@ fn is_start(x: Align) -> bool
     }
 }
 
-fn look_over(below: Look, above: Look) -> Look
-    ensures { λ r. ⌜ r ≡ lookOver below above ⌝ }
+// The Rust's `overlay_style`.
+pub fn overlay_style(below: Look, above: Look) -> Look
+    ensures { λ r. ⌜ r ≡ overlaid below above ⌝ }
 {
     let color = color_over(below.color, above.has_color, above.color);
     let back = color_over(below.back, above.has_back, above.back);
     let family = span_over(below.family, above.has_family, above.family);
     let size = size_over(below.size, above.has_size, above.size);
+    let lower = below.align;
+    let upper = above.align;
+    let align = align_over(lower, upper);
     Look {
         has_color: either(above.has_color, below.has_color),
         color,
@@ -88,19 +78,6 @@ fn look_over(below: Look, above: Look) -> Look
         family,
         has_size: either(above.has_size, below.has_size),
         size,
-    }
-}
-
-// The Rust's `overlay_style`.
-pub fn overlay(below: Styling, above: Styling) -> Styling
-    ensures { λ r. ⌜ r ≡ overlaid below above ⌝ }
-{
-    let look = look_over(below.look, above.look);
-    let lower = below.align;
-    let upper = above.align;
-    let align = align_over(lower, upper);
-    Styling {
-        look,
         bold: either(above.bold, below.bold),
         italic: either(above.italic, below.italic),
         underline: either(above.underline, below.underline),
@@ -109,9 +86,9 @@ pub fn overlay(below: Styling, above: Styling) -> Styling
     }
 }
 
-// A style that says nothing.
-pub fn blank() -> Styling
-    ensures { λ r. ⌜ r ≡ blankStyling ⌝ }
+// A style that says nothing (the Rust's `SubtitleStyle::new`).
+pub fn blank() -> Look
+    ensures { λ r. ⌜ r ≡ blankLook ⌝ }
 {
     let none = Rgba {
         r: 0,
@@ -126,7 +103,7 @@ pub fn blank() -> Styling
         digits: 0,
         scale: 0,
     };
-    let look = Look {
+    Look {
         has_color: false,
         color: none,
         has_back: false,
@@ -135,9 +112,6 @@ pub fn blank() -> Styling
         family,
         has_size: false,
         size,
-    };
-    Styling {
-        look,
         bold: false,
         italic: false,
         underline: false,
@@ -147,21 +121,20 @@ pub fn blank() -> Styling
 }
 
 // The Rust's `style_is_unstyled`.
-pub fn is_unstyled(x: Styling) -> bool
+pub fn style_is_unstyled(x: Look) -> bool
     ensures { λ r. ⌜ r ≡ isPlain x ⌝ }
 {
-    let look = x.look;
     let align = x.align;
-    if look.has_family {
+    if x.has_family {
         return false;
     }
-    if look.has_size {
+    if x.has_size {
         return false;
     }
-    if look.has_color {
+    if x.has_color {
         return false;
     }
-    if look.has_back {
+    if x.has_back {
         return false;
     }
     if x.bold {
@@ -177,23 +150,4 @@ pub fn is_unstyled(x: Styling) -> bool
         return false;
     }
     is_start(align)
-}
-
-// What the style in a row says.
-pub fn styling_at(styles: &[u32], sizes: &[f32], i: usize) -> Styling
-    requires { ⌜ (i * 27 + 27 ≤ length (now styles)) × (16384 + i + 1 ≤ length (now sizes))
-        × (isColor (now styles) (i * 27 + 4) ≡ true) × (isColor (now styles) (i * 27 + 9) ≡ true) ⌝ }
-    ensures { λ r. ⌜ r ≡ stylingOf (styleAt (now (styles .entry)) (now (sizes .entry)) i) ⌝ }
-{
-    let x = records::style_at(styles, sizes, i);
-    let look = x.look;
-    let align = x.align;
-    Styling {
-        look,
-        bold: x.bold,
-        italic: x.italic,
-        underline: x.underline,
-        strike: x.strike,
-        align,
-    }
 }

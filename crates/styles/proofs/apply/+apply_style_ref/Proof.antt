@@ -374,7 +374,8 @@ apply-style-ref-returns-4 t c =
           .ensures .1;
     } in
     applied-first _ _ _ _ _ _ _ _ _ _ _ _ entry _ _ _ _ (c .before .before .before .before .before .before .before .before .chain-of .ensures) _ _
-    _ _ (c .before .before .before .before .before .before .loop .inv .grown) (along-done _ _ _ _ _ _ _ _ _ _ _ _ (c .before .before .before
+    _ _ (c .before .before .before .before .before .before .loop .inv .grown)
+    (c .before .before .before .before .before .before .loop .inv .tidy) (along-done _ _ _ _ _ _ _ _ _ _ _ _ (c .before .before .before
     .before .before .before .loop .inv) (rw (c .before .before .enum-told .given .1) at (c .before .before .before .before .next-word
     .ensures))) (c .own-style .ensures)
 

@@ -53,6 +53,7 @@ returns : tie.Need-returns Inv-loop μ-loop
 unfolding stringAt
 returns c = record {
   grown = c .before .before .before .before .loop .inv .grown;
+  tidy = c .before .before .before .before .loop .inv .tidy;
   is = along-done _ _ _ _ _ _ _ _ _ _ _ _ (c .before .before
       .before .before .loop .inv) (rw (c .enum-told .given .1) at (c .before .before .next-word .ensures));
 }

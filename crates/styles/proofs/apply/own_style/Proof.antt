@@ -3,6 +3,7 @@ use mathlib.Core.Path.{_≡_, refl, sym, _∙_}
 use mathlib.Core.List.{[]}
 use native.Mathlib.Omega.{arith}
 use Rattle.styles.proofs.Lookups.{own-row-within, own-row, own-none}
+use Rattle.styles.proofs.Tidying.{tidy-over, tidy-style}
 use borrow.Author.Needs.{needs}
 use Rattle.styles.proofs.apply.own_style.Statement.{statement}
 use Rattle.styles.proofs.apply.own_style.Tie as tie
@@ -13,29 +14,35 @@ find-style-requires c κs = search needs
 enum-known-i : tie.Need-enum-known-i
 enum-known-i c = search needs
 
-styling-at-requires : tie.Need-styling-at-requires
-styling-at-requires c κs =
-    let l = own-row-within _ [] [] _ _ _ _ (sym (c .before .before .before .find-style .ensures) ∙ c .before .i .given .1) in
-    let p = c .before .before .before .before .before .before .before .before .pre in
+style-at-requires : tie.Need-style-at-requires
+style-at-requires c κs =
+    let m = c .before .before .before in
+    let l = own-row-within _ [] [] _ _ _ _ (sym (m .find-style .ensures) ∙ c .before .i .given .1) in
+    let p = m .before .before .before .before .before .pre in
     (omega (arith, l, p .chained .named .rows), omega (arith, l, p .sizes), p .color _ l, p .back _ l)
 
-overlay-requires : tie.Need-overlay-requires
-overlay-requires c κs = search needs
+overlay-style-requires : tie.Need-overlay-style-requires
+overlay-style-requires c κs = search needs
 
 enum-told : tie.Need-enum-told
 enum-told c = search needs
 
 returns : tie.Need-returns
 returns c =
-    let h = sym (c .before .before .before .before .before .before .find-style .ensures) ∙ c .before .before .before .before .i .given .1 in
+    let k = c .before .before .before in
+    let i = k .before .before in
+    let m = i .before .before in
+    let a = m .before .before .before .before .before .args in
+    let h = sym (m .find-style .ensures) ∙ i .i .given .1 in
     record {
       count = refl;
-      is = λ e x t. own-row _ _ e _ _ _ _ h x t (c .before .before .before .before .before .before .before .before .before
-          .before .before .args .w) _ refl refl (c .overlay .ensures ∙ rw (c .before .before .styling-at .ensures));
+      tidy = λ d. rw (c .overlay-style .ensures, k .style-at .ensures) (tidy-over _ _ d (tidy-style _ _ _));
+      is = λ e x t. own-row _ _ e _ _ _ _ h x t (a .w) _ refl refl (c .overlay-style .ensures ∙ rw (k .style-at .ensures));
     }
 
 returns-2 : tie.Need-returns-2
-returns-2 c = record { count = refl; is = λ e x t. own-none _ _ e _ _ _ (sym (c .before .before .find-style .ensures) ∙ c .enum-told .given .1) _ }
+returns-2 c =
+    record { count = refl; tidy = λ d. d; is = λ e x t. own-none _ _ e _ _ _ (sym (c .before .before .find-style .ensures) ∙ c .enum-told .given .1) _ }
 
 pub own-style-spec : {M : Type 1} → statement M
 own-style-spec =
@@ -43,8 +50,8 @@ own-style-spec =
     (tie.spec
     find-style-requires
     enum-known-i
-    styling-at-requires
-    overlay-requires
+    style-at-requires
+    overlay-style-requires
     enum-told
     returns
     returns-2)

@@ -1,8 +1,8 @@
--- `is_unstyled` meets its contract: each test that is met decides it. Assumes nothing.
+-- `style_is_unstyled` meets its contract: each test that is met decides it. Assumes nothing.
 use Rattle.styles.specs.Cells.{isPlain}
 use borrow.Author.Needs.{needs}
-use Rattle.styles.proofs.values.is_unstyled.Statement.{statement}
-use Rattle.styles.proofs.values.is_unstyled.Tie as tie
+use Rattle.styles.proofs.values.style_is_unstyled.Statement.{statement}
+use Rattle.styles.proofs.values.style_is_unstyled.Tie as tie
 
 returns : tie.Need-returns
 unfolding isPlain
@@ -89,8 +89,8 @@ returns-9 c = rw (
       .left,
 )
 
-pub is-unstyled-spec : {M : Type 1} → statement M
-is-unstyled-spec =
+pub style-is-unstyled-spec : {M : Type 1} → statement M
+style-is-unstyled-spec =
     tie.close
     (tie.spec
     returns
