@@ -1,0 +1,91 @@
+-- What `write` and `cue_to_bytes` promise, in the words of document 01: of the tables and the bytes that are lent, what is left in these, and
+-- the answer. Definitions alone. Nothing here says how the program writes.
+use Prim.Native.Nat.{ℕ, zero, suc, _-_}
+use mathlib.Core.Path.{_≡_}
+use mathlib.Core.Bool.{Bool, cond, _&&_}
+use mathlib.Core.List.{List, [], _∷_, _++_}
+use mathlib.Core.Option.{Option, none, some}
+use lib.ListN.{length, replicate}
+use lib.Dec.{leb}
+use Rattle.track.specs.Track.{Bytes, Cue, Track}
+use Rattle.track.specs.Tables.{Tables}
+use Rattle.track.specs.Meaning.{trackIn}
+use Rattle.track.specs.Check.{isFull}
+use Rattle.written.specs.Written.{writtenOf, cueWritten}
+use Rattle.writer.specs.declared.calls.Answer.{Answer}
+
+-- ---- the answer
+-- "An answer has number and byte place (0 if none is named, or if a track was handed)": a text has no number, here 0
+unfoldable pub numberOf : Answer → ℕ
+numberOf (Answer.Bytes n) = 0
+numberOf (Answer.Refused r) = r .number
+
+unfoldable pub placeOf : Answer → ℕ
+placeOf (Answer.Bytes n) = 0
+placeOf (Answer.Refused r) = r .place
+
+-- how many bytes are written
+unfoldable pub bytesOf : Answer → Option ℕ
+bytesOf (Answer.Bytes n) = some n
+bytesOf (Answer.Refused r) = none
+
+-- ---- what is asked for
+-- the whole track; or one of its cues by itself: "a cue index past the end" has none
+abbrev pub wholeText : Track Bytes → Option Bytes
+wholeText t = some (writtenOf t)
+
+unfoldable pub cueNumbered : ℕ → List (Cue Bytes) → Option Bytes
+unfolding cueWritten
+cueNumbered i [] = none
+cueNumbered zero (x ∷ l) = some (cueWritten x)
+cueNumbered (suc i) (x ∷ l) = cueNumbered i l
+
+abbrev pub cueNumber : ℕ → Track Bytes → Option Bytes
+cueNumber i t = cueNumbered i (t .cues)
+
+-- ---- what comes of it: the text, or a number that is met
+pub data Outcome : Type 0 where
+  gives : Bytes → Outcome
+  meets : (number : ℕ) → Outcome
+
+-- "18. Output exceeds the lent length or 65,536."
+unfoldable pub fits : ℕ → Bytes → Bool
+fits lent w = leb (length w) lent && leb (length w) 65536
+
+unfoldable pub ofText : ℕ → Option Bytes → Outcome
+unfolding fits
+ofText lent none = meets 17
+ofText lent (some w) = cond (fits lent w) (gives w) (meets 18)
+
+-- 17: what is handed is no track
+unfoldable pub ofTrack : (Track Bytes → Option Bytes) → ℕ → Option (Track Bytes) → Outcome
+unfolding ofText
+ofTrack text lent none = meets 17
+ofTrack text lent (some t) = ofText lent (text t)
+
+-- "1. A lent table is shorter than its fixed length." "for a handed track 17 comes after […]; 18 is last"
+unfoldable pub outcomeOf : (Track Bytes → Option Bytes) → Tables → ℕ → Outcome
+unfolding isFull trackIn ofTrack
+outcomeOf text T lent = cond (isFull T) (ofTrack text lent (trackIn T)) (meets 1)
+
+unfoldable pub numberIn : Outcome → ℕ
+numberIn (gives w) = 0
+numberIn (meets n) = n
+
+unfoldable pub countIn : Outcome → Option ℕ
+countIn (gives w) = some (length w)
+countIn (meets n) = none
+
+unfoldable pub textIn : Outcome → Bytes
+textIn (gives w) = w
+textIn (meets n) = []
+
+-- ---- the promise
+pub record Promise (outcome : Outcome) (lent : List ℕ) (answer : Answer) (left : List ℕ) : Type 0 where
+  -- "the number, the place"
+  pub number : numberOf answer ≡ numberIn outcome
+  pub place : placeOf answer ≡ 0
+  -- the text's length, where there is a text
+  pub count : bytesOf answer ≡ countIn outcome
+  -- "every cell of every table afterwards": the text; "unused cells are zero", after a refusal all of them
+  pub bytes : left ≡ textIn outcome ++ replicate (length lent - length (textIn outcome)) 0
