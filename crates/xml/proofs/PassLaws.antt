@@ -175,5 +175,12 @@ module _ (s u : List ℕ) where
         ≡ attrStringsRead s u z (k + 1)
     unfolding attrStringsRead attrWritten
     attr-strings-next k u′ z′ z″ e w x =
-        x ∙ rw (e, w, value-bytes-after k, attrs-after k (k * 4) (omega arith), attrs-after k (k * 4 + 1) (omega arith),
-            attrs-after k (k * 4 + 2) (omega arith), add-one k)
+        x ∙ rw (
+          e,
+          w,
+          value-bytes-after k,
+          attrs-after k (k * 4) (omega arith),
+          attrs-after k (k * 4 + 1) (omega arith),
+          attrs-after k (k * 4 + 2) (omega arith),
+          add-one k,
+        )

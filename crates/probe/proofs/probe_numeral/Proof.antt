@@ -24,8 +24,12 @@ returns-4 c =
     let c3 = c .before .before .before in
     let c6 = c3 .before .before .before in
     let h : length (c6 .args .out .now) ≤ 0 = omega arith in
-    numbered-none _ _ (rw (le-leb _ _ (c3 .if1 .left), le-leb _ _ (c .before .before .if2 .left), lt-ltb (c6 .args .max) (2 ^ 63) (omega arith),
-        le-ltb _ _ h))
+    numbered-none _ _ (rw (
+      le-leb _ _ (c3 .if1 .left),
+      le-leb _ _ (c .before .before .if2 .left),
+      lt-ltb (c6 .args .max) (2 ^ 63) (omega arith),
+      le-ltb _ _ h,
+    ))
 
 read-numeral-requires : tie.Need-read-numeral-requires
 read-numeral-requires c κs = search needs
@@ -42,8 +46,10 @@ returns-5 c =
     let c7 = c4 .before .before .before in
     let c8 = c7 .before in
     let c11 = c8 .before .before .before in
-    rw (asked-on (c11 .args .text .now) _ (c11 .args .max) _ (c11 .args .out .now) (c8 .if1 .left) (c7 .if2 .left) (omega arith) (omega arith),
-        ← (c4 .read-numeral .ensures)) (c .before .before .put-number .ensures)
+    rw (
+      asked-on (c11 .args .text .now) _ (c11 .args .max) _ (c11 .args .out .now) (c8 .if1 .left) (c7 .if2 .left) (omega arith) (omega arith),
+      ← (c4 .read-numeral .ensures),
+    ) (c .before .before .put-number .ensures)
 
 pub probe-numeral-spec : {M : Type 1} → statement M
 probe-numeral-spec =

@@ -34,7 +34,7 @@ returns-2 c =
     let c7 = c5 .before .before in
     let c8 = c7 .before in
     color-is _ _ _ _ _ (sym (c7 .parse-ttml-color-rgba .ensures) ∙ c5 .c .given .1) (le-leb _ _ (c8 .if1 .left))
-        (c .before .before .put-rgba .ensures)
+    (c .before .before .put-rgba .ensures)
 
 returns-3 : tie.Need-returns-3
 returns-3 c =

@@ -45,7 +45,7 @@ returns c =
     let c8 = c5 .before .before .before in
     let c10 = c8 .before .before in
     width-at _ _ _ _ (c4 .spell .last .0) (c4 .spell .result) _ (sym (c10 .read-decimal .ensures) ∙ c8 .d .given .1) (c5 .size-of .ensures)
-        (c .before .n .given .1) refl (c4 .spell .ensures)
+    (c .before .n .given .1) refl (c4 .spell .ensures)
 
 returns-2 : tie.Need-returns-2
 returns-2 c =
@@ -54,7 +54,7 @@ returns-2 c =
     let c7 = c4 .before .before .before in
     let c9 = c7 .before .before in
     width-full _ _ _ _ (c3 .spell .last .0) (c3 .spell .result) (sym (c9 .read-decimal .ensures) ∙ c7 .d .given .1) (c4 .size-of .ensures)
-        (c .enum-told .given .1) refl (c3 .spell .ensures)
+    (c .enum-told .given .1) refl (c3 .spell .ensures)
 
 returns-3 : tie.Need-returns-3
 returns-3 c = rw (sym (c .before .before .read-decimal .ensures) ∙ c .enum-told2 .given .1)

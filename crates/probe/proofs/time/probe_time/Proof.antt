@@ -40,7 +40,7 @@ returns-2 c =
     let c3 = c .before .before .before in
     let c4 = c3 .before in
     time-is _ _ _ _ _ (sym (c3 .parse-ttml-time .ensures) ∙ c .before .us .given .1) (a-cell _ (c4 .if1 .left))
-        (toZ-ofZ w64 _ (record { sfits = c .known-told .given .0 .1 }))
+    (toZ-ofZ w64 _ (record { sfits = c .known-told .given .0 .1 }))
 
 returns-3 : tie.Need-returns-3
 returns-3 c =
