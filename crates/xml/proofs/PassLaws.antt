@@ -20,8 +20,8 @@ use Rattle.scan.proofs.Stores.{sets-other}
 use Rattle.entities.specs.Decode.{decoded}
 use Rattle.entities.proofs.Decoding.{decoded-short}
 use Rattle.scan.specs.Part.{stringAt}
-use Rattle.xml.specs.Passes.{nodePlace, nodeBytes, nodesRead, nodeStringsRead, NodeReady, valueBytes, attrsRead, attrWritten}
-use Rattle.xml.specs.Passes.{attrStringsRead, AttrReady}
+use Rattle.xml.specs.Steps.{nodePlace, nodeBytes, nodesRead, nodeStringsRead, NodeReady, valueBytes, attrsRead, attrWritten}
+use Rattle.xml.specs.Steps.{attrStringsRead, AttrReady}
 
 -- ---- one row
 module _ (t : List ℕ) (k : ℕ) where

@@ -6,7 +6,7 @@ use native.Mathlib.Omega.{arith}
 use lib.ListN.{length, length-take, length-drop}
 use lib.Seq.{length-sets}
 use Rattle.scan.specs.Posts.{Appended}
-use Rattle.xml.specs.Passes.{nodePlace, nodeBytes}
+use Rattle.xml.specs.Steps.{nodePlace, nodeBytes}
 use Rattle.xml.proofs.PassLaws.{place-element, place-other, wrote-text, wrote-other, node-short}
 use borrow.Author.Needs.{needs}
 use Rattle.xml.proofs.strings.read_node.Statement.{statement}
