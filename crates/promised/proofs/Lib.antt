@@ -1,0 +1,6 @@
+pub mod Numbers
+pub mod Trees
+pub mod Promises
+pub mod Determined
+pub mod Meaning
+pub mod Theorem
