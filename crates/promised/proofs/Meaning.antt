@@ -5,8 +5,8 @@
 --     cue-means        the same of the single cue
 use Prim.Native.Nat.{ℕ}
 use mathlib.Core.Path.{_≡_, refl, sym, ap, _∙_}
-use mathlib.Core.List.{List, [], _∷_}
-use mathlib.Core.Option.{none, some}
+use mathlib.Core.List.{List}
+use mathlib.Core.Option.{some}
 use native.Mathlib.Omega.{arith}
 use lib.ListN.{length, replicate}
 use Rattle.entities.specs.Decode.{decoded}
@@ -17,7 +17,7 @@ use Rattle.tree.specs.Trees as placed
 use Rattle.derivation.specs.Strings.{treeIn}
 use Rattle.derivation.proofs.Theorem.{gives-exactly}
 use Rattle.track.specs.declared.check.Check.{Check}
-use Rattle.track.specs.Track.{Bytes, Cue, Track}
+use Rattle.track.specs.Track.{Cue, Track}
 use Rattle.track.specs.Layout.{each}
 use Rattle.track.specs.Tables.{lengths}
 use Rattle.track.specs.Check.{Checked}
@@ -35,7 +35,7 @@ use Rattle.meaning.specs.Texts.{nodesRead}
 use Rattle.meaning.proofs.Erasing.{bytesOf, nowhere, text-cue}
 use Rattle.meaning.proofs.Erasing as erasing
 use Rattle.laid.specs.Laid.{trackTables, whole, alone, single}
-use Rattle.laid.proofs.Meant.{Good, good-whole, good-single}
+use Rattle.laid.proofs.Meant.{Good}
 use Rattle.laid.proofs.Fitting.{text-accepted, text-track}
 use Rattle.promised.specs.declared.Answer as promised
 use Rattle.promised.specs.Promise.{Tables, treeTables, Takes, Promise}

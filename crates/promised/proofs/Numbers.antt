@@ -1,9 +1,9 @@
 -- A tree that means no track, or no cue, meets a number from 12 to 16. Assumes nothing.
 --     whole-numbers, single-numbers
-use Prim.Native.Nat.{ℕ, suc, _+_, _≤_}
+use Prim.Native.Nat.{ℕ, _+_, _≤_}
 use mathlib.Core.Path.{_≡_, refl}
 use mathlib.Core.Bool.{Bool, true, false, cond}
-use mathlib.Core.List.{List, [], _∷_}
+use mathlib.Core.List.{List, []}
 use mathlib.Core.Option.{Option, none, some}
 use native.Mathlib.Omega.{arith}
 use lib.ListN.{length}
@@ -20,7 +20,7 @@ use Rattle.colors.specs.declared.read.Color.{Color}
 use Rattle.colors.specs.Colors.{colorIn}
 use Rattle.decimals.specs.declared.read.Decimal.{Decimal}
 use Rattle.scan.specs.Names.{sameBytes, afterFirstColon}
-use Rattle.track.specs.Track.{Bytes, Segments, Cue, Track, segmentRows}
+use Rattle.track.specs.Track.{Bytes, Segments, Cue, segmentRows}
 use Rattle.track.specs.Track as track
 use Rattle.records.specs.Find.{firstThat}
 use Rattle.records.specs.Siblings.{joined}

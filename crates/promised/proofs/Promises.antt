@@ -4,7 +4,7 @@
 --     promise-away                        the tree reader refuses
 --     promise-none                        the tree's nodes mean a number
 --     promise-track                       the tree's nodes mean a track, and that is laid out
-use Prim.Native.Nat.{ℕ, _≤_, _<_}
+use Prim.Native.Nat.{ℕ, _<_}
 use mathlib.Core.Path.{_≡_, refl, sym, ap, subst, _∙_}
 use mathlib.Core.List.{List}
 use native.Mathlib.Omega.{arith}
@@ -26,7 +26,7 @@ use Rattle.meaning.specs.Nodes.{Nodes}
 use Rattle.meaning.specs.Kinds.{nodesIn}
 use Rattle.laid.specs.Laid.{trackTables}
 use Rattle.promised.specs.declared.Answer.{Answer}
-use Rattle.promised.specs.Promise.{numberOf, placeOf, Says, Tables, treeTables, LongEnough, zeros, AllZero, nodesOf, Takes, TurnsAway}
+use Rattle.promised.specs.Promise.{numberOf, placeOf, Tables, treeTables, LongEnough, zeros, AllZero, nodesOf, Takes, TurnsAway}
 use Rattle.promised.specs.Promise.{short-table, no-tree, no-track, Promise}
 use Rattle.promised.proofs.Numbers.{Numbered}
 use Rattle.promised.proofs.Trees as trees

@@ -3,7 +3,7 @@
 --     parsed-track, cue-track               what a taken text leaves passes `check_track`, and means what the text's tree means: no place is
 --                                           spoken of
 use Prim.Native.Nat.{ℕ}
-use mathlib.Core.Path.{_≡_, refl, sym, ap, _∙_}
+use mathlib.Core.Path.{_≡_, refl}
 use mathlib.Core.List.{List}
 use mathlib.Core.Option.{some}
 use Rattle.entities.specs.Decode.{decoded}

@@ -4,29 +4,28 @@
 --     nodes-same                 all derivations of a text give the same nodes
 --     strings-are, nodes-held    what its tables hold: the strings, and the nodes with their places
 --     means-of                   so the text means what these nodes mean
-use Prim.Native.Nat.{ℕ, _+_, _≤_, _<_}
+use Prim.Native.Nat.{ℕ, _≤_}
 use mathlib.Core.Path.{_≡_, refl, sym, ap, _∙_}
 use mathlib.Core.Logic.{_⊎_, inl, inr}
 use mathlib.Core.List.{List}
 use native.Mathlib.Omega.{arith}
 use lib.ListN.{length, replicate}
-use Rattle.unicode.specs.Utf8.{Utf8, utf8End}
 use Rattle.unicode.proofs.Utf8Laws.{utf8-end}
 use Rattle.grammar.specs.Tree.{Forest}
 use Rattle.grammar.specs.Limits as count
 use Rattle.grammar.proofs.Theorem.{no-two}
 use Rattle.tree.specs.Trees as placed
 use Rattle.tree.specs.Trees.{spans, InOrder}
-use Rattle.tree.specs.Read.{got, meaning, answerOf, nodesOf, attrCells}
+use Rattle.tree.specs.Read.{answerOf, nodesOf, attrCells}
 use Rattle.tree.specs.Posts.{Fits}
 use Rattle.tree.specs.declared.answers.Answer as tree
 use Rattle.tree.specs.declared.answers.Refusal.{Refusal}
 use Rattle.tree.proofs.Places.{meaning-placed}
 use Rattle.derivation.proofs.Theorem.{Gives, gives-exactly}
 use Rattle.track.specs.Track.{Track}
-use Rattle.xml.specs.Reading.{Placed, strings, lay, readForest, raw, readOut, stringsOf}
+use Rattle.xml.specs.Reading.{Placed, strings, lay, raw, readOut, stringsOf}
 use Rattle.xml.specs.Where.{documentPlaced}
-use Rattle.xml.specs.Promise.{numberOf, placeOf, Tables, tables, Readable, Takes, TurnsAway, placesOf, Parsed}
+use Rattle.xml.specs.Promise.{numberOf, placeOf, Tables, tables, Takes, TurnsAway, placesOf, Parsed}
 use Rattle.xml.proofs.Parsing.{raw-enough}
 use Rattle.xml.proofs.Derived.{placed-as-derived}
 use Rattle.xml.proofs.Lengths.{read-placed}
