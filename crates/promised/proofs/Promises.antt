@@ -1,20 +1,22 @@
 -- What the program's parts ensure meets the promise. Assumes nothing.
 --     taken-only, away-once, once         a text is taken with one track, or turned away with one number and place, and never both
+--     RestLong, RestZero, all-zero        what the program tests and clears beside the tree reader
 --     promise-short                       a table of the track is too short
 --     promise-away                        the tree reader refuses
 --     promise-none                        the tree's nodes mean a number
 --     promise-track                       the tree's nodes mean a track, and that is laid out
-use Prim.Native.Nat.{ℕ, _<_}
+use Prim.Native.Nat.{ℕ, _≤_, _<_}
 use mathlib.Core.Path.{_≡_, refl, sym, ap, subst, _∙_}
 use mathlib.Core.List.{List}
 use native.Mathlib.Omega.{arith}
-use lib.ListN.{length}
+use lib.ListN.{length, replicate}
+use lib.IntN.{pos}
 use Rattle.grammar.specs.Tree.{Forest}
 use Rattle.grammar.specs.Limits as count
 use Rattle.tree.specs.declared.answers.Answer as tree
 use Rattle.tree.specs.declared.answers.Refusal.{Refusal}
 use Rattle.track.specs.Track.{Track}
-use Rattle.track.specs.Tables.{lengths}
+use Rattle.track.specs.Tables.{Lengths, lengths, zeroFloat}
 use Rattle.track.specs.Tables as track
 use Rattle.xml.specs.Reading.{Placed}
 use Rattle.xml.specs.Promise as xml
@@ -49,6 +51,89 @@ refusal i p = Answer.Refused (record { number = i; place = p })
 
 refused≢track : {r : Refusal} → Answer.Refused r ≡ Answer.Track → ⊥
 refused≢track e = let w : _≡_ {A = ℕ} 0 1 = cc in omega arith
+
+-- ---- the tables of the track but for the strings, which the tree reader tests and clears
+
+-- they are long enough
+pub record RestLong (n : Lengths) : Type 0 where
+  pub head : 10 ≤ n .head
+  pub params : 256 ≤ n .params
+  pub styles : 6912 ≤ n .styles
+  pub regions : 1024 ≤ n .regions
+  pub cues : 22528 ≤ n .cues
+  pub times : 4096 ≤ n .times
+  pub segments : 131072 ≤ n .segments
+  pub reveal : 16384 ≤ n .reveal
+  pub sizes : 16640 ≤ n .sizes
+  pub extras : 24576 ≤ n .extras
+  pub texts : 65536 ≤ n .texts
+
+long-of : {n : Lengths} → RestLong n → 65536 ≤ n .strings → track.LongEnough n
+long-of r h = record {
+  head = r .head;
+  params = r .params;
+  styles = r .styles;
+  regions = r .regions;
+  cues = r .cues;
+  times = r .times;
+  segments = r .segments;
+  reveal = r .reveal;
+  sizes = r .sizes;
+  extras = r .extras;
+  strings = h;
+  texts = r .texts;
+}
+
+pub rest-of : {n : Lengths} → track.LongEnough n → RestLong n
+rest-of r = record {
+  head = r .head;
+  params = r .params;
+  styles = r .styles;
+  regions = r .regions;
+  cues = r .cues;
+  times = r .times;
+  segments = r .segments;
+  reveal = r .reveal;
+  sizes = r .sizes;
+  extras = r .extras;
+  texts = r .texts;
+}
+
+-- every cell is zero
+pub record RestZero (n : Lengths) (T : track.Tables) : Type 0 where
+  pub head : T .head ≡ replicate (n .head) 0
+  pub params : T .params ≡ replicate (n .params) 0
+  pub styles : T .styles ≡ replicate (n .styles) 0
+  pub regions : T .regions ≡ replicate (n .regions) 0
+  pub cues : T .cues ≡ replicate (n .cues) 0
+  pub times : T .times ≡ replicate (n .times) (pos 0)
+  pub segments : T .segments ≡ replicate (n .segments) 0
+  pub reveal : T .reveal ≡ replicate (n .reveal) (pos 0)
+  pub sizes : T .sizes ≡ replicate (n .sizes) zeroFloat
+  pub extras : T .extras ≡ replicate (n .extras) 0
+  pub texts : T .texts ≡ replicate (n .texts) 0
+
+zeros-of : {n : Lengths} {T : track.Tables} → RestZero n T → T .strings ≡ replicate (n .strings) 0 → T ≡ zeros n
+unfolding zeros
+zeros-of r z =
+    rw (
+      ← (r .head),
+      ← (r .params),
+      ← (r .styles),
+      ← (r .regions),
+      ← (r .cues),
+      ← (r .times),
+      ← (r .segments),
+      ← (r .reveal),
+      ← (r .sizes),
+      ← (r .extras),
+      ← z,
+      ← (r .texts),
+    )
+
+pub all-zero : {lent left : Tables} → xml.AllZero (treeTables lent) (treeTables left) → RestZero (lengths (lent .track)) (left .track)
+    → AllZero lent left
+all-zero z r = record { of-tree = z; of-track = zeros-of r (z .of-strings) }
 
 -- ---- the nodes that the tree reader left
 module _ {s : List ℕ} {lent left : xml.Tables} {r : tree.Answer} {i j : ℕ} (p : xml.Parsed s lent r left) (given : r ≡ tree.Answer.Tree i j) where
@@ -129,23 +214,26 @@ module _ (meant : Nodes Placed → meaning.Answer (Track Placed)) (numbers : (f 
       → Promise meant s lent answer left
   promise-short h = turned-away (short-table h)
 
-  module _ (long : track.LongEnough (lengths (lent .track))) where
+  module _ (rest : RestLong (lengths (lent .track))) where
+    all-long : xml.LongEnough tree-lent → LongEnough lent
+    all-long l = record { of-tree = l; of-track = long-of rest (l .of-strings) }
+
     lift : {i p : ℕ} → xml.TurnsAway s tree-lent i p → TurnsAway meant s lent i p
     lift (xml.short-table h) = short-table (λ l. h (l .of-tree))
-    lift (xml.long-text l h) = no-tree (record { of-tree = l; of-track = long }) (xml.long-text l h)
-    lift (xml.not-utf8 l h u v) = no-tree (record { of-tree = l; of-track = long }) (xml.not-utf8 l h u v)
-    lift (xml.first-met r e) = no-tree (record { of-tree = r .long-enough; of-track = long }) (xml.first-met r e)
+    lift (xml.long-text l h) = no-tree (all-long l) (xml.long-text l h)
+    lift (xml.not-utf8 l h u v) = no-tree (all-long l) (xml.not-utf8 l h u v)
+    lift (xml.first-met r e) = no-tree (all-long (r .long-enough)) (xml.first-met r e)
 
     pub promise-away : {answer : Answer} {left : Tables} {r : Refusal} → xml.Parsed s tree-lent (tree.Answer.Refused r) (treeTables left)
-        → answer ≡ Answer.Refused r → left .track ≡ zeros (lengths (lent .track)) → Promise meant s lent answer left
+        → answer ≡ Answer.Refused r → RestZero (lengths (lent .track)) (left .track) → Promise meant s lent answer left
     unfolding xml.numberOf
     promise-away {r = r} p e z =
         let a = trees.refused-away s tree-lent p in
-        turned-away (lift a) e (record { of-tree = p .cleared (away-some a); of-track = z })
+        turned-away (lift a) e (all-zero (p .cleared (away-some a)) z)
 
     module _ {r : tree.Answer} {i j : ℕ} (given : r ≡ tree.Answer.Tree i j) where
       tables-long : {mid : xml.Tables} → xml.Parsed s tree-lent r mid → LongEnough lent
-      tables-long p = record { of-tree = given-tree p given .takes .readable .long-enough; of-track = long }
+      tables-long p = all-long (given-tree p given .takes .readable .long-enough)
 
       pub promise-none : {answer : Answer} {left : Tables} {mid : xml.Tables} (p : xml.Parsed s tree-lent r mid) {n q : ℕ}
           → meant (nodesLeft p given) ≡ refused n q → answer ≡ refusal n q → AllZero lent left → Promise meant s lent answer left
