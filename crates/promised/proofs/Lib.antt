@@ -4,3 +4,5 @@ pub mod Promises
 pub mod Determined
 pub mod Meaning
 pub mod Theorem
+pub mod Cases
+pub mod Examples
