@@ -1,7 +1,6 @@
 -- Worked cases of the whole calls: whatever meets the promise answers so. Each from what the text means, computed in `meaning`.
-use Prim.Native.Nat.{ℕ}
 use mathlib.Core.Path.{_≡_, refl}
-use mathlib.Core.List.{List, [], _∷_}
+use mathlib.Core.List.{[], _∷_}
 use mathlib.Core.Option.{none, some}
 use native.Mathlib.Omega.{arith}
 use lib.IntN.{pos}

@@ -1,13 +1,14 @@
 -- What the program's parts ensure meets the promise. Assumes nothing.
 --     taken-only, away-once, once         a text is taken with one track, or turned away with one number and place, and never both
 --     RestLong, RestZero, all-zero        what the program tests and clears beside the tree reader
+--     RestLaid, laid-of                   the tables of the track one by one
 --     promise-short                       a table of the track is too short
 --     promise-away                        the tree reader refuses
 --     promise-none                        the tree's nodes mean a number
 --     promise-track                       the tree's nodes mean a track, and that is laid out
-use Prim.Native.Nat.{ℕ, _≤_, _<_}
+use Prim.Native.Nat.{ℕ, _-_, _≤_, _<_}
 use mathlib.Core.Path.{_≡_, refl, sym, ap, subst, _∙_}
-use mathlib.Core.List.{List}
+use mathlib.Core.List.{List, _++_}
 use native.Mathlib.Omega.{arith}
 use lib.ListN.{length, replicate}
 use lib.IntN.{pos}
@@ -26,7 +27,11 @@ use Rattle.meaning.specs.Answers.{is, refused}
 use Rattle.meaning.specs.Answers as meaning
 use Rattle.meaning.specs.Nodes.{Nodes}
 use Rattle.meaning.specs.Kinds.{nodesIn}
-use Rattle.laid.specs.Laid.{trackTables}
+use Rattle.track.specs.Layout.{each, filled, filledTimes, filledSizes, joinedCells, headCells, paramCells, styleCells, regionCells, cueCells}
+use Rattle.track.specs.Layout.{cueTimes, segmentCells, segmentTime, segmentSize, styleSize, allSegments, styleExtras, regionExtras, cueExtras}
+use Rattle.track.specs.Layout.{layout}
+use Rattle.track.specs.Layout as placing
+use Rattle.laid.specs.Laid.{laidOf, textsOf, trackTables}
 use Rattle.promised.specs.declared.Answer.{Answer}
 use Rattle.promised.specs.Promise.{numberOf, placeOf, Tables, treeTables, LongEnough, zeros, AllZero, nodesOf, Takes, TurnsAway}
 use Rattle.promised.specs.Promise.{short-table, no-tree, no-track, Promise}
@@ -134,6 +139,44 @@ zeros-of r z =
 pub all-zero : {lent left : Tables} → xml.AllZero (treeTables lent) (treeTables left) → RestZero (lengths (lent .track)) (left .track)
     → AllZero lent left
 all-zero z r = record { of-tree = z; of-track = zeros-of r (z .of-strings) }
+
+-- ---- the track laid out, table by table; the strings are the tree's
+module _ (n : Lengths) (m : ℕ) (t : Track Placed) where
+  abbrev k : placing.Placed
+  k = laidOf t
+
+  abbrev g : List placing.Sized
+  g = allSegments (k .cues)
+
+  pub record RestLaid (T : track.Tables) : Type 0 where
+    pub head : T .head ≡ filled (n .head) (headCells k m m)
+    pub params : T .params ≡ filled (n .params) (joinedCells paramCells (k .params))
+    pub styles : T .styles ≡ filled (n .styles) (joinedCells (λ x. styleCells (x .style)) (k .styles))
+    pub regions : T .regions ≡ filled (n .regions) (joinedCells (λ x. regionCells (x .region)) (k .regions))
+    pub cues : T .cues ≡ filled (n .cues) (joinedCells (λ x. cueCells (x .cue)) (k .cues))
+    pub times : T .times ≡ filledTimes (n .times) (cueTimes (k .cues))
+    pub segments : T .segments ≡ filled (n .segments) (joinedCells (λ x. segmentCells (x .segment) (x .rows)) g)
+    pub reveal : T .reveal ≡ filledTimes (n .reveal) (each (λ x. segmentTime (x .segment)) g)
+    pub sizes : T .sizes ≡ filledSizes 16384 (each (λ x. segmentSize (x .segment)) g) ++ filledSizes (n .sizes - 16384) (each styleSize (k .styles))
+    pub extras : T .extras ≡ cueExtras (regionExtras (styleExtras (replicate (n .extras) 0) (k .styles)) (k .regions)) (k .cues)
+    pub texts : T .texts ≡ textsOf (n .texts) t
+
+  pub laid-of : {T : track.Tables} → RestLaid T → T ≡ trackTables n (T .strings) m t
+  unfolding trackTables layout
+  laid-of r =
+      rw (
+        ← (r .head),
+        ← (r .params),
+        ← (r .styles),
+        ← (r .regions),
+        ← (r .cues),
+        ← (r .times),
+        ← (r .segments),
+        ← (r .reveal),
+        ← (r .sizes),
+        ← (r .extras),
+        ← (r .texts),
+      )
 
 -- ---- the nodes that the tree reader left
 module _ {s : List ℕ} {lent left : xml.Tables} {r : tree.Answer} {i j : ℕ} (p : xml.Parsed s lent r left) (given : r ≡ tree.Answer.Tree i j) where
