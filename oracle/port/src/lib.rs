@@ -112,4 +112,66 @@ exports! {
     fn probe_color(text: &[u8], out: &mut [u8]) -> u32;
     /// As `probe_escape_text`.
     fn probe_color_text(r: u8, g: u8, b: u8, a: u8, alpha: bool, out: &mut [u8]) -> usize;
+
+    /// `resolve_referenced_style` on a handed track: 0, or document 01's number. The ids reached stand in `ids`, a row of
+    /// four cells each: 0 (in `value`) or 1 (in `strings`), place, length, 0. `out` is the place of a refusal, 1 for a
+    /// style, how many ids, and of a style: its name (place and length in `value`), colour and background (flag, red,
+    /// green, blue, alpha), family (flag, place, length in `strings`), size (flag, 1 for a minus, digits, scale), bold,
+    /// italic, underline, strike, alignment. `size[0]` is the f32. `u32::MAX` if there are fewer than 27 and 1 cells.
+    fn probe_resolve_referenced_style(
+        value: &[u8],
+        head: &[u32],
+        params: &[u32],
+        styles: &[u32],
+        regions: &[u32],
+        cues: &[u32],
+        times: &[i64],
+        segments: &[u32],
+        reveal: &[i64],
+        sizes: &[f32],
+        extras: &[u32],
+        strings: &[u8],
+        texts: &[u8],
+        ids: &mut [u32],
+        out: &mut [u64],
+        size: &mut [f32]
+    ) -> u32;
+    /// `region_style`; the same.
+    fn probe_region_style(
+        id: &[u8],
+        head: &[u32],
+        params: &[u32],
+        styles: &[u32],
+        regions: &[u32],
+        cues: &[u32],
+        times: &[i64],
+        segments: &[u32],
+        reveal: &[i64],
+        sizes: &[f32],
+        extras: &[u32],
+        strings: &[u8],
+        texts: &[u8],
+        ids: &mut [u32],
+        out: &mut [u64],
+        size: &mut [f32]
+    ) -> u32;
+    /// `effective_style_for_cue_index`; the same.
+    fn probe_effective_style_for_cue_index(
+        head: &[u32],
+        params: &[u32],
+        styles: &[u32],
+        regions: &[u32],
+        cues: &[u32],
+        times: &[i64],
+        segments: &[u32],
+        reveal: &[i64],
+        sizes: &[f32],
+        extras: &[u32],
+        strings: &[u8],
+        texts: &[u8],
+        cue_index: usize,
+        ids: &mut [u32],
+        out: &mut [u64],
+        size: &mut [f32]
+    ) -> u32;
 }

@@ -22,6 +22,11 @@ pass_on! {
     fn cue_to_bytes(cue: &SubtitleCue) -> Vec<u8>;
 }
 
+/// The names of the attributes that are kept as they were, in the order in which they are written.
+pub const STYLE_EXTRA_ORDER: &[&str] = super::STYLE_EXTRA_ORDER;
+pub const REGION_ATTR_ORDER: &[&str] = super::REGION_ATTR_ORDER;
+pub const P_INLINE_EXTRA_ORDER: &[&str] = super::P_INLINE_EXTRA_ORDER;
+
 pub fn parse_ttml_time(s: &str, frame_rate: Option<f64>, tick_rate: Option<f64>) -> Option<i64> {
     super::parse_ttml_time(s, &super::TimingCtx { frame_rate, tick_rate })
 }

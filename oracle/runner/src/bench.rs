@@ -19,19 +19,24 @@ impl Bench {
     /// Times both sides on an input of so many bytes, and prints a line.
     pub fn row<A, B>(&mut self, input: &str, bytes: usize, rust: impl FnMut() -> A, port: impl FnMut() -> B) {
         let (rust_best, port_best) = in_turn(rust, port);
-        let each = bytes as f64;
-        println!(
-            "{input:42} {bytes:>8} {:>13.3} {:>13.3} {:>8.2}",
-            rust_best / each,
-            port_best / each,
-            rust_best / port_best
-        );
+        line(input, bytes, rust_best, port_best);
+    }
+
+    /// The same for calls that take long: each is made once.
+    pub fn once<A, B>(&mut self, input: &str, bytes: usize, mut rust: impl FnMut() -> A, mut port: impl FnMut() -> B) {
+        line(input, bytes, round(1, &mut rust), round(1, &mut port));
     }
 
     /// Times the port on two inputs, and prints how much longer the second takes.
     pub fn growth<A, B>(&mut self, first: impl FnMut() -> A, second: impl FnMut() -> B) {
         let (first_best, second_best) = in_turn(first, second);
         println!("    the port's time grows by {:.2}", second_best / first_best);
+    }
+
+    /// The same for calls that take long.
+    pub fn growth_once<A, B>(&mut self, mut first: impl FnMut() -> A, mut second: impl FnMut() -> B) {
+        let (first, second) = (round(1, &mut first), round(1, &mut second));
+        println!("    the port's time grows by {:.2}, to {:.3} s", second / first, second / 1e9);
     }
 
     /// The same on short texts, of which each is asked once. Both answers are compared before.
@@ -61,6 +66,11 @@ pub fn run(options: &Options) -> ExitCode {
         }
     }
     ExitCode::SUCCESS
+}
+
+fn line(input: &str, bytes: usize, rust: f64, port: f64) {
+    let each = bytes as f64;
+    println!("{input:42} {bytes:>8} {:>13.3} {:>13.3} {:>8.2}", rust / each, port / each, rust / port);
 }
 
 fn each<A>(texts: &[String], side: impl Fn(&str) -> A) {

@@ -5,6 +5,7 @@ pub mod decimals;
 pub mod entities;
 pub mod numerals;
 pub mod scan;
+pub mod styles;
 pub mod times;
 pub mod tree;
 pub mod utf8;
@@ -22,6 +23,7 @@ pub static LAYERS: &[Layer] = &[
     decimals::LAYER,
     times::LAYER,
     colors::LAYER,
+    styles::LAYER,
 ];
 
 pub struct Layer {

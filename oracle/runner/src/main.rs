@@ -6,10 +6,15 @@ mod cases;
 mod compare;
 mod document;
 mod expat;
+mod extras;
 mod films;
 mod layers;
 mod lend;
+mod query;
+mod reach;
 mod record;
+mod sheets;
+mod tables;
 
 use layers::{LAYERS, Layer};
 use std::process::ExitCode;

@@ -92,7 +92,7 @@ fn write(run: &mut Run, lent: &mut Lent, (r, g, b, a): Rgba) {
 }
 
 /// The Rust stops where it would cut a text inside a character, and nowhere else.
-fn rust(text: &str) -> Answer<Rgba> {
+pub fn rust(text: &str) -> Answer<Rgba> {
     Answer::ask(|| access::parse_ttml_color_rgba(text), |_| 15)
 }
 
@@ -147,7 +147,7 @@ fn corners() -> Vec<String> {
 }
 
 /// A colour, or nearly one.
-fn any_color(rng: &mut Rng) -> String {
+pub fn any_color(rng: &mut Rng) -> String {
     let mut text = match rng.below(8) {
         0 => rng.pick(NAMES).to_string(),
         1 => rng.pick(NAMES).chars().map(|c| if rng.below(2) == 0 { c } else { c.to_ascii_uppercase() }).collect(),

@@ -1,0 +1,421 @@
+//! The port's twelve tables of a track (docs/TABLES.md): laid out from the Rust's track, and read back as one.
+
+use crate::extras::{INLINE, Names, REGION, STYLE, join, split};
+use reference::ir::{Segment, SubtitleCue, SubtitleStyle, SubtitleTrack, TextAlign};
+use std::collections::HashMap;
+
+pub const STYLES: usize = 256;
+pub const SEGMENTS: usize = 16_384;
+pub const BYTES: usize = 65_536;
+
+/// The fixed lengths, in the order in which the tables are passed.
+pub const LENGTHS: [usize; 12] =
+    [10, 4 * 64, 27 * STYLES, 4 * 256, 11 * 2_048, 2 * 2_048, 8 * SEGMENTS, SEGMENTS, SEGMENTS + STYLES, 3 * 8_192, BYTES, BYTES];
+
+/// So many cells more stand behind them, to be lent or not.
+pub const MORE: usize = 9;
+
+#[derive(Clone)]
+pub struct Tables {
+    pub head: Vec<u32>,
+    pub params: Vec<u32>,
+    pub styles: Vec<u32>,
+    pub regions: Vec<u32>,
+    pub cues: Vec<u32>,
+    pub times: Vec<i64>,
+    pub segments: Vec<u32>,
+    pub reveal: Vec<i64>,
+    pub sizes: Vec<f32>,
+    pub extras: Vec<u32>,
+    pub strings: Vec<u8>,
+    pub texts: Vec<u8>,
+    /// How many rows of extras are laid out.
+    rows: usize,
+}
+
+/// Why a track is not one for the tables: a count or a size past its limit, or metadata that no document makes.
+#[derive(Debug)]
+pub struct Unfit(pub &'static str);
+
+type Laid<A> = Result<A, Unfit>;
+
+/// The places of counts in the head.
+const PARAMS: usize = 0;
+const STYLE_COUNT: usize = 1;
+const REGIONS: usize = 2;
+const CUES: usize = 3;
+const SEGMENT_COUNT: usize = 4;
+const STRINGS: usize = 8;
+const TEXTS: usize = 9;
+
+/// A string that is absent.
+const NONE: [u32; 3] = [0; 3];
+
+impl Tables {
+    pub fn new() -> Tables {
+        let [head, params, styles, regions, cues, times, segments, reveal, sizes, extras, strings, texts] =
+            LENGTHS.map(|length| length + MORE);
+        Tables {
+            head: vec![0; head],
+            params: vec![0; params],
+            styles: vec![0; styles],
+            regions: vec![0; regions],
+            cues: vec![0; cues],
+            times: vec![0; times],
+            segments: vec![0; segments],
+            reveal: vec![0; reveal],
+            sizes: vec![0.0; sizes],
+            extras: vec![0; extras],
+            strings: vec![0; strings],
+            texts: vec![0; texts],
+            rows: 0,
+        }
+    }
+
+    /// The tables of a track as the Rust's `parse` makes it. What stood in them before is cleared.
+    pub fn lay(&mut self, track: &SubtitleTrack) -> Laid<()> {
+        self.clear();
+        if let Some(lang) = track.metadata.iter().find(|(key, _)| key == "xml:lang") {
+            let lang = self.optional(Some(&lang.1))?;
+            self.head[5..8].copy_from_slice(&lang);
+        }
+        for (name, value) in with(track, "ttml_param.") {
+            let row = self.row(PARAMS, 64, "parameters")?;
+            let cells = [self.string(name)?, self.string(value)?].concat();
+            self.params[4 * row..4 * row + 4].copy_from_slice(&cells);
+        }
+        self.lay_styles(track)?;
+        for (id, attrs) in with(track, "ttml_region.") {
+            let row = self.row(REGIONS, 256, "regions")?;
+            let cells = [self.string(id)?, self.lay_extras(attrs, REGION)?].concat();
+            self.regions[4 * row..4 * row + 4].copy_from_slice(&cells);
+        }
+        self.lay_cues(track)
+    }
+
+    /// Styles of equal names share what the metadata has for that name: the first that can have it gets it.
+    fn lay_styles(&mut self, track: &SubtitleTrack) -> Laid<()> {
+        let mut kept = track
+            .metadata
+            .iter()
+            .filter(|(key, _)| key.starts_with("ttml_style_extra.") || key.starts_with("ttml_style_ref."))
+            .peekable();
+        for style in &track.styles {
+            let row = self.row(STYLE_COUNT, STYLES, "styles")?;
+            let mut own = |prefix| kept.next_if(|(key, _)| key.strip_prefix(prefix) == Some(&style.name));
+            let (extras, chain) = (own("ttml_style_extra."), own("ttml_style_ref."));
+            let mut cells = self.string(&style.name)?.to_vec();
+            cells.extend(self.string(chain.map_or("", |(_, chain)| chain))?);
+            cells.extend(color(style.primary_color));
+            cells.extend(color(style.back_color));
+            cells.extend(self.optional(style.font_family.as_deref())?);
+            cells.extend(self.size(SEGMENTS + row, style.font_size)?);
+            cells.extend([style.bold, style.italic, style.underline, style.strike].map(u32::from));
+            cells.push(align(style.align));
+            cells.extend(self.lay_extras(extras.map_or("", |(_, extras)| extras), STYLE)?);
+            self.styles[27 * row..27 * row + 27].copy_from_slice(&cells);
+        }
+        if kept.peek().is_some() { Err(Unfit("metadata of no style")) } else { Ok(()) }
+    }
+
+    fn lay_cues(&mut self, track: &SubtitleTrack) -> Laid<()> {
+        let by_cue = |prefix: &'static str| {
+            let mut values = HashMap::new();
+            for (index, value) in with(track, prefix) {
+                values.entry(index.to_string()).or_insert(value);
+            }
+            move |cue: usize| values.get(&cue.to_string()).copied()
+        };
+        let (regions, extras) = (by_cue("ttml_cue_region."), by_cue("ttml_p_extra."));
+        let spaces = by_cue("ttml_cue_xml_space.");
+        for cue in &track.cues {
+            let row = self.row(CUES, 2_048, "cues")?;
+            let mut cells = self.optional(cue.style_ref.as_deref())?.to_vec();
+            cells.extend(self.optional(regions(row))?);
+            cells.push((spaces(row) == Some("preserve")) as u32);
+            let first = self.head[SEGMENT_COUNT];
+            for segment in &cue.segments {
+                self.lay_segment(segment)?;
+            }
+            cells.extend([first, self.head[SEGMENT_COUNT] - first]);
+            cells.extend(self.lay_extras(extras(row).unwrap_or(""), INLINE)?);
+            self.cues[11 * row..11 * row + 11].copy_from_slice(&cells);
+            self.times[2 * row..2 * row + 2].copy_from_slice(&[cue.start_us, cue.end_us]);
+        }
+        Ok(())
+    }
+
+    fn lay_segment(&mut self, segment: &Segment) -> Laid<()> {
+        let row = self.row(SEGMENT_COUNT, SEGMENTS, "segments")?;
+        let (kind, data, children): (u32, Vec<u32>, &[Segment]) = match segment {
+            Segment::Text(text) => (1, self.text(text)?.to_vec(), &[]),
+            Segment::LineBreak => (2, vec![], &[]),
+            Segment::Timestamp { offset_us } => {
+                self.reveal[row] = *offset_us;
+                (3, vec![], &[])
+            }
+            Segment::Bold(children) => (4, vec![], children),
+            Segment::Italic(children) => (5, vec![], children),
+            Segment::Underline(children) => (6, vec![], children),
+            Segment::Strike(children) => (7, vec![], children),
+            Segment::Color { rgb: (r, g, b), children } => (8, [*r, *g, *b].map(u32::from).to_vec(), children),
+            Segment::Font { family, size, children } => {
+                let cells = [self.optional(family.as_deref())?, self.size(row, *size)?];
+                (9, cells.concat(), children)
+            }
+            _ => return Err(Unfit("a segment that the reader never makes")),
+        };
+        for child in children {
+            self.lay_segment(child)?;
+        }
+        let cells = &mut self.segments[8 * row..8 * row + 8];
+        cells[0] = kind;
+        cells[1] = self.head[SEGMENT_COUNT] - row as u32;
+        cells[2..2 + data.len()].copy_from_slice(&data);
+        Ok(())
+    }
+
+    fn lay_extras(&mut self, joined: &str, names: Names) -> Laid<[u32; 2]> {
+        let first = self.rows;
+        for (number, value) in split(joined, names).ok_or(Unfit("extras"))? {
+            if self.rows == 8_192 {
+                return Err(Unfit("extras"));
+            }
+            let cells = [&[number as u32][..], &self.string(&value)?].concat();
+            self.extras[3 * self.rows..3 * self.rows + 3].copy_from_slice(&cells);
+            self.rows += 1;
+        }
+        Ok([first, self.rows - first].map(|n| n as u32))
+    }
+
+    /// One more row, if there is one.
+    fn row(&mut self, count: usize, most: usize, what: &'static str) -> Laid<usize> {
+        let row = self.head[count] as usize;
+        if row == most {
+            return Err(Unfit(what));
+        }
+        self.head[count] += 1;
+        Ok(row)
+    }
+
+    fn string(&mut self, string: &str) -> Laid<[u32; 2]> {
+        append(&mut self.strings, &mut self.head[STRINGS], string)
+    }
+
+    fn text(&mut self, text: &str) -> Laid<[u32; 2]> {
+        append(&mut self.texts, &mut self.head[TEXTS], text)
+    }
+
+    fn optional(&mut self, string: Option<&str>) -> Laid<[u32; 3]> {
+        let Some(string) = string else { return Ok(NONE) };
+        let [place, length] = self.string(string)?;
+        Ok([1, place, length])
+    }
+
+    fn size(&mut self, cell: usize, size: Option<f32>) -> Laid<[u32; 3]> {
+        let Some(value) = size else { return Ok(NONE) };
+        self.sizes[cell] = value;
+        spelling(value).ok_or(Unfit("a size"))
+    }
+
+    /// All cells that were laid out.
+    fn clear(&mut self) {
+        let used = |count: usize, width: usize| 0..self.head[count] as usize * width;
+        let (params, styles, regions) = (used(PARAMS, 4), used(STYLE_COUNT, 27), used(REGIONS, 4));
+        let (cues, times, segments) = (used(CUES, 11), used(CUES, 2), used(SEGMENT_COUNT, 8));
+        let (rows, sizes, strings, texts) =
+            (used(SEGMENT_COUNT, 1), used(STYLE_COUNT, 1), used(STRINGS, 1), used(TEXTS, 1));
+        self.params[params].fill(0);
+        self.styles[styles].fill(0);
+        self.regions[regions].fill(0);
+        self.cues[cues].fill(0);
+        self.times[times].fill(0);
+        self.segments[segments].fill(0);
+        self.reveal[rows.clone()].fill(0);
+        self.sizes[rows].fill(0.0);
+        self.sizes[SEGMENTS + sizes.start..SEGMENTS + sizes.end].fill(0.0);
+        self.strings[strings].fill(0);
+        self.texts[texts].fill(0);
+        self.extras[..3 * self.rows].fill(0);
+        self.head.fill(0);
+        self.rows = 0;
+    }
+}
+
+/// What the metadata has under keys that begin so, with the rest of the key.
+pub fn with<'a>(track: &'a SubtitleTrack, prefix: &'a str) -> impl Iterator<Item = (&'a str, &'a str)> {
+    track.metadata.iter().filter_map(move |(key, value)| Some((key.strip_prefix(prefix)?, value.as_str())))
+}
+
+fn append(bytes: &mut [u8], used: &mut u32, string: &str) -> Laid<[u32; 2]> {
+    let place = *used as usize;
+    let room = bytes[..BYTES].get_mut(place..place + string.len()).ok_or(Unfit("strings"))?;
+    room.copy_from_slice(string.as_bytes());
+    *used += string.len() as u32;
+    Ok([place, string.len()].map(|n| n as u32))
+}
+
+/// Sign, digits and scale of what `{}` prints, if they are within the limits.
+pub fn spelling(value: f32) -> Option<[u32; 3]> {
+    let printed = format!("{value}");
+    let number = printed.trim_start_matches('-');
+    let (whole, behind) = number.split_once('.').unwrap_or((number, ""));
+    let digits: u32 = format!("{whole}{behind}").parse().ok()?;
+    let sign = 1 + (number.len() < printed.len()) as u32;
+    (digits <= 999_999 && behind.len() <= 10).then_some([sign, digits, behind.len() as u32])
+}
+
+fn color(color: Option<(u8, u8, u8, u8)>) -> [u32; 5] {
+    color.map_or([0; 5], |(r, g, b, a)| [1, r as u32, g as u32, b as u32, a as u32])
+}
+
+const ALIGNS: [TextAlign; 5] =
+    [TextAlign::Start, TextAlign::Center, TextAlign::End, TextAlign::Left, TextAlign::Right];
+
+pub fn align(align: TextAlign) -> u32 {
+    ALIGNS.iter().position(|&one| one == align).unwrap() as u32
+}
+
+/// Reading back. What no track has is an error, in words.
+type Back<A> = Result<A, String>;
+
+impl Tables {
+    /// The Rust's track of these tables: `lay` read backwards. Its metadata stands in the order of the Rust's `parse`.
+    pub fn track(&self) -> Back<SubtitleTrack> {
+        let mut track = SubtitleTrack::default();
+        let metadata = &mut track.metadata;
+        metadata.push(("source_format".into(), "ttml".into()));
+        if let Some(lang) = self.optional_at(&self.head[5..8])? {
+            metadata.push(("xml:lang".into(), lang));
+        }
+        for row in rows(&self.params, 4, self.head[PARAMS])? {
+            metadata.push((format!("ttml_param.{}", self.string_at(row)?), self.string_at(&row[2..])?));
+        }
+        for (at, row) in rows(&self.styles, 27, self.head[STYLE_COUNT])?.enumerate() {
+            let style = self.style_at(at, row)?;
+            let (extras, chain) = (self.extras_at(&row[25..], STYLE)?, self.string_at(&row[2..])?);
+            if !extras.is_empty() {
+                metadata.push((format!("ttml_style_extra.{}", style.name), extras));
+            }
+            if !chain.is_empty() {
+                metadata.push((format!("ttml_style_ref.{}", style.name), chain));
+            }
+            track.styles.push(style);
+        }
+        for row in rows(&self.regions, 4, self.head[REGIONS])? {
+            metadata.push((format!("ttml_region.{}", self.string_at(row)?), self.extras_at(&row[2..], REGION)?));
+        }
+        let mut segment = 0;
+        for (at, row) in rows(&self.cues, 11, self.head[CUES])?.enumerate() {
+            let end = segment + row[8] as usize;
+            track.cues.push(SubtitleCue {
+                start_us: self.times[2 * at],
+                end_us: self.times[2 * at + 1],
+                style_ref: self.optional_at(row)?,
+                positioning: None,
+                segments: self.segments_to(end.min(self.head[SEGMENT_COUNT] as usize), &mut segment)?,
+            });
+            if let Some(region) = self.optional_at(&row[3..])? {
+                metadata.push((format!("ttml_cue_region.{at}"), region));
+            }
+            let extras = self.extras_at(&row[9..], INLINE)?;
+            if !extras.is_empty() {
+                metadata.push((format!("ttml_p_extra.{at}"), extras));
+            }
+            if row[6] == 1 {
+                metadata.push((format!("ttml_cue_xml_space.{at}"), "preserve".into()));
+            }
+        }
+        Ok(track)
+    }
+
+    fn style_at(&self, at: usize, row: &[u32]) -> Back<SubtitleStyle> {
+        let mut style = SubtitleStyle::new(self.string_at(row)?);
+        style.primary_color = color_at(&row[4..]);
+        style.back_color = color_at(&row[9..]);
+        style.font_family = self.optional_at(&row[14..])?;
+        style.font_size = self.size_at(SEGMENTS + at, &row[17..])?;
+        [style.bold, style.italic, style.underline, style.strike] = [20, 21, 22, 23].map(|cell| row[cell] == 1);
+        style.align = *ALIGNS.get(row[24] as usize).ok_or(format!("alignment {}", row[24]))?;
+        Ok(style)
+    }
+
+    /// The segments from a row to another.
+    fn segments_to(&self, end: usize, at: &mut usize) -> Back<Vec<Segment>> {
+        let mut segments = Vec::new();
+        while *at < end {
+            let here = *at;
+            let row = &self.segments[8 * here..8 * here + 8];
+            *at += 1;
+            let last = here + row[1] as usize;
+            if last <= here || end < last {
+                return Err(format!("segment {here} has {} rows", row[1]));
+            }
+            let children = self.segments_to(last, at)?;
+            segments.push(match row[0] {
+                1 => Segment::Text(string_in(&self.texts, self.head[TEXTS], &row[2..])?),
+                2 => Segment::LineBreak,
+                3 => Segment::Timestamp { offset_us: self.reveal[here] },
+                4 => Segment::Bold(children),
+                5 => Segment::Italic(children),
+                6 => Segment::Underline(children),
+                7 => Segment::Strike(children),
+                8 => Segment::Color { rgb: (row[2] as u8, row[3] as u8, row[4] as u8), children },
+                9 => Segment::Font {
+                    family: self.optional_at(&row[2..])?,
+                    size: self.size_at(here, &row[5..])?,
+                    children,
+                },
+                kind => return Err(format!("segment {here} has kind {kind}")),
+            });
+        }
+        Ok(segments)
+    }
+
+    fn extras_at(&self, row: &[u32], names: Names) -> Back<String> {
+        let (first, count) = (row[0] as usize, row[1] as usize);
+        let rows = self.extras.get(3 * first..3 * (first + count)).ok_or(format!("extras {first} {count}"))?;
+        let pairs: Back<Vec<_>> =
+            rows.chunks(3).map(|row| Ok((row[0] as usize, self.string_at(&row[1..])?))).collect();
+        join(&pairs?, names).ok_or(format!("extras {first} {count} are not in their order"))
+    }
+
+    fn string_at(&self, span: &[u32]) -> Back<String> {
+        string_in(&self.strings, self.head[STRINGS], span)
+    }
+
+    fn optional_at(&self, cells: &[u32]) -> Back<Option<String>> {
+        if cells[0] == 1 { self.string_at(&cells[1..]).map(Some) } else { Ok(None) }
+    }
+
+    fn size_at(&self, cell: usize, cells: &[u32]) -> Back<Option<f32>> {
+        let value = self.sizes[cell];
+        match cells[0] {
+            0 => Ok(None),
+            _ if spelling(value).as_ref().map(|spelling| &spelling[..]) == Some(&cells[..3]) => Ok(Some(value)),
+            _ => Err(format!("size {value} is spelled {:?}", &cells[..3])),
+        }
+    }
+}
+
+/// So many rows of a table.
+fn rows(table: &[u32], width: usize, count: u32) -> Back<impl Iterator<Item = &[u32]>> {
+    let rows = table.get(..width * count as usize).ok_or(format!("{count} rows of {width}"))?;
+    Ok(rows.chunks(width))
+}
+
+fn string_in(bytes: &[u8], used: u32, span: &[u32]) -> Back<String> {
+    let (place, length) = (span[0] as usize, span[1] as usize);
+    let string = bytes[..used as usize].get(place..place + length).and_then(|bytes| str::from_utf8(bytes).ok());
+    string.map(String::from).ok_or(format!("no string {place} {length}"))
+}
+
+fn color_at(cells: &[u32]) -> Option<(u8, u8, u8, u8)> {
+    let [r, g, b, a] = [1, 2, 3, 4].map(|cell| cells[cell] as u8);
+    (cells[0] == 1).then_some((r, g, b, a))
+}
+
+/// A track in words, all but its source and the text that it was read from: equal exactly if the tracks are the same.
+pub fn shown(track: &SubtitleTrack) -> String {
+    format!("{:?}\n{:?}\n{:?}", track.styles, track.cues, track.metadata)
+}
