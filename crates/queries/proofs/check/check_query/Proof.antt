@@ -1,4 +1,5 @@
 -- `check_query` meets its contract. Assumes nothing.
+use Rattle.track.proofs.Exactly.{checked-is}
 use mathlib.Core.Path.{_∙_}
 use Rattle.queries.specs.Steps.{queryCheck}
 use borrow.Author.Needs.{needs}
@@ -13,7 +14,7 @@ check-text-requires c κs = search needs
 
 returns : tie.Need-returns
 unfolding queryCheck
-returns c = c .check-text .ensures ∙ rw (c .before .check-track .ensures)
+returns c = c .check-text .ensures ∙ rw (checked-is _ (c .before .check-track .ensures))
 
 pub check-query-spec : {M : Type 1} → statement M
 check-query-spec = tie.close (tie.spec check-track-requires check-text-requires returns)

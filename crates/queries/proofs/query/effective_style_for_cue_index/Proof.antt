@@ -1,4 +1,5 @@
 -- `effective_style_for_cue_index` meets its contract. Assumes nothing.
+use Rattle.track.proofs.Exactly.{checked-is}
 use mathlib.Core.Path.{refl, sym, _∙_}
 use native.Mathlib.Omega.{arith}
 use Rattle.queries.proofs.Handed.{lengths, ready, has-regions, cues-few, cue-spans}
@@ -22,7 +23,7 @@ enum-told c = search needs
 
 get-requires : tie.Need-get-requires
 get-requires c κs =
-    let a = check-taken _ _ (check-none-asked _ ∙ (sym (c .before .before .check-track .ensures) ∙ c .enum-told .given .1)) in
+    let a = check-taken _ _ (check-none-asked _ ∙ (sym (checked-is _ (c .before .before .check-track .ensures)) ∙ c .enum-told .given .1)) in
     omega (arith, lengths _ (a .0 .full) .head)
 
 same-length : tie.Need-same-length
@@ -30,13 +31,13 @@ same-length c = search needs
 
 returns : tie.Need-returns
 returns c =
-    let h = check-none-asked _ ∙ (sym (c .before .before .before .before .check-track .ensures) ∙ c .before .before .enum-told .given .1) in
+    let h = check-none-asked _ ∙ (sym (checked-is _ (c .before .before .before .before .check-track .ensures)) ∙ c .before .before .enum-told .given .1) in
     cue-past _ _ _ h (rw (c .before .get .ensures) at (c .if1 .taken)) _ (c .before .before .before .before .before .before .before .clear .ensures)
 
 cue-at-requires : tie.Need-cue-at-requires
 cue-at-requires c κs =
     let c4 = c .before .before .before .before in
-    let a = check-taken _ _ (check-none-asked _ ∙ (sym (c4 .check-track .ensures) ∙ c .before .before .enum-told .given .1)) in
+    let a = check-taken _ _ (check-none-asked _ ∙ (sym (checked-is _ (c4 .check-track .ensures)) ∙ c .before .before .enum-told .given .1)) in
     let l = lengths _ (a .0 .full) in
     let f = cues-few _ (a .0) in
     (omega (arith, l .cues, f, c .before .get .ensures, c .if1 .left), omega (arith, l .times, f, c .before .get .ensures, c .if1 .left))
@@ -45,7 +46,7 @@ get-requires-2 : tie.Need-get-requires-2
 get-requires-2 c κs =
     let c5 = c .before .before .before .before .before in
     let c7 = c5 .before .before in
-    let a = check-taken _ _ (check-none-asked _ ∙ (sym (c7 .check-track .ensures) ∙ c5 .enum-told .given .1)) in
+    let a = check-taken _ _ (check-none-asked _ ∙ (sym (checked-is _ (c7 .check-track .ensures)) ∙ c5 .enum-told .given .1)) in
     omega (arith, lengths _ (a .0 .full) .head)
 
 cue-part-requires : tie.Need-cue-part-requires
@@ -56,7 +57,7 @@ cue-part-requires c κs =
     let c6 = c5 .before in
     let c8 = c6 .before .before in
     let c24 = c8 .before .before .before .before .before .before .before .before .before .before .before .before .before .before .before .before in
-    let a = check-taken _ _ (check-none-asked _ ∙ (sym (c8 .check-track .ensures) ∙ c6 .enum-told .given .1)) in (
+    let a = check-taken _ _ (check-none-asked _ ∙ (sym (checked-is _ (c8 .check-track .ensures)) ∙ c6 .enum-told .given .1)) in (
       rw (c .get2 .ensures) (has-regions _ (a .0)),
       rw (c3 .cue-at .ensures) (cue-spans _ (a .0) (c24 .args .cue-index) (omega
           (arith, c5 .get .ensures, c4 .if1 .left)) .1),
@@ -75,7 +76,7 @@ get-requires-3 : tie.Need-get-requires-3
 get-requires-3 c κs =
     let c10 = c .before .before .before .before .before .before .before .before .before .before in
     let c12 = c10 .before .before in
-    let a = check-taken _ _ (check-none-asked _ ∙ (sym (c12 .check-track .ensures) ∙ c10 .enum-told .given .1)) in
+    let a = check-taken _ _ (check-none-asked _ ∙ (sym (checked-is _ (c12 .check-track .ensures)) ∙ c10 .enum-told .given .1)) in
     omega (arith, lengths _ (a .0 .full) .head)
 
 slice-aggregate-resolve-over : tie.Need-slice-aggregate-resolve-over
@@ -92,7 +93,7 @@ resolve-over-requires c κs =
     let c15 = c14 .before in
     let c17 = c15 .before .before in
     let c33 = c17 .before .before .before .before .before .before .before .before .before .before .before .before .before .before .before .before in
-    let a = check-taken _ _ (check-none-asked _ ∙ (sym (c17 .check-track .ensures) ∙ c15 .enum-told .given .1)) in
+    let a = check-taken _ _ (check-none-asked _ ∙ (sym (checked-is _ (c17 .check-track .ensures)) ∙ c15 .enum-told .given .1)) in
     let p = rw (c6 .x .given .1) at (c8 .cue-part .ensures) in
     let s = cue-spans _ (a .0) (c33 .args .cue-index) (omega (arith, c14 .get .ensures, c13 .if1 .left)) .0 in (
       rw (c4 .get3 .ensures) (ready _ (a .0)),
@@ -110,7 +111,7 @@ returns-2 : tie.Need-returns-2
 returns-2 c =
     let c3 = c .before .before .before in
     let c6 = c3 .before .before .before in
-    checked-query _ _ _ _ _ _ _ (check-none-asked _ ∙ (sym (c3 .check-track .ensures) ∙ c .before .r .given .1)) _ (c6 .clear .ensures)
+    checked-query _ _ _ _ _ _ _ (check-none-asked _ ∙ (sym (checked-is _ (c3 .check-track .ensures)) ∙ c .before .r .given .1)) _ (c6 .clear .ensures)
 
 same-length-3 : tie.Need-same-length-3
 same-length-3 c = search needs
@@ -125,7 +126,7 @@ returns-3 c =
     let c11 = c10 .before in
     let c13 = c11 .before .before in
     let c16 = c13 .before .before .before in
-    let h = check-none-asked _ ∙ (sym (c13 .check-track .ensures) ∙ c11 .enum-told .given .1) in
+    let h = check-none-asked _ ∙ (sym (checked-is _ (c13 .check-track .ensures)) ∙ c11 .enum-told .given .1) in
     rw (c .refused .ensures) (cue-refuses _ _ _ h (omega (arith, c10 .get .ensures, c9 .if1 .left)) _ (rw
     (c .before .before .number .given .1, c5 .get2 .ensures, c8 .cue-at .ensures) at (c4 .cue-part .ensures)) _ (c16 .clear .ensures))
 
@@ -148,7 +149,7 @@ returns-4 c =
     let c22 = c21 .before in
     let c24 = c22 .before .before in
     let c27 = c24 .before .before .before in
-    let h = check-none-asked _ ∙ (sym (c24 .check-track .ensures) ∙ c22 .enum-told .given .1) in
+    let h = check-none-asked _ ∙ (sym (checked-is _ (c24 .check-track .ensures)) ∙ c22 .enum-told .given .1) in
     cue-asked _ _ _ h (omega (arith, c21 .get .ensures, c20 .if1 .left)) _ (rw (c13 .x .given .1, c16 .get2 .ensures, c19 .cue-at .ensures) at
     (c15 .cue-part .ensures)) _ _ _ (c27 .clear .ensures) (c6 .resolve-over .result) _
     (rw (c11 .get3 .ensures, c19 .cue-at .ensures) at (c6 .resolve-over .ensures)) (c .before .before .finish .ensures)
