@@ -9,11 +9,11 @@ use mathlib.Core.Bool.{Bool, true, false, _&&_}
 use mathlib.Core.List.{List}
 use lib.ListN.{length, getD, take}
 use lib.Dec.{leb}
-use borrow.Author.Tests.{leb-true}
+use borrow.Author.Tests.{leb-true, le-leb}
 use Rattle.decimals.proofs.Tests.{both}
-use Rattle.track.specs.Tables.{Tables, cueCount, segmentCount, stringsUsed, textsUsed}
+use Rattle.track.specs.Tables.{Tables, lengths, LongEnough, cueCount, segmentCount, stringsUsed, textsUsed}
 use Rattle.track.specs.Meaning.{areCues, withinLimits, bytesMean, rowsMean, isTrack}
-use Rattle.track.specs.Check.{rowsFull, restFull, isFull}
+use Rattle.track.specs.Steps.{rowsFull, restFull, isFull}
 use Rattle.track.proofs.StringLaws.{four}
 
 -- ---- lengths and counts
@@ -105,6 +105,45 @@ module _ (T : Tables) where
   pub full-is : rowsOk ≡ true → restOk ≡ true → isFull T ≡ true
   unfolding isFull
   full-is e f = rw (e, f)
+
+  -- as the promise has it
+  pub full-long : isFull T ≡ true → LongEnough (lengths T)
+  unfolding isFull
+  full-long e =
+      let w = both rowsOk restOk e in
+      let a = rows-long _ _ _ _ _ _ _ (w .0) in
+      let b = rest-long _ _ _ _ _ (w .1) in
+      record {
+        head = a .head;
+        params = a .params;
+        styles = a .styles;
+        regions = a .regions;
+        cues = a .cues;
+        times = b .times;
+        segments = a .segments;
+        reveal = b .reveal;
+        sizes = b .sizes;
+        extras = a .extras;
+        strings = b .strings;
+        texts = b .texts;
+      }
+
+  pub long-full : LongEnough (lengths T) → isFull T ≡ true
+  unfolding isFull rowsFull restFull
+  long-full m = rw (
+    le-leb 10 _ (m .head),
+    le-leb 256 _ (m .params),
+    le-leb 6912 _ (m .styles),
+    le-leb 1024 _ (m .regions),
+    le-leb 22528 _ (m .cues),
+    le-leb 131072 _ (m .segments),
+    le-leb 24576 _ (m .extras),
+    le-leb 4096 _ (m .times),
+    le-leb 16384 _ (m .reveal),
+    le-leb 16640 _ (m .sizes),
+    le-leb 65536 _ (m .strings),
+    le-leb 65536 _ (m .texts),
+  )
 
 module _ (T : Tables) where
   abbrev z : List ℕ

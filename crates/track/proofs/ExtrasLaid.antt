@@ -97,14 +97,14 @@ stays (y ∷ l) t x e a s r =
     stays l _ x e (a .1) (s .1)
     (reads-kept t cy cx (y .rows .first * 3) (x .rows .first * 3) (λ g h. tripled _ _ _ _ _ _ m n (a .0 (omega arith) (omega arith))) r)
 
-all-stay : (l : List Laid) (t : List ℕ) → length t ≡ 24576 → All Sits l → AllApart l → All (Stays (layAll t l)) l
+all-stay : (l : List Laid) (t : List ℕ) → 24576 ≤ length t → All Sits l → AllApart l → All (Stays (layAll t l)) l
 unfolding layAll layExtras
 all-stay [] t e s a = tt
 all-stay (x ∷ l) t e s a =
     let m : length (cellsOf (x .extras)) ≡ length (x .extras) * 3 = cells-many (x .extras) in
     let t′ : List ℕ = layExtras t (x .rows) (x .extras) in (
       stays l t′ x (s .0) (a .0) (s .1) (reads-set t (cellsOf (x .extras)) (x .rows .first * 3) (omega (arith, s .0 .0, s .0 .1))),
-      all-stay l t′ (length-sets t (x .rows .first * 3) (cellsOf (x .extras)) ∙ e) (s .1) (a .1),
+      all-stay l t′ (omega (arith, length-sets t (x .rows .first * 3) (cellsOf (x .extras)))) (s .1) (a .1),
     )
 
 lay-long : (l : List Laid) (t : List ℕ) → length (layAll t l) ≡ length t
@@ -134,5 +134,5 @@ module _ (k : Placed) (t : List ℕ) where
   pub laid-long : length extrasLaid ≡ length t
   laid-long = ap length lay-laid ∙ lay-long (laid k) t
 
-  pub laid-extras : length t ≡ 24576 → All Sits (laid k) → AllApart (laid k) → All (Stays extrasLaid) (laid k)
+  pub laid-extras : 24576 ≤ length t → All Sits (laid k) → AllApart (laid k) → All (Stays extrasLaid) (laid k)
   laid-extras e s a = rw lay-laid (all-stay (laid k) t e s a)

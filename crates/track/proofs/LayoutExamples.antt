@@ -1,6 +1,6 @@
 -- A worked case of the layout: a small track that fits, and what its tables mean. Assumes nothing.
 --     small-fits, small-means
-use Prim.Native.Nat.{ℕ}
+use Prim.Native.Nat.{ℕ, _≤_}
 use mathlib.Core.Path.{_≡_, refl, sym}
 use mathlib.Core.Bool.{true, false}
 use mathlib.Core.List.{List, [], _∷_}
@@ -16,7 +16,7 @@ use Rattle.unicode.specs.Utf8.{fitsAt, firstFit, sequenceAt, utf8End, boundary}
 use Rattle.track.specs.declared.values.Align.{Align}
 use Rattle.track.specs.Track.{segmentRows}
 use Rattle.track.specs.Track as track
-use Rattle.track.specs.Tables.{span, rowsOf, zeroFloat}
+use Rattle.track.specs.Tables.{Lengths, span, rowsOf, zeroFloat}
 use Rattle.track.specs.Meaning.{isSpan, every, isUtf8, lookIn, trackIn}
 use Rattle.track.specs.Layout.{Placed, each, preorder, wrapperOf, allSegments, layout}
 use Rattle.track.specs.Placing.{Fits, depth, laid, laidStyle, laidRegion, laidCue, shownExtra, shownParam, shownChain, shownStyle, shownRegion, shownWrapper, shownSegments, shownCue, shown}
@@ -119,7 +119,7 @@ small-fits = record {
   apart = ((λ a b. inl (omega arith), (λ a b. absurd (omega arith), tt)), ((λ a b. absurd (omega arith), tt), (tt, tt)));
 }
 
-pub small-means : trackIn (layout small letters words 4 2) ≡ some (record {
+pub small-means : (n : Lengths) → 24576 ≤ n .extras → trackIn (layout n small letters words 4 2) ≡ some (record {
   lang = some (101 ∷ 110 ∷ []);
   params = record { name = 115 ∷ []; value = 114 ∷ [] } ∷ [];
   styles = record {
@@ -150,4 +150,4 @@ pub small-means : trackIn (layout small letters words 4 2) ≡ some (record {
   } ∷ [];
 })
 unfolding small shown shownParam shownStyle shownRegion shownCue shownSegments shownWrapper shownExtra shownChain lookIn each stringAt
-small-means = layout-means small letters words 4 2 small-fits
+small-means n l = layout-means n small letters words 4 2 l small-fits

@@ -15,12 +15,14 @@ use lib.IntN.{pos}
 use lib.Ieee.{Float}
 use borrow.Author.Tests.{le-leb}
 use Rattle.track.specs.declared.strings.Span.{Span}
-use Rattle.track.specs.Tables.{Tables, zeroFloat, sizeCell, rowsFrom}
+use Rattle.track.specs.Tables.{Tables, Lengths, lengths, LongEnough, zeroFloat, sizeCell, rowsFrom}
 use Rattle.track.specs.declared.check.Check.{Check}
-use Rattle.track.specs.Check.{rowsFull, restFull, isFull, checkOf}
+use Rattle.track.specs.Steps.{checkOf}
 use Rattle.track.specs.Meaning.{isParam, isStyle, isRegion, areCues, allRows, withinLimits, bytesMean, rowsMean, isTrack, paramIn, styleIn, regionIn, cueIn, trackAt, trackIn}
-use Rattle.track.specs.Layout.{joinedCells, each, optionalCells, paramCells, styleCells, regionCells, cueCells, cueTimes, styleSize, allSegments, filledSizes, Placed, PlacedStyle, layout}
+use Rattle.track.specs.Layout.{joinedCells, each, optionalCells, paramCells, styleCells, regionCells, cueCells, cueTimes, styleSize, allSegments, filledSizes, Placed, PlacedStyle, headCells, layout}
 use Rattle.track.specs.Placing.{All, ParamFits, StyleFits, RegionFits, CueFits, Fits, laidStyle, laidRegion, laidCue, laid, shownParam, shownStyle, shownRegion, shownCue, shown}
+use Rattle.track.proofs.Answers.{long-full}
+use Rattle.track.proofs.Exactly.{check-track}
 use Rattle.track.proofs.ReadBack.{Reads, AllAt, reads-here, reads-after, reads-first, reads-rest, rows-at, at-both, rows-mean, all-append, all-each, all-join, each-all, all-both, each-many}
 use Rattle.track.proofs.ExtrasLaid.{Sits, Stays, extrasLaid, laid-long, laid-extras}
 use Rattle.track.proofs.RowsLaid.{OptionalRead, optional-long, optional-read, param-read, region-read, style-read, style-long}
@@ -167,12 +169,12 @@ module _ (T : Tables) (k : Placed) (u v : ℕ) (h : Holds T k u v) (f : Fits k (
 
 -- ---- the layout's tables
 -- the head's last cells
-used : (a b c d e u v : ℕ) (o : Bool) (x : Span)
-    → Reads 0 (a ∷ b ∷ c ∷ d ∷ e ∷ (optionalCells o x ++ (u ∷ v ∷ []))) 5 (optionalCells o x)
-    × (getD (a ∷ b ∷ c ∷ d ∷ e ∷ (optionalCells o x ++ (u ∷ v ∷ []))) 8 0 ≡ u)
-    × (getD (a ∷ b ∷ c ∷ d ∷ e ∷ (optionalCells o x ++ (u ∷ v ∷ []))) 9 0 ≡ v)
-used a b c d e u v true x = (reads-after 0 (a ∷ b ∷ c ∷ d ∷ e ∷ []) (optionalCells true x) (u ∷ v ∷ []) 5 refl, refl, refl)
-used a b c d e u v false x = (reads-after 0 (a ∷ b ∷ c ∷ d ∷ e ∷ []) (optionalCells false x) (u ∷ v ∷ []) 5 refl, refl, refl)
+used : (a b c d e u v : ℕ) (o : Bool) (x : Span) (w : List ℕ)
+    → Reads 0 (a ∷ b ∷ c ∷ d ∷ e ∷ (optionalCells o x ++ (u ∷ v ∷ [])) ++ w) 5 (optionalCells o x)
+    × (getD (a ∷ b ∷ c ∷ d ∷ e ∷ (optionalCells o x ++ (u ∷ v ∷ [])) ++ w) 8 0 ≡ u)
+    × (getD (a ∷ b ∷ c ∷ d ∷ e ∷ (optionalCells o x ++ (u ∷ v ∷ [])) ++ w) 9 0 ≡ v)
+used a b c d e u v true x w = (reads-after 0 (a ∷ b ∷ c ∷ d ∷ e ∷ []) (optionalCells true x) (u ∷ v ∷ w) 5 refl, refl, refl)
+used a b c d e u v false x w = (reads-after 0 (a ∷ b ∷ c ∷ d ∷ e ∷ []) (optionalCells false x) (u ∷ v ∷ w) 5 refl, refl, refl)
 
 -- rows as the elements say them
 rows-sit : (k : Placed) (z y : List ℕ) (u v : ℕ) → Fits k z y u v → All Sits (laid k)
@@ -198,11 +200,14 @@ module _ (n m : ℕ) (a b : List Float) (h : length a ≤ n) where
       let e : length (a ++ r) ≡ n = length-append a r ∙ omega (arith, length-replicate (n - length a) zeroFloat) in
       reads-after zeroFloat (filledSizes n a) b (replicate (m - length b) zeroFloat) n (sym e)
 
-pub layout-holds : (k : Placed) (z y : List ℕ) (u v : ℕ) → Fits k z y u v → Holds (layout k z y u v) k u v
-unfolding layout
-layout-holds k z y u v f =
+pub layout-holds :
+    (n : Lengths) (k : Placed) (z y : List ℕ) (u v : ℕ) → 24576 ≤ n .extras → Fits k z y u v → Holds (layout n k z y u v) k u v
+unfolding layout headCells
+layout-holds n k z y u v l f =
     let g = allSegments (k .cues) in
-    let w = used (length (k .params)) (length (k .styles)) (length (k .regions)) (length (k .cues)) (length g) u v (k .«has_lang») (k .lang) in
+    let h = headCells k u v in
+    let w = used (length (k .params)) (length (k .styles)) (length (k .regions)) (length (k .cues)) (length g) u v (k .«has_lang») (k .lang)
+    (replicate (n .head - length h) 0) in
     let a = each sizeIn g in
     let b = each styleSize (k .styles) in
     let e : length a ≤ 16384 = rw (each-many sizeIn g) (f .few-segments) in
@@ -220,14 +225,15 @@ layout-holds k z y u v f =
       regions = reads-here 0 (joinedCells (λ x. regionCells (x .region)) (k .regions)) _;
       cues = reads-here 0 (joinedCells (λ x. cueCells (x .cue)) (k .cues)) _;
       times = reads-here (pos 0) (cueTimes (k .cues)) _;
-      segments = record { cells = reads-here 0 (joinedCells cellsIn g) _; times = reads-here (pos 0) (each timeIn g) _; sizes = sizes-first 16384 256 a b e };
-      sizes = sizes-next 16384 256 a b e;
-      extras = laid-extras k (replicate 24576 0) (length-replicate {A = ℕ} 24576 0) (rows-sit k z y u v f) (f .apart);
+      segments = record { cells = reads-here 0 (joinedCells cellsIn g) _; times = reads-here (pos 0) (each timeIn g) _; sizes = sizes-first 16384 (n .sizes - 16384) a b e };
+      sizes = sizes-next 16384 (n .sizes - 16384) a b e;
+      extras = laid-extras k (replicate (n .extras) 0) (omega (arith, length-replicate {A = ℕ} (n .extras) 0)) (rows-sit k z y u v f) (f .apart);
     }
 
-pub layout-means : (k : Placed) (z y : List ℕ) (u v : ℕ) → Fits k z y u v → trackIn (layout k z y u v) ≡ some (shown k z y)
+pub layout-means :
+    (n : Lengths) (k : Placed) (z y : List ℕ) (u v : ℕ) → 24576 ≤ n .extras → Fits k z y u v → trackIn (layout n k z y u v) ≡ some (shown k z y)
 unfolding layout
-layout-means k z y u v f = means (layout k z y u v) k u v (layout-holds k z y u v f) f
+layout-means n k z y u v l f = means (layout n k z y u v) k u v (layout-holds n k z y u v l f) f
 
 -- ---- the check of a handed track
 filled-long : {A : Type 0} (d : A) (n : ℕ) (l : List A) → n ≤ length (l ++ replicate (n - length l) d)
@@ -238,30 +244,31 @@ filled-long d n l =
 sizes-long : (n m : ℕ) (a b : List Float) → n + m ≤ length (filledSizes n a ++ filledSizes m b)
 sizes-long n m a b = omega (arith, length-append (filledSizes n a) (filledSizes m b), filled-long zeroFloat n a, filled-long zeroFloat m b)
 
-head-long : (a b c d e u v : ℕ) (o : Bool) (x : Span) → 10 ≤ length (a ∷ b ∷ c ∷ d ∷ e ∷ (optionalCells o x ++ (u ∷ v ∷ [])))
-head-long a b c d e u v o x = omega (arith, length-append (optionalCells o x) (u ∷ v ∷ []), optional-long o x)
-
-module _ (k : Placed) (z y : List ℕ) (u v : ℕ) (hz : 65536 ≤ length z) (hy : 65536 ≤ length y) where
-  pub layout-full : isFull (layout k z y u v) ≡ true
-  unfolding layout isFull rowsFull restFull
-  layout-full =
+-- where the lengths are long enough, the tables are
+module _ (n : Lengths) (k : Placed) (z y : List ℕ) (u v : ℕ) (m : LongEnough n) (hz : n .strings ≤ length z) (hy : n .texts ≤ length y) where
+  pub layout-long : LongEnough (lengths (layout n k z y u v))
+  unfolding layout
+  layout-long =
       let g = allSegments (k .cues) in
-      let x : 24576 ≤ length (extrasLaid k (replicate 24576 0)) = omega (arith, laid-long k (replicate 24576 0), length-replicate {A = ℕ} 24576 0) in
-      rw (
-        le-leb 10 _ (head-long (length (k .params)) (length (k .styles)) (length (k .regions)) (length (k .cues)) (length g) u v (k .«has_lang») (k .lang)),
-        le-leb 256 _ (filled-long 0 256 (joinedCells paramCells (k .params))),
-        le-leb 6912 _ (filled-long 0 6912 (joinedCells (λ x. styleCells (x .style)) (k .styles))),
-        le-leb 1024 _ (filled-long 0 1024 (joinedCells (λ x. regionCells (x .region)) (k .regions))),
-        le-leb 22528 _ (filled-long 0 22528 (joinedCells (λ x. cueCells (x .cue)) (k .cues))),
-        le-leb 131072 _ (filled-long 0 131072 (joinedCells cellsIn g)),
-        le-leb 24576 _ x,
-        le-leb 4096 _ (filled-long (pos 0) 4096 (cueTimes (k .cues))),
-        le-leb 16384 _ (filled-long (pos 0) 16384 (each timeIn g)),
-        le-leb 16640 _ (sizes-long 16384 256 (each sizeIn g) (each styleSize (k .styles))),
-        le-leb 65536 (length z) hz,
-        le-leb 65536 (length y) hy,
-      )
+      let x : n .extras ≤ length (extrasLaid k (replicate (n .extras) 0)) =
+      omega (arith, laid-long k (replicate (n .extras) 0), length-replicate {A = ℕ} (n .extras) 0) in
+      record {
+        head = omega (arith, m .head, filled-long 0 (n .head) (headCells k u v));
+        params = omega (arith, m .params, filled-long 0 (n .params) (joinedCells paramCells (k .params)));
+        styles = omega (arith, m .styles, filled-long 0 (n .styles) (joinedCells (λ x. styleCells (x .style)) (k .styles)));
+        regions = omega (arith, m .regions, filled-long 0 (n .regions) (joinedCells (λ x. regionCells (x .region)) (k .regions)));
+        cues = omega (arith, m .cues, filled-long 0 (n .cues) (joinedCells (λ x. cueCells (x .cue)) (k .cues)));
+        times = omega (arith, m .times, filled-long (pos 0) (n .times) (cueTimes (k .cues)));
+        segments = omega (arith, m .segments, filled-long 0 (n .segments) (joinedCells cellsIn g));
+        reveal = omega (arith, m .reveal, filled-long (pos 0) (n .reveal) (each timeIn g));
+        sizes = omega (arith, m .sizes, sizes-long 16384 (n .sizes - 16384) (each sizeIn g) (each styleSize (k .styles)));
+        extras = omega (arith, m .extras, x);
+        strings = omega (arith, m .strings, hz);
+        texts = omega (arith, m .texts, hy);
+      }
 
-  pub layout-checked : Fits k z y u v → checkOf (layout k z y u v) ≡ Check.Track
-  unfolding layout checkOf
-  layout-checked f = rw (layout-full, tested (layout k z y u v) k u v (layout-holds k z y u v f) f)
+  pub layout-checked : Fits k z y u v → checkOf (layout n k z y u v) ≡ Check.Track
+  unfolding layout
+  layout-checked f =
+      let T = layout n k z y u v in
+      check-track T (long-full T layout-long) (tested T k u v (layout-holds n k z y u v (omega (arith, m .extras)) f) f)

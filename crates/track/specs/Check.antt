@@ -1,29 +1,37 @@
--- What the check of a handed track answers. Definitions alone.
-use Prim.Native.Nat.{ℕ, _+_, _*_}
-use mathlib.Core.Bool.{Bool, cond, _&&_}
-use lib.ListN.{length}
-use lib.Dec.{leb}
+-- What `check_track` promises: of the tables, and of the answer. Definitions alone.
+use Prim.Native.Nat.{ℕ, _<_}
+use mathlib.Core.Path.{_≡_}
+use mathlib.Core.Logic.{_↔_}
+use mathlib.Core.Option.{none, some}
 use Rattle.track.specs.declared.check.Check.{Check}
-use Rattle.track.specs.Tables.{Tables}
-use Rattle.track.specs.Meaning.{isTrack, bytesMean, rowsMean}
+use Rattle.track.specs.declared.check.Check.the-variants.{Track, Refused}
+use Rattle.track.specs.Track.{Bytes}
+use Rattle.track.specs.Track as track
+use Rattle.track.specs.Tables.{Tables, lengths, LongEnough}
+use Rattle.track.specs.Meaning.{trackIn}
 
-abbrev pub refusedAs : ℕ → Check
-refusedAs n = Check.Refused (record { number = n; place = 0 })
+-- ---- the answer: a track has no number, here 0
+unfoldable pub numberOf : Check → ℕ
+numberOf Track = 0
+numberOf (Refused r) = r .number
 
--- "1. A lent table is shorter than its fixed length."
-unfoldable pub rowsFull : (head params styles regions cues segments extras : ℕ) → Bool
-rowsFull h p s r c g e = leb 10 h && leb 256 p && leb 6912 s && leb 1024 r && leb 22528 c && leb 131072 g && leb 24576 e
+unfoldable pub placeOf : Check → ℕ
+placeOf Track = 0
+placeOf (Refused r) = r .place
 
-unfoldable pub restFull : (times reveal sizes strings texts : ℕ) → Bool
-restFull t r f z y = leb 4096 t && leb 16384 r && leb 16640 f && leb 65536 z && leb 65536 y
+abbrev pub Says : Check → (number place : ℕ) → Type 0
+Says answer n p = (numberOf answer ≡ n) × (placeOf answer ≡ p)
 
-unfoldable pub isFull : Tables → Bool
-unfolding rowsFull restFull
-isFull T =
-    rowsFull (length (T .head)) (length (T .params)) (length (T .styles)) (length (T .regions)) (length (T .cues)) (length (T .segments)) (length (T .extras))
-    && restFull (length (T .times)) (length (T .reveal)) (length (T .sizes)) (length (T .strings)) (length (T .texts))
+-- ---- what is turned away; "for a handed track 17 comes after" 1, and its place is 0
+pub data TurnsAway (T : Tables) : (number place : ℕ) → Type 0 where
+  -- "1. A lent table is shorter than its fixed length."
+  short-table : ¬ LongEnough (lengths T) → TurnsAway T 1 0
+  -- "17. A handed track has …": the tables mean none
+  no-track : LongEnough (lengths T) → trackIn T ≡ none → TurnsAway T 17 0
 
--- 17 comes after 1
-unfoldable pub checkOf : Tables → Check
-unfolding isFull isTrack
-checkOf T = cond (isFull T) (cond (isTrack T) Check.Track (refusedAs 17)) (refusedAs 1)
+-- ---- the promise
+pub record Checked (T : Tables) (answer : Check) : Type 0 where
+  -- it answers without a number exactly if the tables are long enough and mean a track
+  pub taken : (answer ≡ Track) ↔ (LongEnough (lengths T) × ((t : track.Track Bytes) × (trackIn T ≡ some t)))
+  -- and else with that number and place, and with no other
+  pub refused : (n p : ℕ) → 0 < n → Says answer n p ↔ TurnsAway T n p

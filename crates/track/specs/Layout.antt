@@ -23,7 +23,7 @@ use Rattle.track.specs.declared.values.Region.{Region}
 use Rattle.track.specs.declared.values.Cue.{Cue}
 use Rattle.track.specs.Track.{Wrapper, Segments, segmentRows}
 use Rattle.track.specs.Track as track
-use Rattle.track.specs.Tables.{Tables, zeroFloat}
+use Rattle.track.specs.Tables.{Tables, Lengths, zeroFloat}
 
 -- ---- cells of a row
 abbrev pub flag : Bool → ℕ
@@ -238,24 +238,29 @@ abbrev pub cueTimes : List PlacedCue → List ℤ
 cueTimes [] = []
 cueTimes (x ∷ l) = x .cue .start ∷ x .cue .end ∷ cueTimes l
 
--- the tables, as long as they must be; z and y are the byte tables, of which u and v bytes are used
-unfoldable pub layout : Placed → (z y : List ℕ) (u v : ℕ) → Tables
-unfolding joinedCells each allSegments paramCells styleCells regionCells cueCells segmentCells segmentTime segmentSize styleExtras regionExtras cueExtras
-layout k z y u v =
+-- counts, xml:lang, and how many bytes of the byte tables are used
+unfoldable pub headCells : Placed → (u v : ℕ) → List ℕ
+unfolding allSegments
+headCells k u v =
+    length (k .params) ∷ length (k .styles) ∷ length (k .regions) ∷ length (k .cues) ∷ length (allSegments (k .cues))
+    ∷ (optionalCells (k .«has_lang») (k .lang) ++ (u ∷ v ∷ []))
+
+-- the tables, so long each; z and y are the byte tables, of which u and v bytes are used
+unfoldable pub layout : Lengths → Placed → (z y : List ℕ) (u v : ℕ) → Tables
+unfolding joinedCells each allSegments headCells paramCells styleCells regionCells cueCells segmentCells segmentTime segmentSize styleExtras regionExtras cueExtras
+layout n k z y u v =
     let g = allSegments (k .cues) in
     record {
-      head =
-          length (k .params) ∷ length (k .styles) ∷ length (k .regions) ∷ length (k .cues) ∷ length g
-          ∷ (optionalCells (k .«has_lang») (k .lang) ++ (u ∷ v ∷ []));
-      params = filled 256 (joinedCells paramCells (k .params));
-      styles = filled 6912 (joinedCells (λ x. styleCells (x .style)) (k .styles));
-      regions = filled 1024 (joinedCells (λ x. regionCells (x .region)) (k .regions));
-      cues = filled 22528 (joinedCells (λ x. cueCells (x .cue)) (k .cues));
-      times = filledTimes 4096 (cueTimes (k .cues));
-      segments = filled 131072 (joinedCells (λ x. segmentCells (x .segment) (x .rows)) g);
-      reveal = filledTimes 16384 (each (λ x. segmentTime (x .segment)) g);
-      sizes = filledSizes 16384 (each (λ x. segmentSize (x .segment)) g) ++ filledSizes 256 (each styleSize (k .styles));
-      extras = cueExtras (regionExtras (styleExtras (replicate 24576 0) (k .styles)) (k .regions)) (k .cues);
+      head = filled (n .head) (headCells k u v);
+      params = filled (n .params) (joinedCells paramCells (k .params));
+      styles = filled (n .styles) (joinedCells (λ x. styleCells (x .style)) (k .styles));
+      regions = filled (n .regions) (joinedCells (λ x. regionCells (x .region)) (k .regions));
+      cues = filled (n .cues) (joinedCells (λ x. cueCells (x .cue)) (k .cues));
+      times = filledTimes (n .times) (cueTimes (k .cues));
+      segments = filled (n .segments) (joinedCells (λ x. segmentCells (x .segment) (x .rows)) g);
+      reveal = filledTimes (n .reveal) (each (λ x. segmentTime (x .segment)) g);
+      sizes = filledSizes 16384 (each (λ x. segmentSize (x .segment)) g) ++ filledSizes (n .sizes - 16384) (each styleSize (k .styles));
+      extras = cueExtras (regionExtras (styleExtras (replicate (n .extras) 0) (k .styles)) (k .regions)) (k .cues);
       strings = z;
       texts = y;
     }

@@ -1,10 +1,10 @@
 -- The tables that hold a track, and what their cells say (docs/TABLES.md has the same for callers). Whether the cells say anything is
 -- `Meaning`. Definitions alone.
-use Prim.Native.Nat.{ℕ, zero, suc, _+_, _-_, _*_}
+use Prim.Native.Nat.{ℕ, zero, suc, _+_, _-_, _*_, _≤_}
 use mathlib.Core.Bool.{Bool, true, false, cond, not}
 use mathlib.Core.List.{List, [], _∷_}
 use mathlib.Core.Option.{Option, none, some}
-use lib.ListN.{getD}
+use lib.ListN.{length, getD}
 use lib.Dec.{eqb}
 use lib.IntN.{ℤ, pos}
 use lib.Ieee.{Float, fin}
@@ -37,6 +37,70 @@ pub record Tables : Type 0 where
   pub extras : List ℕ
   pub strings : List ℕ
   pub texts : List ℕ
+
+abbrev pub tables :
+    (head params styles regions cues : List ℕ) (times : List ℤ) (segments : List ℕ) (reveal : List ℤ) (sizes : List Float)
+    (extras strings texts : List ℕ) → Tables
+tables h p s r c m g v f e z y = record {
+  head = h;
+  params = p;
+  styles = s;
+  regions = r;
+  cues = c;
+  times = m;
+  segments = g;
+  reveal = v;
+  sizes = f;
+  extras = e;
+  strings = z;
+  texts = y;
+}
+
+-- how long each is
+pub record Lengths : Type 0 where
+  pub head : ℕ
+  pub params : ℕ
+  pub styles : ℕ
+  pub regions : ℕ
+  pub cues : ℕ
+  pub times : ℕ
+  pub segments : ℕ
+  pub reveal : ℕ
+  pub sizes : ℕ
+  pub extras : ℕ
+  pub strings : ℕ
+  pub texts : ℕ
+
+abbrev pub lengths : Tables → Lengths
+lengths T = record {
+  head = length (T .head);
+  params = length (T .params);
+  styles = length (T .styles);
+  regions = length (T .regions);
+  cues = length (T .cues);
+  times = length (T .times);
+  segments = length (T .segments);
+  reveal = length (T .reveal);
+  sizes = length (T .sizes);
+  extras = length (T .extras);
+  strings = length (T .strings);
+  texts = length (T .texts);
+}
+
+-- the fixed lengths: document 01's limits, each times the cells of a row; and a byte for each byte of a text
+pub record LongEnough (n : Lengths) : Type 0 where
+  pub head : 10 ≤ n .head
+  pub params : 256 ≤ n .params
+  pub styles : 6912 ≤ n .styles
+  pub regions : 1024 ≤ n .regions
+  pub cues : 22528 ≤ n .cues
+  pub times : 4096 ≤ n .times
+  pub segments : 131072 ≤ n .segments
+  pub reveal : 16384 ≤ n .reveal
+  pub sizes : 16640 ≤ n .sizes
+  pub extras : 24576 ≤ n .extras
+  pub strings : 65536 ≤ n .strings
+  pub texts : 65536 ≤ n .texts
 
 -- cell j of row i in a table of rows of w cells
 unfoldable pub cell : ℕ → List ℕ → ℕ → ℕ → ℕ

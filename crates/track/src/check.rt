@@ -2,9 +2,10 @@
 ghost use mathlib.Core.Path.{_≡_};
 ghost use Prim.Native.Nat.{_+_, _*_, _≤_};
 ghost use lib.ListN.{length, getD};
-ghost use Rattle.track.specs.Tables.{Tables};
+ghost use Rattle.track.specs.Tables.{tables};
 ghost use Rattle.track.specs.Meaning.{withinLimits, isUtf8, bytesMean, rowsMean};
-ghost use Rattle.track.specs.Check.{refusedAs, rowsFull, restFull, checkOf};
+ghost use Rattle.track.specs.Steps.{refusedAs, rowsFull, restFull};
+ghost use Rattle.track.specs.Check.{Checked};
 use crate::cells::CUES;
 use crate::cells::EXTRAS;
 use crate::cells::PARAMS;
@@ -139,8 +140,10 @@ fn rows_mean(
     extras: &[u32],
     strings: &[u8],
 ) -> bool
-    requires { ⌜ (10 ≤ length (now head)) × (getD (now head) 0 0 * 4 ≤ length (now params)) × (getD (now head) 1 0 * 27 ≤ length (now styles)) × (getD (now head) 2 0 * 4 ≤ length (now regions)) × (16384 + getD (now head) 1 0 ≤ length (now sizes)) × (24576 ≤ length (now extras)) ⌝ }
-    ensures { λ r. ⌜ r ≡ rowsMean (now (head .entry)) (now (params .entry)) (now (styles .entry)) (now (regions .entry)) (now (sizes .entry)) (now (extras .entry)) (now (strings .entry)) ⌝ }
+    requires { ⌜ (10 ≤ length (now head)) × (getD (now head) 0 0 * 4 ≤ length (now params)) × (getD (now head) 1 0 * 27 ≤ length (now styles))
+        × (getD (now head) 2 0 * 4 ≤ length (now regions)) × (16384 + getD (now head) 1 0 ≤ length (now sizes)) × (24576 ≤ length (now extras)) ⌝ }
+    ensures { λ r. ⌜ r ≡ rowsMean (now (head .entry)) (now (params .entry)) (now (styles .entry)) (now (regions .entry)) (now (sizes .entry))
+        (now (extras .entry)) (now (strings .entry)) ⌝ }
 {
     if !crate::params::are_params(params, strings, scan::get(head, 0)) {
         return false;
@@ -166,7 +169,9 @@ pub fn check_track(
     strings: &[u8],
     texts: &[u8],
 ) -> Check
-    ensures { λ r. ⌜ r ≡ checkOf (record { head = now (head .entry); params = now (params .entry); styles = now (styles .entry); regions = now (regions .entry); cues = now (cues .entry); times = now (times .entry); segments = now (segments .entry); reveal = now (reveal .entry); sizes = now (sizes .entry); extras = now (extras .entry); strings = now (strings .entry); texts = now (texts .entry) }) ⌝ }
+    ensures { λ r. ⌜ Checked (tables (now (head .entry)) (now (params .entry)) (now (styles .entry)) (now (regions .entry)) (now (cues .entry))
+        (now (times .entry)) (now (segments .entry)) (now (reveal .entry)) (now (sizes .entry)) (now (extras .entry)) (now (strings .entry))
+        (now (texts .entry))) r ⌝ }
 {
     if !rows_full(
         head.len(),

@@ -18,7 +18,7 @@ use Rattle.track.specs.Track.{Segments}
 use Rattle.track.specs.Track as track
 use Rattle.track.specs.Tables.{Tables, cell, segmentAt, segmentsAt, cueAt, cueCount, segmentCount, textsUsed}
 use Rattle.track.specs.Meaning.{isTrack, areSegments, segmentsIn, cueIn}
-use Rattle.track.specs.Check.{rowsFull, restFull, isFull}
+use Rattle.track.specs.Steps.{rowsFull, restFull, isFull}
 use Rattle.track.proofs.Spans.{span-within}
 use Rattle.track.proofs.StringLaws.{string-used}
 use Rattle.track.proofs.SegmentLaws.{walk, Holds, segment-holds}

@@ -3,7 +3,7 @@ use mathlib.Core.Path.{sym, _∙_}
 use native.Mathlib.Omega.{arith}
 use lib.Seq.{length-take-le}
 use Rattle.track.proofs.Chains.{fails, holds}
-use Rattle.track.proofs.Exactly.{check-short, check-none, check-track}
+use Rattle.track.proofs.Exactly.{promised, check-short, check-none, check-track}
 use Rattle.track.proofs.Answers.{rows-long, rest-long, limits-low, full-rows, full-rest, full-is, track-limits, track-bytes, track-rows, track-cues, track-is}
 use borrow.Author.Needs.{needs}
 use Rattle.track.proofs.check.check_track.Statement.{statement}
@@ -17,7 +17,7 @@ refused-requires c κs = search needs
 
 returns : tie.Need-returns
 returns c =
-    c .refused .ensures ∙ sym (check-short _ (full-rows _ (fails (c .before .before .rows-full .ensures) (c .before .if1 .taken))))
+    promised _ (c .refused .ensures ∙ sym (check-short _ (full-rows _ (fails (c .before .before .rows-full .ensures) (c .before .if1 .taken)))))
 
 rest-full-requires : tie.Need-rest-full-requires
 rest-full-requires c κs = search needs
@@ -28,7 +28,7 @@ refused-requires-2 c κs = search needs
 returns-2 : tie.Need-returns-2
 returns-2 c =
     let r = (holds (c .before .before .before .before .rows-full .ensures) (c .before .before .before .if1 .left)) in
-    c .refused2 .ensures ∙ sym (check-short _ (full-rest _ r (fails (c .before .before .rest-full .ensures) (c .before .if2 .taken))))
+    promised _ (c .refused2 .ensures ∙ sym (check-short _ (full-rest _ r (fails (c .before .before .rest-full .ensures) (c .before .if2 .taken)))))
 
 within-limits-requires : tie.Need-within-limits-requires
 within-limits-requires c κs =
@@ -41,7 +41,7 @@ returns-3 : tie.Need-returns-3
 returns-3 c =
     let r = (holds (c .before .before .before .before .before .before .rows-full .ensures) (c .before .before .before .before .before .if1 .left)) in
     let s = (holds (c .before .before .before .before .rest-full .ensures) (c .before .before .before .if2 .left)) in
-    c .refused3 .ensures ∙ sym (check-none _ (full-is _ r s) (track-limits _ (fails (c .before .before .within-limits .ensures) (c .before .if3 .taken))))
+    promised _ (c .refused3 .ensures ∙ sym (check-none _ (full-is _ r s) (track-limits _ (fails (c .before .before .within-limits .ensures) (c .before .if3 .taken)))))
 
 get-requires : tie.Need-get-requires
 get-requires c κs =
@@ -84,7 +84,7 @@ returns-4 c =
     let s = (holds (d .before .before .before .before .before .rest-full .ensures) (d .before .before .before .before .if2 .left)) in
     let w = (holds (d .before .before .before .within-limits .ensures) (d .before .before .if3 .left)) in
     let b = rw (d .before .get .ensures, d .get2 .ensures) at (fails (c .before .before .bytes-mean .ensures) (c .before .if4 .taken)) in
-    c .refused4 .ensures ∙ sym (check-none _ (full-is _ r s) (track-bytes _ w b))
+    promised _ (c .refused4 .ensures ∙ sym (check-none _ (full-is _ r s) (track-bytes _ w b)))
 
 slice-aggregate-rows-mean : tie.Need-slice-aggregate-rows-mean
 slice-aggregate-rows-mean c =
@@ -114,7 +114,7 @@ returns-5 c =
     let w = (holds (e .before .before .before .within-limits .ensures) (e .before .before .if3 .left)) in
     let b = rw (e .before .get .ensures, e .get2 .ensures) at (holds (d .before .bytes-mean .ensures) (d .if4 .left)) in
     let p = rw (e .before .get .ensures) at (fails (c .before .before .rows-mean .ensures) (c .before .if5 .taken)) in
-    c .refused5 .ensures ∙ sym (check-none _ (full-is _ r s) (track-rows _ w b p))
+    promised _ (c .refused5 .ensures ∙ sym (check-none _ (full-is _ r s) (track-rows _ w b p)))
 
 get-requires-3 : tie.Need-get-requires-3
 get-requires-3 c κs =
@@ -169,7 +169,7 @@ returns-6 c =
     let b = rw (f .before .get .ensures, f .get2 .ensures) at (holds (e .before .bytes-mean .ensures) (e .if4 .left)) in
     let p = rw (f .before .get .ensures) at (holds (d .before .rows-mean .ensures) (d .if5 .left)) in
     let q = rw (f .before .get .ensures, f .get2 .ensures, c .before .before .before .before .before .before .get3 .ensures, c .before .before .before .before .before .get4 .ensures) at (fails (c .before .before .are-cues .ensures) (c .before .if6 .taken)) in
-    c .refused6 .ensures ∙ sym (check-none _ (full-is _ r s) (track-cues _ w b p q))
+    promised _ (c .refused6 .ensures ∙ sym (check-none _ (full-is _ r s) (track-cues _ w b p q)))
 
 returns-7 : tie.Need-returns-7
 returns-7 c =
@@ -182,7 +182,7 @@ returns-7 c =
     let b = rw (f .before .get .ensures, f .get2 .ensures) at (holds (e .before .bytes-mean .ensures) (e .if4 .left)) in
     let p = rw (f .before .get .ensures) at (holds (d .before .rows-mean .ensures) (d .if5 .left)) in
     let q = rw (f .before .get .ensures, f .get2 .ensures, c .before .before .before .before .before .get3 .ensures, c .before .before .before .before .get4 .ensures) at (holds (c .before .are-cues .ensures) (c .if6 .left)) in
-    sym (check-track _ (full-is _ r s) (track-is _ w b p q))
+    promised _ (sym (check-track _ (full-is _ r s) (track-is _ w b p q)))
 
 pub check-track-spec : {M : Type 1} → statement M
 check-track-spec =

@@ -1,7 +1,7 @@
 -- `rest_full` meets its contract: the tests in their order.
 use native.Mathlib.Omega.{arith}
 use borrow.Author.Tests.{le-leb, lt-leb}
-use Rattle.track.specs.Check.{restFull}
+use Rattle.track.specs.Steps.{restFull}
 use borrow.Author.Needs.{needs}
 use Rattle.track.proofs.check.rest_full.Statement.{statement}
 use Rattle.track.proofs.check.rest_full.Tie as tie

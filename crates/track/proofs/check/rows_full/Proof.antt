@@ -1,7 +1,7 @@
 -- `rows_full` meets its contract: the tests in their order.
 use native.Mathlib.Omega.{arith}
 use borrow.Author.Tests.{le-leb, lt-leb}
-use Rattle.track.specs.Check.{rowsFull}
+use Rattle.track.specs.Steps.{rowsFull}
 use borrow.Author.Needs.{needs}
 use Rattle.track.proofs.check.rows_full.Statement.{statement}
 use Rattle.track.proofs.check.rows_full.Tie as tie
