@@ -13,9 +13,9 @@ ghost use Rattle.meaning.specs.Styling.{extraOfStyle, everyExtra, extrasFrom, i
 ghost use Rattle.styling.specs.Posts.{HasRows, OfRows, NameFits, nameAt};
 ghost use Rattle.extras.specs.Kept.{wantedBy, extrasOf, keptIn, FoundFits, keptCells, keptCount, RoomFor, Collected, rowsFrom, Lists};
 ghost use Rattle.extras.specs.Kept.{RowFits, RowsFit, FirstRows, withNote, NumberFits, entryExtra};
-use styling::Found;
 use names::Listed;
 use names::Number;
+use styling::Found;
 use track::Extra;
 use track::Rows;
 use track::Span;
@@ -82,7 +82,8 @@ fn first_rows(
     list: Listed,
     rows: &mut [usize],
 )
-    requires { ⌜ HasRows (now attrs) (now strings) first many × (length (names list) ≤ length (now rows)) × ((i : ℕ) → getD (now rows) i 0 ≡ 0) ⌝ }
+    requires { ⌜ HasRows (now attrs) (now strings) first many × (length (names list) ≤ length (now rows))
+        × ((i : ℕ) → getD (now rows) i 0 ≡ 0) ⌝ }
     ensures { λ _. ⌜ RowsFit (now (attrs .entry)) (now (strings .entry)) (now (rows .exit)) ⌝ }
     ensures { λ _. ⌜ OfRows (now (attrs .entry)) (now (strings .entry)) first many (λ l.
         FirstRows (now (attrs .entry)) (now (strings .entry)) list (now (rows .exit)) l) ⌝ }
@@ -143,7 +144,8 @@ fn keep_all(
     at: usize,
 ) -> usize
     requires { ⌜ RowsFit (now attrs) (now strings) (now rows) × (length (names list) ≤ length (now rows)) × (length (now strings) < 2 ^ 32)
-        × ((l : List (Attr Placed)) × FirstRows (now attrs) (now strings) list (now rows) l × ((at + length (extrasOf list l)) * 3 ≤ length (now extras))) ⌝ }
+        × ((l : List (Attr Placed)) × FirstRows (now attrs) (now strings) list (now rows) l
+        × ((at + length (extrasOf list l)) * 3 ≤ length (now extras))) ⌝ }
     ensures { λ r. ⌜ ((l : List (Attr Placed)) → FirstRows (now (attrs .entry)) (now (strings .entry)) list (now (rows .entry)) l
         → Collected (extrasOf list l) at (now (extras .entry)) (now (extras .exit)) r) ⌝ }
 {

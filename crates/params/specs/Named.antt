@@ -77,4 +77,5 @@ abbrev pub afterFrame : List (Attr Placed) → Bool → Float → Answer TimingC
 afterFrame l has frame = rateOf withPlaces (ascii "tickRate") l >>= ticked has frame
 
 abbrev pub timingOf : List (Attr Placed) → Answer TimingCtx
-timingOf l = rateOf withPlaces (ascii "frameRate") l >>= λ frame. rateOf withPlaces (ascii "tickRate") l >>= λ tick. is (timing frame tick)
+timingOf l =
+    rateOf withPlaces (ascii "frameRate") l >>= λ frame. rateOf withPlaces (ascii "tickRate") l >>= λ tick. is (timing frame tick)

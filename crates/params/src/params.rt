@@ -38,7 +38,8 @@ fn name_at(attrs: &[u32], strings: &[u8], k: usize) -> Span
 
 // Attribute k in the n-th row, if it is a parameter; or there are 64 already.
 fn add_at(attrs: &[u32], strings: &[u8], k: usize, params: &mut [u32], n: usize) -> Added
-    requires { ⌜ NameFits (now attrs) (now strings) k × ValueFits (now attrs) (now strings) k × (length (now strings) < 2 ^ 32) × (256 ≤ length (now params)) ⌝ }
+    requires { ⌜ NameFits (now attrs) (now strings) k × ValueFits (now attrs) (now strings) k × (length (now strings) < 2 ^ 32)
+        × (256 ≤ length (now params)) ⌝ }
     ensures { λ r. ⌜ Adds (now (attrs .entry)) (now (strings .entry)) k (now (params .entry)) (now (params .exit)) n r ⌝ }
 {
     if !is_param_at(attrs, strings, k) {

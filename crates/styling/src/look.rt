@@ -27,14 +27,7 @@ pub struct Tint {
 }
 
 // With these colours and this font.
-fn look_of(
-    attrs: &[u32],
-    strings: &[u8],
-    first: usize,
-    many: usize,
-    tint: Tint,
-    font: Font,
-) -> Look
+fn look_of(attrs: &[u32], strings: &[u8], first: usize, many: usize, tint: Tint, font: Font) -> Look
     requires { ⌜ HasRows (now attrs) (now strings) first many ⌝ }
     ensures { λ r. ⌜ r .family ≡ font .family ⌝ }
     ensures { λ r. ⌜ OfRows (now (attrs .entry)) (now (strings .entry)) first many (λ l.

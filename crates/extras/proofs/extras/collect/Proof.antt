@@ -20,8 +20,7 @@ keep-all-requires c κs =
     let c3 = c .before .before .before in
     let c8 = c3 .before .before .before .before .before in
     let own = c8 .pre .0 in
-    let z = c8 .args .strings .now in
-    (
+    let z = c8 .args .strings .now in (
       c3 .first-rows .ensures .0,
       omega (arith, few-names (c8 .args .list), slice-aggregate-keep-all (c .before)),
       c8 .pre .2,
@@ -41,8 +40,7 @@ returns c =
     let c12 = c7 .before .before .before .before .before in
     let own = c12 .pre .0 in
     let z = c12 .args .strings .now in
-    let mine = lists-from _ (c3 .keep-all .ensures (attrsIn z (own .0)) (c7 .first-rows .ensures .1 (own .0) (own .1))) (c .rows-from .ensures) in
-    (
+    let mine = lists-from _ (c3 .keep-all .ensures (attrsIn z (own .0)) (c7 .first-rows .ensures .1 (own .0) (own .1))) (c .rows-from .ensures) in (
       omega (arith, mine .count, few-extras (c12 .args .list) (own .1)),
       λ l y. lists-from _ (c3 .keep-all .ensures (attrsIn z l) (c7 .first-rows .ensures .1 l y)) (c .rows-from .ensures),
     )

@@ -66,8 +66,7 @@ loop-again c =
     let old = c6 .loop .inv in
     let n = c4 .number-at .ensures in
     let fit : NumberFits (c6 .loop .rows) (c4 .number-at .result) = number-fits (c10 .args .list) (nameAt (c10 .args .attrs .now)
-    (c10 .args .strings .now) (c6 .loop .k)) (c6 .loop .rows) (omega (arith, old .0, c10 .pre .1)) (c4 .number-at .result) n in
-    (
+    (c10 .args .strings .now) (c6 .loop .k)) (c6 .loop .rows) (omega (arith, old .0, c10 .pre .1)) (c4 .number-at .result) n in (
       ap length (c .before .before .note .ensures) ∙ (long-note (c6 .loop .rows) (c4 .number-at .result) _ ∙ old .0),
       fits-on (old .2 (own .0) (own .1)) (c5 .loop-test .taken) (old .1) (c4 .number-at .result) fit _ (c .before .before .note .ensures),
       λ l y. noted-on (old .2 l y) (c5 .loop-test .taken) (c4 .number-at .result) n fit _ (c .before .before .note .ensures),

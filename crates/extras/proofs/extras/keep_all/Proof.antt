@@ -104,10 +104,10 @@ loop-again c =
     let here : c7 .loop .i < length (names (c13 .args .list)) = omega (arith, c8 .count .ensures, c6 .loop-test .taken) in
     let row = (c13 .args .at + c7 .loop .n) * 3 in (
       long-after (c7 .loop .extras) _ row _ (keptCells (c7 .loop .i) (c4 .kept-attr .result)) (c .before .before .keep .ensures .1)
-    (c7 .loop .inv .0),
+          (c7 .loop .inv .0),
       λ l w. kept-on (c7 .loop .inv .1 l w) here (c13 .args .strings .now) (c4 .kept-attr .result) (c4 .kept-attr .ensures .0)
           (entry-extra (c13 .args .attrs .now) (c13 .args .strings .now) (c13 .args .rows .now) (c13 .args .list) l (c7 .loop .i) w here
-    (c4 .kept-attr .ensures .1)) _ (c .before .before .keep .ensures .0) _ (c .before .before .keep .ensures .1),
+          (c4 .kept-attr .ensures .1)) _ (c .before .before .keep .ensures .0) _ (c .before .before .keep .ensures .1),
     )
 
 same-length : tie.Need-same-length Inv-loop μ-loop

@@ -43,11 +43,10 @@ unfolding stringAt
 returns-2 c =
     let c4 = c .before .before .before .before in
     let c5 = c4 .before in
-    let c8 = c5 .before .before .before in
-    (
+    let c8 = c5 .before .before .before in (
       omega (arith, c8 .pre .1 (c5 .if1 .left) .1, c4 .cells .ensures .1, c4 .cells .ensures .2),
       entry-kept (c8 .args .attrs .now) (c8 .args .strings .now) (c8 .args .list) (c8 .args .i) (c8 .args .entry) (c5 .if1 .left) _
-    (c4 .cells .ensures) true (sym (c .before .is-kept .ensures) ∙ c .if2 .taken),
+          (c4 .cells .ensures) true (sym (c .before .is-kept .ensures) ∙ c .if2 .taken),
     )
 
 returns-3 : tie.Need-returns-3
@@ -55,9 +54,11 @@ unfolding stringAt
 returns-3 c =
     let c4 = c .before .before .before .before in
     let c5 = c4 .before in
-    let c8 = c5 .before .before .before in
-    (tt, entry-kept (c8 .args .attrs .now) (c8 .args .strings .now) (c8 .args .list) (c8 .args .i) (c8 .args .entry) (c5 .if1 .left) _
-    (c4 .cells .ensures) false (sym (c .before .is-kept .ensures) ∙ c .if2 .left))
+    let c8 = c5 .before .before .before in (
+      tt,
+      entry-kept (c8 .args .attrs .now) (c8 .args .strings .now) (c8 .args .list) (c8 .args .i) (c8 .args .entry) (c5 .if1 .left) _
+          (c4 .cells .ensures) false (sym (c .before .is-kept .ensures) ∙ c .if2 .left),
+    )
 
 pub kept-attr-spec : {M : Type 1} → statement M
 kept-attr-spec =

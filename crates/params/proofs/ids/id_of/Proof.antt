@@ -35,12 +35,11 @@ returns c =
 returns-2 : tie.Need-returns-2
 unfolding idOf
 returns-2 c =
-    let own = c .before .before .before .before .before .before .before .before .pre in
-    (
+    let own = c .before .before .before .before .before .before .before .before .pre in (
       finds-fits _ _ _ (c .find2 .result) (c .find2 .ensures (own .0) (own .1)),
       λ l y.
-      finds-value _ _ _ (c .find2 .result) (c .find2 .ensures l y)
-      ∙ rw (none-valued (rw (c .before .before .enum-told .given .1) at (c .before .before .before .before .find .ensures l y))),
+          finds-value _ _ _ (c .find2 .result) (c .find2 .ensures l y)
+          ∙ rw (none-valued (rw (c .before .before .enum-told .given .1) at (c .before .before .before .before .find .ensures l y))),
     )
 
 pub id-of-spec : {M : Type 1} → statement M

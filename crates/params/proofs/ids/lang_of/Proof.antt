@@ -14,8 +14,7 @@ seek-requires c κs = search needs
 returns : tie.Need-returns
 unfolding langOf
 returns c =
-    let own = c .before .before .before .before .pre in
-    (
+    let own = c .before .before .before .before .pre in (
       meets-fits _ _ _ (c .seek .result) (c .seek .ensures (own .0) (own .1)),
       λ l y. meets-value _ _ _ (c .seek .result) (c .seek .ensures l y),
     )

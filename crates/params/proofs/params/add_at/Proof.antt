@@ -26,8 +26,7 @@ add-param-requires : tie.Need-add-param-requires
 add-param-requires c κs =
     let c8 = c .before .before .before .before .before .before .before .before in
     let w = c .before .before .name-at .ensures .within in
-    let h = c .before .cells .ensures in
-    (
+    let h = c .before .cells .ensures in (
       c8 .pre .3,
       (omega (arith, w, c8 .pre .2), omega (arith, w, c8 .pre .2)),
       (omega (arith, h .1, c8 .pre .1, c8 .pre .2), omega (arith, h .2, c8 .pre .1, c8 .pre .2)),

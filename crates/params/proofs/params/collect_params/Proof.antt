@@ -31,8 +31,7 @@ loop-holds c = (refl, omega arith, λ l y. listing-start _ y)
 
 add-at-requires : tie.Need-add-at-requires Inv-loop μ-loop
 add-at-requires c κs =
-    let own = c .before .before .before .before .before .before .pre .0 in
-    (
+    let own = c .before .before .before .before .before .before .pre .0 in (
       row-fits own (λ l y. c .before .before .loop .inv .2 l y .rest) (c .before .loop-test .taken),
       value-fits (c .before .before .loop .inv .2 (own .0) (own .1)) (c .before .loop-test .taken),
       c .before .before .before .before .before .before .pre .1,
@@ -75,8 +74,7 @@ loop-again c =
     let c8 = c7 .before in
     let c12 = c8 .before .before .before .before in
     let a = rw (c .before .m .given .1) at (c5 .add-at .ensures) in
-    let row = placedParams (paramsAt (c12 .args .attrs .now) (c12 .args .strings .now) (c8 .loop .k)) in
-    (
+    let row = placedParams (paramsAt (c12 .args .attrs .now) (c12 .args .strings .now) (c8 .loop .k)) in (
       ap length (a .2) ∙ (length-sets (c8 .loop .params) (c8 .loop .n * 4) row ∙ c8 .loop .inv .0),
       a .1 (c8 .loop .inv .1),
       λ l y. listing-on (c8 .loop .inv .2 l y) (c7 .loop-test .taken) _ (a .0) _ (a .2),

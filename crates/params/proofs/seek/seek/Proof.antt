@@ -13,7 +13,8 @@ use Rattle.params.proofs.seek.seek.Statement.{statement}
 use Rattle.params.proofs.seek.seek.Tie as tie
 
 abbrev Inv-loop : tie.InvT-loop
-Inv-loop attrs strings first many sought name end k₀ k =     (l : List Attr) → Owned attrs strings first many l → Rest (seeking.sought (soughtBy sought name) strings) attrs strings k end l
+Inv-loop attrs strings first many sought name end k₀ k =
+    (l : List Attr) → Owned attrs strings first many l → Rest (seeking.sought (soughtBy sought name) strings) attrs strings k end l
 
 abbrev μ-loop : tie.MeasureT-loop
 μ-loop attrs strings first many sought name end k₀ k = end - k

@@ -32,12 +32,20 @@ enum-known-r c = search needs
 returns : tie.Need-returns
 returns c =
     let c4 = c .before .before .before .before in
-    (c .colored .ensures .0, λ l y. c .colored .ensures .1 l y ∙ look-colored _ _ (rw (c .before .before .c .given .1) at (c4 .color-attr .ensures l y)))
+    let c4 = c4 in (
+      c .colored .ensures .0,
+      λ l y. c .colored .ensures .1 l y
+          ∙ look-colored _ _ (rw (c .before .before .c .given .1) at (c4 .color-attr .ensures l y)),
+    )
 
 returns-2 : tie.Need-returns-2
 returns-2 c =
     let c4 = c .before .before .before .before in
-    (c .colored2 .ensures .0, λ l y. c .colored2 .ensures .1 l y ∙ look-colored _ _ (rw (c .before .before .enum-told .given .1) at (c4 .color-attr .ensures l y)))
+    let c4 = c4 in (
+      c .colored2 .ensures .0,
+      λ l y. c .colored2 .ensures .1 l y
+          ∙ look-colored _ _ (rw (c .before .before .enum-told .given .1) at (c4 .color-attr .ensures l y)),
+    )
 
 returns-3 : tie.Need-returns-3
 returns-3 c = (tt, λ l y. color-refused _ _ (rw (c .before .r .given .1) at (c .before .before .before .color-attr .ensures l y)))
