@@ -23,7 +23,8 @@ use Rattle.colors.specs.declared.read.Rgba.{Rgba}
 use Rattle.colors.specs.declared.read.Color.{Color}
 use Rattle.colors.specs.declared.read.Channel.{Channel}
 use Rattle.colors.specs.Named.{rgba, NamedColor, _means_, colorTable, namedIn}
-use Rattle.colors.specs.Colors.{Small, channelOf, hexChannel, after, once, twice, hexColor, decimalChannel, rgbParts, isRgb, color, colorIn}
+use Rattle.colors.specs.Colors.{channelOf, hexChannel, _>>=_, colorOf, full, once, twice, hexColor, decimalChannel, rgbParts, isRgb, color, colorIn}
+use Rattle.colors.specs.Steps.{Small}
 use Rattle.decimals.specs.declared.read.Digits.{Digits}
 use Rattle.decimals.specs.declared.read.Decimal.{Decimal}
 use Rattle.decimals.specs.Decimal.{decimalOf}
@@ -83,7 +84,7 @@ ColorSmall (Color.Is c) = Channels c
 ColorSmall Color.Nothing = Unit {0}
 ColorSmall Color.Cut = Unit {0}
 
-then-small : (x : Channel) (next : ℕ → Color) → ChannelSmall x → ((n : ℕ) → n < 256 → ColorSmall (next n)) → ColorSmall (after x next)
+then-small : (x : Channel) (next : ℕ → Color) → ChannelSmall x → ((n : ℕ) → n < 256 → ColorSmall (next n)) → ColorSmall (x >>= next)
 then-small (Channel.Is n) next h k = k n h
 then-small Channel.Nothing next h k = tt
 then-small Channel.Cut next h k = tt
@@ -112,15 +113,12 @@ name-small : (s : List ℕ) → ColorSmall (namedIn s colorTable)
 unfolding smallTable
 name-small s = named-small s colorTable refl
 
-three-small : (x y z : Channel) → ChannelSmall x → ChannelSmall y → ChannelSmall z
-    → ColorSmall (after x λ r. after y λ g. after z λ b. Color.Is (rgba r g b 255))
-three-small x y z h i j =
-    then-small x _ h λ r hr. then-small y _ i λ g hg. then-small z _ j λ b hb. (hr, hg, hb, omega arith)
-
-four-small : (x y z w : Channel) → ChannelSmall x → ChannelSmall y → ChannelSmall z → ChannelSmall w
-    → ColorSmall (after x λ r. after y λ g. after z λ b. after w λ a. Color.Is (rgba r g b a))
+four-small : (x y z w : Channel) → ChannelSmall x → ChannelSmall y → ChannelSmall z → ChannelSmall w → ColorSmall (colorOf x y z w)
 four-small x y z w h i j k =
     then-small x _ h λ r hr. then-small y _ i λ g hg. then-small z _ j λ b hb. then-small w _ k λ a ha. (hr, hg, hb, ha)
+
+three-small : (x y z : Channel) → ChannelSmall x → ChannelSmall y → ChannelSmall z → ColorSmall (colorOf x y z full)
+three-small x y z h i j = four-small x y z full h i j (omega arith)
 
 hex-color : (s : List ℕ) → ColorSmall (hexColor s)
 unfolding hexColor
