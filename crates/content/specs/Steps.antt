@@ -230,7 +230,9 @@ module _ (w : Frame) (row : ℕ) (s : Three) (y : List ℕ) (m : Answer (Segment
     pub few : r .rows ≤ 16384
     pub segments : Segments Placed
     pub means : m ≡ is segments
-    pub standing : Standing w (w .limit) row (r .rows) segments s y
+    pub hi : ℕ
+    pub below : hi ≤ w .limit
+    pub standing : Standing w hi row (r .rows) segments s y
 
   abbrev pub ContentOutcome : Collecting → Type 0
   ContentOutcome (Collecting.Is r) = Left r
