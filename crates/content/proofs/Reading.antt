@@ -735,12 +735,13 @@ pub content-asks : {t u z : List ℕ} {from end row : ℕ} {s : Three} {y : List
     → Asks t u z from end (startRun row) s y
 content-asks a = record { roomy = a .roomy; few = a .few; frame = a .frame; entry = content-entry (a .content) }
 
-module _ {t u z : List ℕ} {from end row : ℕ} {base : ℤ} {ctx : TimingCtx} {ws : WsMode} {s : Three} {y : List ℕ} where
-  pub content-no : (s′ : Three) (y′ : List ℕ) (q : Refusal) → Post t u z from end (startRun row) base ctx ws s y s′ y′ (Collecting.Refused q)
-      → (s″ : Three) (y″ : List ℕ) → ContentPost t u z from end row base ctx ws s y s″ y″ (Collecting.Refused q)
-  unfolding contentOf
-  content-no s′ y′ q post s″ y″ w x = bind-no _ (post w (content-entry x))
+pub content-no : {t u z : List ℕ} {from end row : ℕ} {s : Three} {y : List ℕ} (base : ℤ) (ctx : TimingCtx) (ws : WsMode) (s′ : Three) (y′ : List ℕ)
+    (q : Refusal) → Post t u z from end (startRun row) base ctx ws s y s′ y′ (Collecting.Refused q) → (s″ : Three) (y″ : List ℕ)
+    → ContentPost t u z from end row base ctx ws s y s″ y″ (Collecting.Refused q)
+unfolding contentOf
+content-no base ctx ws s′ y′ q post s″ y″ w x = bind-no _ (post w (content-entry x))
 
+module _ {t u z : List ℕ} {from end row : ℕ} {base : ℤ} {ctx : TimingCtx} {ws : WsMode} {s : Three} {y : List ℕ} where
   pub content-ready : (s′ : Three) (y′ : List ℕ) (r : Run) → AsksContent t u z from end row s y
       → Post t u z from end (startRun row) base ctx ws s y s′ y′ (Collecting.Is r) → (row ≤ r .rows) × Ready (s′ .cells) y′ row (r .rows)
   content-ready s′ y′ r a post = break-asks (came-end (post (a .frame) (content-entry (a .content))) .standing)

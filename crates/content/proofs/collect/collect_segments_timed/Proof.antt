@@ -50,7 +50,8 @@ returns c =
     let v = c .before .before .before .before .before .before .before .before .before .before .collect-segments-inner .last .1 .1 .1 in
     let s = three (v .0) (v .1 .0) (v .1 .1 .0) in
     let y = v .1 .1 .1 .0 in
-    content-no s y (c .before .r .given .0 .0) (rw (c .before .r .given .1, toZ-ofZ (c .before .before .before .before .before .before .before .before .before .before .before .before .before .before .before .before .before .before .before .before .before .fits .base)) at (c .before .before .before .before .before .before .before .before .before .before .collect-segments-inner .ensures)) s y
+    let a = c .before .before .before .before .before .before .before .before .before .before .before .before .before .before .before .before .before .before .before .before .before .args in
+    content-no (a .base) (a .ctx) (a .ws) s y (c .before .r .given .0 .0) (rw (c .before .r .given .1, toZ-ofZ (c .before .before .before .before .before .before .before .before .before .before .before .before .before .before .before .before .before .before .before .before .before .fits .base)) at (c .before .before .before .before .before .before .before .before .before .before .collect-segments-inner .ensures)) s y
 
 -- src/collect.rt:408:1
 same-length-5 : tie.Need-same-length-5
