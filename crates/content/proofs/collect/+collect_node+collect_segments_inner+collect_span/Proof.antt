@@ -1,0 +1,704 @@
+use Prim.Native.Nat.{ℕ, _+_, _-_, _*_, _≤_, _<_}
+use mathlib.Core.Path.{_≡_, sym, _∙_}
+use native.Mathlib.Omega.{arith}
+use lib.ListN.{length, getD}
+use mir.Syntax.{w64}
+use mir.Val.{toZ}
+use mir.Facts.{toZ-ofZ}
+use mir.ValLaws as laws
+use borrow.Author.Needs.{needs}
+use Rattle.inline.specs.Wraps.{three}
+use Rattle.content.proofs.Reading.{
+  element-kind,
+  element-end,
+  text-came,
+  break-came,
+  unknown-came,
+  span-refused,
+  span-inside,
+  span-came,
+  node-row,
+  node-end,
+  text-asks,
+  break-asks,
+  node-attrs,
+  own-asks,
+  post-more,
+  Along,
+  along-start,
+  along-asks,
+  along-next,
+  along-step,
+  along-fail,
+  along-done,
+}
+use borrow.Author.Needs.{needs}
+use borrow.Fn.Kinds.{In}
+use borrow.Fn.PlainCycle.{Measures, is, falls, and}
+use Rattle.content.proofs.collect.collect_node.Reads as collect-node
+use Rattle.content.proofs.collect.collect_node.Kinds as collect-node-kinds
+use Rattle.content.proofs.collect.+collect_node+collect_segments_inner+collect_span.Lts-collect_node as collect-node-lts
+use Rattle.content.proofs.collect.collect_segments_inner.Reads as collect-segments-inner
+use Rattle.content.proofs.collect.collect_segments_inner.Kinds as collect-segments-inner-kinds
+use Rattle.content.proofs.collect.+collect_node+collect_segments_inner+collect_span.Lts-collect_segments_inner as collect-segments-inner-lts
+use Rattle.content.proofs.collect.collect_span.Reads as collect-span
+use Rattle.content.proofs.collect.collect_span.Kinds as collect-span-kinds
+use Rattle.content.proofs.collect.+collect_node+collect_segments_inner+collect_span.Lts-collect_span as collect-span-lts
+use Rattle.content.proofs.collect.begin_of.Reads as begin-of-reads
+use Rattle.content.proofs.collect.collect_break.Reads as collect-break-reads
+use Rattle.content.proofs.collect.collect_text.Reads as collect-text-reads
+use Rattle.content.proofs.collect.wrap_with_style.Reads as wrap-with-style-reads
+use Rattle.scan.proofs.get.Reads as get-reads
+use Rattle.styling.proofs.resolve_ws.Reads as resolve-ws-reads
+use Rattle.xml.proofs.element_at.Reads as element-at-reads
+use Rattle.xml.proofs.is_element.Reads as is-element-reads
+use Rattle.content.proofs.collect.+collect_node+collect_segments_inner+collect_span.{
+  statement,
+}
+use Rattle.content.proofs.collect.+collect_node+collect_segments_inner+collect_span.Tie.{
+  close,
+}
+
+abbrev μ-collect-node : Measures 7 collect-node-kinds.ps ℕ
+μ-collect-node κs a = let k = a .1 .1 .1 .1 .1 .1 .1 .0 in 3 * (getD (a .0 .now) (k * 6 + 1) 0 - k) + 1
+
+abbrev μ-collect-segments-inner : Measures 7 collect-segments-inner-kinds.ps ℕ
+μ-collect-segments-inner κs a = 3 * (a .1 .1 .1 .1 .1 .1 .1 .1 .0 - a .1 .1 .1 .1 .1 .1 .1 .0) + 2
+
+abbrev μ-collect-span : Measures 7 collect-span-kinds.ps ℕ
+μ-collect-span κs a = let k = a .1 .1 .1 .1 .1 .1 .1 .0 in 3 * (getD (a .0 .now) (k * 6 + 1) 0 - k)
+
+abbrev collect-node-at : ℕ → In 7 collect-node-kinds.ps
+collect-node-at t =
+    and 7 collect-node-kinds.ps (is 7 collect-node-kinds.ps μ-collect-node t) collect-node.Pre
+
+abbrev collect-node-below : ℕ → In 7 collect-node-kinds.ps
+collect-node-below t =
+    and
+    7
+    collect-node-kinds.ps
+    (falls 7 collect-node-kinds.ps _<_ μ-collect-node t)
+    collect-node.Pre
+
+abbrev collect-segments-inner-at : ℕ → In 7 collect-segments-inner-kinds.ps
+collect-segments-inner-at t =
+    and
+    7
+    collect-segments-inner-kinds.ps
+    (is 7 collect-segments-inner-kinds.ps μ-collect-segments-inner t)
+    collect-segments-inner.Pre
+
+abbrev collect-segments-inner-below : ℕ → In 7 collect-segments-inner-kinds.ps
+collect-segments-inner-below t =
+    and
+    7
+    collect-segments-inner-kinds.ps
+    (falls 7 collect-segments-inner-kinds.ps _<_ μ-collect-segments-inner t)
+    collect-segments-inner.Pre
+
+abbrev collect-span-at : ℕ → In 7 collect-span-kinds.ps
+collect-span-at t =
+    and 7 collect-span-kinds.ps (is 7 collect-span-kinds.ps μ-collect-span t) collect-span.Pre
+
+abbrev collect-span-below : ℕ → In 7 collect-span-kinds.ps
+collect-span-below t =
+    and
+    7
+    collect-span-kinds.ps
+    (falls 7 collect-span-kinds.ps _<_ μ-collect-span t)
+    collect-span.Pre
+
+abbrev node : ℕ → collect-node-lts.Claims
+node t = (collect-text-reads.Asked, collect-text-reads.Learnt, element-at-reads.Asked, element-at-reads.Learnt, is-element-reads.Asked, is-element-reads.Learnt, collect-break-reads.Asked, collect-break-reads.Learnt, collect-span-below t, collect-span.Post, collect-segments-inner-below t, collect-segments-inner.Post)
+
+abbrev siblings : ℕ → collect-segments-inner-lts.Claims
+siblings t = (collect-node-below t, collect-node.Post, get-reads.Asked, get-reads.Learnt)
+
+abbrev span : ℕ → collect-span-lts.Claims
+span t = (element-at-reads.Asked, element-at-reads.Learnt, begin-of-reads.Asked, begin-of-reads.Learnt, resolve-ws-reads.Asked, resolve-ws-reads.Learnt, collect-segments-inner-below t, collect-segments-inner.Post, wrap-with-style-reads.Asked, wrap-with-style-reads.Learnt)
+
+-- src/collect.rt:287:14
+collect-node-mul-if1 : (t : ℕ) → collect-node-lts.Need-mul-if1 (node t) (collect-node-at t) collect-node.Post
+collect-node-mul-if1 t c =
+    let p = c .before .before .before .before .before .before .pre .1 in
+    let h = node-row (p .entry) (p .some) .row in
+    search (needs, h)
+
+-- src/collect.rt:287:8
+collect-node-mul-if1-2 : (t : ℕ) → collect-node-lts.Need-mul-if1-2 (node t) (collect-node-at t) collect-node.Post
+collect-node-mul-if1-2 t c =
+    let p = c .before .before .before .before .before .before .pre .1 in
+    let h = node-row (p .entry) (p .some) .row in
+    search (needs, h)
+
+-- src/collect.rt:287:8
+collect-node-shared-slice-read-if1 : (t : ℕ) → collect-node-lts.Need-shared-slice-read-if1 (node t) (collect-node-at t) collect-node.Post
+collect-node-shared-slice-read-if1 t c =
+    let p = c .before .before .before .before .before .before .before .pre .1 in
+    let h = node-row (p .entry) (p .some) .row in
+    search (needs, h)
+
+-- src/collect.rt:288:9
+collect-node-collect-text-requires : (t : ℕ) → collect-node-lts.Need-collect-text-requires (node t) (collect-node-at t) collect-node.Post
+collect-node-collect-text-requires t c κs =
+    let p = c .before .before .before .before .before .before .before .before .before .before .before .before .pre .1 in
+    (p .roomy, p .few, node-row (p .entry) (p .some) .row, text-asks (p .entry) (p .some) (c .before .before .before .before .if1 .taken))
+
+-- src/collect.rt:288:9
+collect-node-same-length : (t : ℕ) → collect-node-lts.Need-same-length (node t) (collect-node-at t) collect-node.Post
+collect-node-same-length t c = search needs
+
+-- src/collect.rt:288:9
+collect-node-same-length-2 : (t : ℕ) → collect-node-lts.Need-same-length-2 (node t) (collect-node-at t) collect-node.Post
+collect-node-same-length-2 t c = search needs
+
+-- src/collect.rt:288:9
+collect-node-same-length-3 : (t : ℕ) → collect-node-lts.Need-same-length-3 (node t) (collect-node-at t) collect-node.Post
+collect-node-same-length-3 t c = search needs
+
+-- src/collect.rt:288:9
+collect-node-same-length-4 : (t : ℕ) → collect-node-lts.Need-same-length-4 (node t) (collect-node-at t) collect-node.Post
+collect-node-same-length-4 t c = search needs
+
+-- src/collect.rt:288:9
+collect-node-returns : (t : ℕ) → collect-node-lts.Need-returns (node t) (collect-node-at t) collect-node.Post
+collect-node-returns t c =
+    λ w end x j.
+    let a = c .before .before .before .before .before .before .before .before .before .before .before .before .before .before .before .before .before .before .before .before .args in
+    let v = c .before .before .before .before .before .before .before .collect-text .last .1 .1 in
+    text-came w (a .nodes .now) (a .attrs .now) (a .strings .now) (a .base) (a .ctx) (a .ws) (a .k) (x .own) end (a .first) (x .hi) (a .run) (x .earlier)
+    (x .before) (three (a .segments .now) (a .reveal .now) (a .sizes .now)) (a .texts .now) (three (v .0) (v .1 .0) (v .1 .1 .0)) (v .1 .1 .1 .0)
+    (c .before .before .before .before .before .before .before .collect-text .result) (x .forest) (x .holds, x .rows, x .placed, x .standing, x .flag) j (c .before .before .before .before .before .before .before .before .before .before .before .before .if1 .taken) (c .before .before .before .before .before .before .before .collect-text .ensures)
+
+-- src/collect.rt:290:9
+collect-node-element-at-requires : (t : ℕ) → collect-node-lts.Need-element-at-requires (node t) (collect-node-at t) collect-node.Post
+collect-node-element-at-requires t c κs =
+    let p = c .before .before .before .before .before .before .before .before .pre .1 in
+    node-row (p .entry) (p .some) .row
+
+-- src/collect.rt:291:43
+collect-node-slice-aggregate-is-element :
+    (t : ℕ) → collect-node-lts.Need-slice-aggregate-is-element (node t) (collect-node-at t) collect-node.Post
+collect-node-slice-aggregate-is-element t c = search needs
+
+-- src/collect.rt:291:8
+collect-node-is-element-requires : (t : ℕ) → collect-node-lts.Need-is-element-requires (node t) (collect-node-at t) collect-node.Post
+collect-node-is-element-requires t c κs =
+    let p = c .before .before .before .before .before .before .before .before .before .before .pre .1 in
+    node-row (p .entry) (p .some)
+
+-- src/collect.rt:292:9
+collect-node-collect-break-requires : (t : ℕ) → collect-node-lts.Need-collect-break-requires (node t) (collect-node-at t) collect-node.Post
+collect-node-collect-break-requires t c κs =
+    let p = c .before .before .before .before .before .before .before .before .before .before .before .before .before .before .before .before .pre .1 in
+    let b = break-asks (p .entry .standing) in
+    (p .roomy .wide, b .0, b .1)
+
+-- src/collect.rt:292:9
+collect-node-same-length-5 : (t : ℕ) → collect-node-lts.Need-same-length-5 (node t) (collect-node-at t) collect-node.Post
+collect-node-same-length-5 t c = search needs
+
+-- src/collect.rt:292:9
+collect-node-same-length-6 : (t : ℕ) → collect-node-lts.Need-same-length-6 (node t) (collect-node-at t) collect-node.Post
+collect-node-same-length-6 t c = search needs
+
+-- src/collect.rt:292:9
+collect-node-same-length-7 : (t : ℕ) → collect-node-lts.Need-same-length-7 (node t) (collect-node-at t) collect-node.Post
+collect-node-same-length-7 t c = search needs
+
+-- src/collect.rt:292:9
+collect-node-same-length-8 : (t : ℕ) → collect-node-lts.Need-same-length-8 (node t) (collect-node-at t) collect-node.Post
+collect-node-same-length-8 t c = search needs
+
+-- src/collect.rt:292:9
+collect-node-returns-2 : (t : ℕ) → collect-node-lts.Need-returns-2 (node t) (collect-node-at t) collect-node.Post
+collect-node-returns-2 t c =
+    λ w end x j.
+    let a = c .before .before .before .before .before .before .before .before .before .before .before .before .before .before .before .before .before .before .before .before .before .before .before .before .args in
+    let v = c .before .before .before .before .before .before .before .collect-break .last in
+    break-came w (a .nodes .now) (a .attrs .now) (a .strings .now) (a .base) (a .ctx) (a .ws) (a .k) (x .own) end (a .first) (x .hi) (a .run) (x .earlier)
+    (x .before) (three (a .segments .now) (a .reveal .now) (a .sizes .now)) (a .texts .now) (three (v .0) (v .1 .0) (v .1 .1 .0)) (v .1 .1 .1 .0)
+    (c .before .before .before .before .before .before .before .collect-break .result) (x .forest) (x .holds, x .rows, x .placed, x .standing, x .flag) j (c .before .before .before .before .before .before .before .before .before .before .before .before .before .before .before .element-at .result) (c .before .before .before .before .before .before .before .before .before .before .before .before .before .before .before .element-at .ensures)
+    (sym (c .before .before .before .before .before .before .before .before .before .before .before .before .before .is-element .ensures) ∙ c .before .before .before .before .before .before .before .before .before .before .before .before .if2 .taken) (c .before .before .before .before .before .before .before .collect-break .ensures)
+
+-- src/collect.rt:296:43
+collect-node-slice-aggregate-is-element-2 :
+    (t : ℕ) → collect-node-lts.Need-slice-aggregate-is-element-2 (node t) (collect-node-at t) collect-node.Post
+collect-node-slice-aggregate-is-element-2 t c = search needs
+
+-- src/collect.rt:296:8
+collect-node-is-element-requires-2 : (t : ℕ) → collect-node-lts.Need-is-element-requires-2 (node t) (collect-node-at t) collect-node.Post
+collect-node-is-element-requires-2 t c κs =
+    let p = c .before .before .before .before .before .before .before .before .before .before .before .before .before .pre .1 in
+    node-row (p .entry) (p .some)
+
+-- src/collect.rt:297:9
+collect-node-collect-span-requires : (t : ℕ) → collect-node-lts.Need-collect-span-requires (node t) (collect-node-at t) collect-node.Post
+collect-node-collect-span-requires t c κs =
+    let p = c .before .before .before .before .before .before .before .before .before .before .before .before .before .before .before .before .before .before .before .pre .1 in
+    (
+      omega (arith, c .before .before .before .before .before .before .before .before .before .before .before .before .before .before .before .before .before .before .before .pre .0),
+      record {
+        first = c .before .before .before .before .before .before .before .before .before .before .before .before .before .before .before .before .before .before .before .args .first;
+        node = p;
+        no-break = sym (c .before .before .before .before .before .before .before .before .is-element .ensures) ∙ c .before .before .before .before .before .before .before .if2 .left;
+        a-span = sym (c .before .before .before .before .before .is-element2 .ensures) ∙ c .before .before .before .before .if3 .taken;
+      },
+    )
+
+-- src/collect.rt:297:9
+collect-node-same-length-9 : (t : ℕ) → collect-node-lts.Need-same-length-9 (node t) (collect-node-at t) collect-node.Post
+collect-node-same-length-9 t c = search needs
+
+-- src/collect.rt:297:9
+collect-node-same-length-10 : (t : ℕ) → collect-node-lts.Need-same-length-10 (node t) (collect-node-at t) collect-node.Post
+collect-node-same-length-10 t c = search needs
+
+-- src/collect.rt:297:9
+collect-node-same-length-11 : (t : ℕ) → collect-node-lts.Need-same-length-11 (node t) (collect-node-at t) collect-node.Post
+collect-node-same-length-11 t c = search needs
+
+-- src/collect.rt:297:9
+collect-node-same-length-12 : (t : ℕ) → collect-node-lts.Need-same-length-12 (node t) (collect-node-at t) collect-node.Post
+collect-node-same-length-12 t c = search needs
+
+-- src/collect.rt:297:9
+collect-node-returns-3 : (t : ℕ) → collect-node-lts.Need-returns-3 (node t) (collect-node-at t) collect-node.Post
+collect-node-returns-3 t c =
+    let s = c .before .before .before .before .before .before .before .before .before .before .before .before .before .before .before .before .before .before .before .before .before .before .before .before .before .before .before in
+    rw (toZ-ofZ (s .fits .base)) at (c .before .before .before .before .before .before .before .collect-span .ensures) (s .args .first)
+
+-- src/collect.rt:309:9
+collect-node-add-collect-segments-inner :
+    (t : ℕ) → collect-node-lts.Need-add-collect-segments-inner (node t) (collect-node-at t) collect-node.Post
+collect-node-add-collect-segments-inner t c =
+    let p = c .before .before .before .before .before .before .before .before .before .before .before .before .before .before .before .before .before .before .before .pre .1 in
+    let h = node-row (p .entry) (p .some) .row in
+    search (needs, h)
+
+-- src/collect.rt:301:5
+collect-node-collect-segments-inner-requires :
+    (t : ℕ) → collect-node-lts.Need-collect-segments-inner-requires (node t) (collect-node-at t) collect-node.Post
+collect-node-collect-segments-inner-requires t c κs =
+    let p = c .before .before .before .before .before .before .before .before .before .before .before .before .before .before .before .before .before .before .before .pre .1 in
+    let k = c .before .before .before .before .before .before .before .before .before .before .before .before .before .before .before .before .before .before .before .args .k in
+    let e = element-end (c .before .before .before .before .before .before .before .before .before .before .before .before .before .before .before .before .before .before .before .args .nodes .now) k (c .before .before .before .before .before .before .before .before .before .before .element-at .result) (c .before .before .before .before .before .before .before .before .before .before .element-at .ensures) in
+    let falls : 3 * (c .before .before .before .before .before .before .before .before .before .before .element-at .result .end - (k + 1)) + 2 < t = omega (arith, c .before .before .before .before .before .before .before .before .before .before .before .before .before .before .before .before .before .before .before .pre .0, node-end (p .entry) (p .some) .0, e) in
+    (falls, own-asks (c .before .before .before .before .before .before .before .before .before .before .element-at .result) p (c .before .before .before .before .before .before .before .before .before .before .before .if1 .left) (c .before .before .before .before .before .before .before .before .before .before .element-at .ensures))
+
+-- src/collect.rt:267:1
+collect-node-same-length-13 : (t : ℕ) → collect-node-lts.Need-same-length-13 (node t) (collect-node-at t) collect-node.Post
+collect-node-same-length-13 t c = search needs
+
+-- src/collect.rt:267:1
+collect-node-same-length-14 : (t : ℕ) → collect-node-lts.Need-same-length-14 (node t) (collect-node-at t) collect-node.Post
+collect-node-same-length-14 t c = search needs
+
+-- src/collect.rt:267:1
+collect-node-same-length-15 : (t : ℕ) → collect-node-lts.Need-same-length-15 (node t) (collect-node-at t) collect-node.Post
+collect-node-same-length-15 t c = search needs
+
+-- src/collect.rt:267:1
+collect-node-same-length-16 : (t : ℕ) → collect-node-lts.Need-same-length-16 (node t) (collect-node-at t) collect-node.Post
+collect-node-same-length-16 t c = search needs
+
+-- src/collect.rt:267:1
+collect-node-returns-4 : (t : ℕ) → collect-node-lts.Need-returns-4 (node t) (collect-node-at t) collect-node.Post
+collect-node-returns-4 t c =
+    λ w end x j.
+    let a = c .before .before .before .before .before .before .before .before .before .before .before .before .before .before .before .before .before .before .before .before .before .before .before .before .before .before .before .args in
+    let v = c .before .before .before .before .before .before .before .collect-segments-inner .last .1 .1 .1 in
+    unknown-came w (a .nodes .now) (a .attrs .now) (a .strings .now) (a .base) (a .ctx) (a .ws) (a .k) (x .own) end (a .first) (x .hi) (a .run) (x .earlier)
+    (x .before) (three (a .segments .now) (a .reveal .now) (a .sizes .now)) (a .texts .now) j (c .before .before .before .before .before .before .before .before .before .before .before .before .before .before .before .before .before .before .element-at .result) (c .before .before .before .before .before .before .before .before .before .before .before .before .before .before .before .before .before .before .element-at .ensures)
+    (sym (c .before .before .before .before .before .before .before .before .before .before .before .before .before .before .before .before .is-element .ensures) ∙ c .before .before .before .before .before .before .before .before .before .before .before .before .before .before .before .if2 .left) (x .forest) (x .holds, x .rows, x .placed, x .standing, x .flag) (c .before .before .before .before .before .before .before .before .before .before .before .before .before .before .before .before .before .before .before .if1 .left)
+    (sym (c .before .before .before .before .before .before .before .before .before .before .before .before .before .is-element2 .ensures) ∙ c .before .before .before .before .before .before .before .before .before .before .before .before .if3 .left) (three (v .0) (v .1 .0) (v .1 .1 .0)) (v .1 .1 .1 .0) (c .before .before .before .before .before .before .before .collect-segments-inner .result)
+    (rw (toZ-ofZ (c .before .before .before .before .before .before .before .before .before .before .before .before .before .before .before .before .before .before .before .before .before .before .before .before .before .before .before .fits .base)) at (c .before .before .before .before .before .before .before .collect-segments-inner .ensures))
+
+abbrev collect-segments-inner-Inv-loop : collect-segments-inner-lts.InvT-loop
+collect-segments-inner-Inv-loop nodes attrs strings segments₀ reveal₀ sizes₀ texts₀ from end base ctx ws first s₀ k₀ segments reveal sizes texts s k = Along nodes attrs strings from end s₀ (toZ w64 base) ctx ws (three segments₀ reveal₀ sizes₀) texts₀ k s (three segments reveal sizes) texts
+
+abbrev collect-segments-inner-μ-loop : collect-segments-inner-lts.MeasureT-loop
+collect-segments-inner-μ-loop nodes attrs strings segments₀ reveal₀ sizes₀ texts₀ from end base ctx ws first s₀ k₀ segments reveal sizes texts s k = end - k
+
+-- src/collect.rt:391:5
+collect-segments-inner-loop-holds : (t : ℕ) → collect-segments-inner-lts.Need-loop-holds (siblings t)
+    (collect-segments-inner-at t)
+    collect-segments-inner.Post collect-segments-inner-Inv-loop collect-segments-inner-μ-loop
+collect-segments-inner-loop-holds t c = along-start (c .before .before .before .before .before .before .pre .1)
+
+-- src/collect.rt:392:15
+collect-segments-inner-collect-node-requires :
+    (t : ℕ) → collect-segments-inner-lts.Need-collect-node-requires (siblings t)
+    (collect-segments-inner-at t)
+    collect-segments-inner.Post collect-segments-inner-Inv-loop collect-segments-inner-μ-loop
+collect-segments-inner-collect-node-requires t c κs =
+    let p = c .before .before .before .before .before .before .before .before .before .before .before .before .pre .1 in
+    let i = c .before .before .before .before .before .loop .inv in
+    let n = along-asks p i (c .before .before .before .before .loop-test .taken) in
+    let k = c .before .before .before .before .before .loop .k in
+    let a = c .before .before .before .before .before .before .before .before .before .before .before .before .args in
+    let row = getD (a .nodes .now) (k * 6 + 1) 0 in
+    let e : (k < row) × (row ≤ a .end) = along-next p i (c .before .before .before .before .loop-test .taken) in
+    let low : a .from ≤ k = i .low in
+    let all : 3 * (a .end - a .from) + 2 ≡ t = c .before .before .before .before .before .before .before .before .before .before .before .before .pre .0 in
+    let falls : 3 * (row - k) + 1 < t = omega (arith, all, low, e .0, e .1) in
+    (falls, n)
+
+-- src/collect.rt:395:33
+collect-segments-inner-enum-known-r : (t : ℕ) → collect-segments-inner-lts.Need-enum-known-r (siblings t)
+    (collect-segments-inner-at t)
+    collect-segments-inner.Post collect-segments-inner-Inv-loop collect-segments-inner-μ-loop
+collect-segments-inner-enum-known-r t c = search needs
+
+-- src/collect.rt:396:17
+collect-segments-inner-same-length : (t : ℕ) → collect-segments-inner-lts.Need-same-length (siblings t)
+    (collect-segments-inner-at t)
+    collect-segments-inner.Post collect-segments-inner-Inv-loop collect-segments-inner-μ-loop
+collect-segments-inner-same-length t c = search (needs, c .before .before .before .before .before .before .before .before .before .before .before .before .before .before .before .before .loop .inv .same-cells)
+
+-- src/collect.rt:396:17
+collect-segments-inner-same-length-2 : (t : ℕ) → collect-segments-inner-lts.Need-same-length-2 (siblings t)
+    (collect-segments-inner-at t)
+    collect-segments-inner.Post collect-segments-inner-Inv-loop collect-segments-inner-μ-loop
+collect-segments-inner-same-length-2 t c = search (needs, c .before .before .before .before .before .before .before .before .before .before .before .before .before .before .before .before .loop .inv .same-times)
+
+-- src/collect.rt:396:17
+collect-segments-inner-same-length-3 : (t : ℕ) → collect-segments-inner-lts.Need-same-length-3 (siblings t)
+    (collect-segments-inner-at t)
+    collect-segments-inner.Post collect-segments-inner-Inv-loop collect-segments-inner-μ-loop
+collect-segments-inner-same-length-3 t c = search (needs, c .before .before .before .before .before .before .before .before .before .before .before .before .before .before .before .before .loop .inv .same-floats)
+
+-- src/collect.rt:396:17
+collect-segments-inner-same-length-4 : (t : ℕ) → collect-segments-inner-lts.Need-same-length-4 (siblings t)
+    (collect-segments-inner-at t)
+    collect-segments-inner.Post collect-segments-inner-Inv-loop collect-segments-inner-μ-loop
+collect-segments-inner-same-length-4 t c = search (needs, c .before .before .before .before .before .before .before .before .before .before .before .before .before .before .before .before .loop .inv .same-texts)
+
+-- src/collect.rt:396:17
+collect-segments-inner-returns : (t : ℕ) → collect-segments-inner-lts.Need-returns (siblings t)
+    (collect-segments-inner-at t)
+    collect-segments-inner.Post collect-segments-inner-Inv-loop collect-segments-inner-μ-loop
+collect-segments-inner-returns t c =
+    let v = c .before .before .before .before .before .before .before .before .before .before .collect-node .last .1 .1 .1 in
+    rw (toZ-ofZ (c .before .before .before .before .before .before .before .before .before .before .before .before .before .before .before .before .before .before .before .before .before .before .before .fits .base)) at
+    (along-fail (c .before .before .before .before .before .before .before .before .before .before .before .before .before .before .before .before .before .before .before .before .before .before .before .pre .1) (c .before .before .before .before .before .before .before .before .before .before .before .before .before .before .before .before .loop .inv) (c .before .before .before .before .before .before .before .before .before .before .before .before .before .before .before .loop-test .taken) (three (v .0) (v .1 .0) (v .1 .1 .0)) (v .1 .1 .1 .0)
+    (rw (c .before .r .given .1) at (c .before .before .before .before .before .before .before .before .before .before .collect-node .ensures)))
+
+-- src/collect.rt:398:28
+collect-segments-inner-enum-known-t : (t : ℕ) → collect-segments-inner-lts.Need-enum-known-t (siblings t)
+    (collect-segments-inner-at t)
+    collect-segments-inner.Post collect-segments-inner-Inv-loop collect-segments-inner-μ-loop
+collect-segments-inner-enum-known-t t c = search needs
+
+-- src/collect.rt:402:30
+collect-segments-inner-mul-get : (t : ℕ) → collect-segments-inner-lts.Need-mul-get (siblings t)
+    (collect-segments-inner-at t)
+    collect-segments-inner.Post collect-segments-inner-Inv-loop collect-segments-inner-μ-loop
+collect-segments-inner-mul-get t c =
+    let n = along-asks (c .before .before .before .before .before .before .before .before .before .before .before .before .before .before .before .before .before .before .before .before .before .before .before .pre .1) (c .before .before .before .before .before .before .before .before .before .before .before .before .before .before .before .before .loop .inv) (c .before .before .before .before .before .before .before .before .before .before .before .before .before .before .before .loop-test .taken) in
+    let h = node-row (n .entry) (n .some) .row in
+    search (needs, h)
+
+-- src/collect.rt:402:30
+collect-segments-inner-add-get : (t : ℕ) → collect-segments-inner-lts.Need-add-get (siblings t)
+    (collect-segments-inner-at t)
+    collect-segments-inner.Post collect-segments-inner-Inv-loop collect-segments-inner-μ-loop
+collect-segments-inner-add-get t c =
+    let n = along-asks (c .before .before .before .before .before .before .before .before .before .before .before .before .before .before .before .before .before .before .before .before .before .before .before .pre .1) (c .before .before .before .before .before .before .before .before .before .before .before .before .before .before .before .before .loop .inv) (c .before .before .before .before .before .before .before .before .before .before .before .before .before .before .before .loop-test .taken) in
+    let h = node-row (n .entry) (n .some) .row in
+    search (needs, h)
+
+-- src/collect.rt:402:9
+collect-segments-inner-get-requires : (t : ℕ) → collect-segments-inner-lts.Need-get-requires (siblings t)
+    (collect-segments-inner-at t)
+    collect-segments-inner.Post collect-segments-inner-Inv-loop collect-segments-inner-μ-loop
+collect-segments-inner-get-requires t c κs =
+    let n = along-asks (c .before .before .before .before .before .before .before .before .before .before .before .before .before .before .before .before .before .before .before .before .before .before .before .pre .1) (c .before .before .before .before .before .before .before .before .before .before .before .before .before .before .before .before .loop .inv) (c .before .before .before .before .before .before .before .before .before .before .before .before .before .before .before .loop-test .taken) in
+    let h = node-row (n .entry) (n .some) .row in
+    omega (arith, h)
+
+-- src/collect.rt:391:5
+collect-segments-inner-loop-less : (t : ℕ) → collect-segments-inner-lts.Need-loop-less (siblings t)
+    (collect-segments-inner-at t)
+    collect-segments-inner.Post collect-segments-inner-Inv-loop collect-segments-inner-μ-loop
+collect-segments-inner-loop-less t c =
+    let n = along-asks (c .before .before .before .before .before .before .before .before .before .before .before .before .before .before .before .before .before .before .before .before .before .before .before .before .pre .1) (c .before .before .before .before .before .before .before .before .before .before .before .before .before .before .before .before .before .loop .inv) (c .before .before .before .before .before .before .before .before .before .before .before .before .before .before .before .before .loop-test .taken) in
+    omega (arith, c .get .ensures, node-end (n .entry) (n .some) .0, c .before .before .before .before .before .before .before .before .before .before .before .before .before .before .before .before .loop-test .taken)
+
+-- src/collect.rt:391:5
+collect-segments-inner-loop-again : (t : ℕ) → collect-segments-inner-lts.Need-loop-again (siblings t)
+    (collect-segments-inner-at t)
+    collect-segments-inner.Post collect-segments-inner-Inv-loop collect-segments-inner-μ-loop
+collect-segments-inner-loop-again t c =
+    let i = c .before .before .before .before .before .before .before .before .before .before .before .before .before .before .before .before .before .loop in
+    let v = c .before .before .before .before .before .before .before .before .before .before .before .collect-node .last .1 .1 .1 in
+    let c₁ : length (v .0) ≡ length (i .segments) = search needs in
+    let c₂ : length (v .1 .0) ≡ length (i .reveal) = search needs in
+    let c₃ : length (v .1 .1 .0) ≡ length (i .sizes) = search needs in
+    let c₄ : length (v .1 .1 .1 .0) ≡ length (i .texts) = search needs in
+    rw (c .get .ensures)
+    (along-step (c .before .before .before .before .before .before .before .before .before .before .before .before .before .before .before .before .before .before .before .before .before .before .before .before .pre .1) (i .inv) (c .before .before .before .before .before .before .before .before .before .before .before .before .before .before .before .before .loop-test .taken) (three (v .0) (v .1 .0) (v .1 .1 .0)) (v .1 .1 .1 .0)
+    (rw (c .before .before .t .given .1) at (c .before .before .before .before .before .before .before .before .before .before .before .collect-node .ensures)) c₁ c₂ c₃ c₄)
+
+-- src/collect.rt:368:1
+collect-segments-inner-same-length-5 : (t : ℕ) → collect-segments-inner-lts.Need-same-length-5 (siblings t)
+    (collect-segments-inner-at t)
+    collect-segments-inner.Post collect-segments-inner-Inv-loop collect-segments-inner-μ-loop
+collect-segments-inner-same-length-5 t c = search (needs, c .before .loop .inv .same-cells)
+
+-- src/collect.rt:368:1
+collect-segments-inner-same-length-6 : (t : ℕ) → collect-segments-inner-lts.Need-same-length-6 (siblings t)
+    (collect-segments-inner-at t)
+    collect-segments-inner.Post collect-segments-inner-Inv-loop collect-segments-inner-μ-loop
+collect-segments-inner-same-length-6 t c = search (needs, c .before .loop .inv .same-times)
+
+-- src/collect.rt:368:1
+collect-segments-inner-same-length-7 : (t : ℕ) → collect-segments-inner-lts.Need-same-length-7 (siblings t)
+    (collect-segments-inner-at t)
+    collect-segments-inner.Post collect-segments-inner-Inv-loop collect-segments-inner-μ-loop
+collect-segments-inner-same-length-7 t c = search (needs, c .before .loop .inv .same-floats)
+
+-- src/collect.rt:368:1
+collect-segments-inner-same-length-8 : (t : ℕ) → collect-segments-inner-lts.Need-same-length-8 (siblings t)
+    (collect-segments-inner-at t)
+    collect-segments-inner.Post collect-segments-inner-Inv-loop collect-segments-inner-μ-loop
+collect-segments-inner-same-length-8 t c = search (needs, c .before .loop .inv .same-texts)
+
+-- src/collect.rt:368:1
+collect-segments-inner-returns-2 : (t : ℕ) → collect-segments-inner-lts.Need-returns-2 (siblings t)
+    (collect-segments-inner-at t)
+    collect-segments-inner.Post collect-segments-inner-Inv-loop collect-segments-inner-μ-loop
+collect-segments-inner-returns-2 t c =     rw (toZ-ofZ (c .before .before .before .before .before .before .before .before .fits .base)) at (along-done (c .before .before .before .before .before .before .before .before .pre .1) (c .before .loop .inv) (c .loop-test .left))
+
+-- src/collect.rt:338:9
+collect-span-element-at-requires : (t : ℕ) → collect-span-lts.Need-element-at-requires (span t) (collect-span-at t) collect-span.Post
+collect-span-element-at-requires t c κs =
+    let q = c .before .before .before .before .before .before .pre .1 .node in
+    node-row (q .entry) (q .some) .row
+
+-- src/collect.rt:339:11
+collect-span-begin-of-requires : (t : ℕ) → collect-span-lts.Need-begin-of-requires (span t) (collect-span-at t) collect-span.Post
+collect-span-begin-of-requires t c κs =
+    let p = c .before .before .before .before .before .before .before .pre .1 in
+    node-attrs (c .element-at .result) (p .node) (element-kind _ _ _ _ (p .a-span)) (c .element-at .ensures)
+
+-- src/collect.rt:340:28
+collect-span-enum-known-r : (t : ℕ) → collect-span-lts.Need-enum-known-r (span t) (collect-span-at t) collect-span.Post
+collect-span-enum-known-r t c = search needs
+
+-- src/collect.rt:341:23
+collect-span-enum-known-b : (t : ℕ) → collect-span-lts.Need-enum-known-b (span t) (collect-span-at t) collect-span.Post
+collect-span-enum-known-b t c = search needs
+
+-- src/collect.rt:342:17
+collect-span-resolve-ws-requires : (t : ℕ) → collect-span-lts.Need-resolve-ws-requires (span t) (collect-span-at t) collect-span.Post
+collect-span-resolve-ws-requires t c κs =
+    let p = c .before .before .before .before .before .before .before .before .before .before .before .pre .1 in
+    node-attrs (c .before .before .before .before .element-at .result) (p .node) (element-kind _ _ _ _ (p .a-span)) (c .before .before .before .before .element-at .ensures)
+
+-- src/collect.rt:351:17
+collect-span-add-collect-segments-inner :
+    (t : ℕ) → collect-span-lts.Need-add-collect-segments-inner (span t) (collect-span-at t) collect-span.Post
+collect-span-add-collect-segments-inner t c =
+    let q = c .before .before .before .before .before .before .before .before .before .before .before .before .before .before .before .before .pre .1 .node in
+    let h = node-row (q .entry) (q .some) .row in
+    search (needs, h)
+
+-- src/collect.rt:343:19
+collect-span-collect-segments-inner-requires :
+    (t : ℕ) → collect-span-lts.Need-collect-segments-inner-requires (span t) (collect-span-at t) collect-span.Post
+collect-span-collect-segments-inner-requires t c κs =
+    let p = c .before .before .before .before .before .before .before .before .before .before .before .before .before .before .before .before .before .pre .1 in
+    let q = p .node in
+    let k = c .before .before .before .before .before .before .before .before .before .before .before .before .before .before .before .before .before .args .k in
+    let e = element-end (c .before .before .before .before .before .before .before .before .before .before .before .before .before .before .before .before .before .args .nodes .now) k (c .before .before .before .before .before .before .before .before .before .before .element-at .result) (c .before .before .before .before .before .before .before .before .before .before .element-at .ensures) in
+    let falls : 3 * (c .before .before .before .before .before .before .before .before .before .before .element-at .result .end - (k + 1)) + 2 < t = omega (arith, c .before .before .before .before .before .before .before .before .before .before .before .before .before .before .before .before .before .pre .0, node-end (q .entry) (q .some) .0, e) in
+    (falls, own-asks (c .before .before .before .before .before .before .before .before .before .before .element-at .result) q (element-kind _ _ _ _ (p .a-span)) (c .before .before .before .before .before .before .before .before .before .before .element-at .ensures))
+
+-- src/collect.rt:358:37
+collect-span-enum-known-r-2 : (t : ℕ) → collect-span-lts.Need-enum-known-r-2 (span t) (collect-span-at t) collect-span.Post
+collect-span-enum-known-r-2 t c = search needs
+
+-- src/collect.rt:359:32
+collect-span-enum-known-inner : (t : ℕ) → collect-span-lts.Need-enum-known-inner (span t) (collect-span-at t) collect-span.Post
+collect-span-enum-known-inner t c = search needs
+
+-- src/collect.rt:359:42
+collect-span-wrap-with-style-requires : (t : ℕ) → collect-span-lts.Need-wrap-with-style-requires (span t) (collect-span-at t) collect-span.Post
+collect-span-wrap-with-style-requires t c κs =
+    let p = c .before .before .before .before .before .before .before .before .before .before .before .before .before .before .before .before .before .before .before .before .before .before .before .before .before .before .before .before .before .before .before .before .pre .1 in
+    let q = p .node in
+    let kind = element-kind _ _ _ _ (p .a-span) in
+    let v = c .before .before .before .before .before .before .before .before .before .before .before .before .before .before .collect-segments-inner .last .1 .1 .1 in
+    let asks = own-asks (c .before .before .before .before .before .before .before .before .before .before .before .before .before .before .before .before .before .before .before .before .before .before .before .before .before .element-at .result) q kind (c .before .before .before .before .before .before .before .before .before .before .before .before .before .before .before .before .before .before .before .before .before .before .before .before .before .element-at .ensures) in
+    let more = post-more (c .before .before .before .before .before .inner .given .0 .0) asks (rw (c .before .before .before .before .before .inner .given .1) at (c .before .before .before .before .before .before .before .before .before .before .before .before .before .before .collect-segments-inner .ensures)) in
+    let a : 131072 ≤ length (v .0) = search (needs, q .roomy .wide .in-cells) in
+    let b : 16384 ≤ length (v .1 .0) = search (needs, q .roomy .wide .in-times) in
+    let d : 16384 ≤ length (v .1 .1 .0) = search (needs, q .roomy .wide .in-floats) in
+    (
+      node-attrs (c .before .before .before .before .before .before .before .before .before .before .before .before .before .before .before .before .before .before .before .before .before .before .before .before .before .element-at .result) q kind (c .before .before .before .before .before .before .before .before .before .before .before .before .before .before .before .before .before .before .before .before .before .before .before .before .before .element-at .ensures),
+      more .0,
+      more .1,
+      record { in-cells = a; in-times = b; in-floats = d },
+      q .roomy .small,
+    )
+
+-- src/collect.rt:319:1
+collect-span-returns : (t : ℕ) → collect-span-lts.Need-returns (span t) (collect-span-at t) collect-span.Post
+collect-span-returns t c =
+    λ first w end x j.
+    let p = c .before .before .before .before .before .before .before .before .before .before .before .pre .1 in
+    let a = c .before .before .before .before .before .before .before .before .before .before .before .args in
+    let b = rw (toZ-ofZ (c .before .before .before .before .before .before .before .before .before .before .before .fits .base)) at (c .before .before .before .begin-of .ensures) in
+    span-refused w (a .nodes .now) (a .attrs .now) (a .strings .now) (a .base) (a .ctx) (a .ws) (a .k) (x .own) end first (x .hi) (a .run) (x .earlier)
+    (x .before) (three (a .segments .now) (a .reveal .now) (a .sizes .now)) (a .texts .now) j (c .before .before .before .before .element-at .result) (c .before .before .before .before .element-at .ensures) (p .no-break)
+    (p .a-span) (x .forest) (x .holds, x .rows, x .placed, x .standing, x .flag) (c .before .r .given .0 .0) (λ l o. sym (c .before .r .given .1) ∙ b l o)
+
+-- src/collect.rt:319:1
+collect-span-same-length : (t : ℕ) → collect-span-lts.Need-same-length (span t) (collect-span-at t) collect-span.Post
+collect-span-same-length t c = search needs
+
+-- src/collect.rt:319:1
+collect-span-same-length-2 : (t : ℕ) → collect-span-lts.Need-same-length-2 (span t) (collect-span-at t) collect-span.Post
+collect-span-same-length-2 t c = search needs
+
+-- src/collect.rt:319:1
+collect-span-same-length-3 : (t : ℕ) → collect-span-lts.Need-same-length-3 (span t) (collect-span-at t) collect-span.Post
+collect-span-same-length-3 t c = search needs
+
+-- src/collect.rt:319:1
+collect-span-same-length-4 : (t : ℕ) → collect-span-lts.Need-same-length-4 (span t) (collect-span-at t) collect-span.Post
+collect-span-same-length-4 t c = search needs
+
+-- src/collect.rt:319:1
+collect-span-returns-2 : (t : ℕ) → collect-span-lts.Need-returns-2 (span t) (collect-span-at t) collect-span.Post
+collect-span-returns-2 t c =
+    λ first w end x j.
+    let p = c .before .before .before .before .before .before .before .before .before .before .before .before .before .before .before .before .before .before .before .before .before .before .before .before .before .before .before .before .pre .1 in
+    let a = c .before .before .before .before .before .before .before .before .before .before .before .before .before .before .before .before .before .before .before .before .before .before .before .before .before .before .before .before .args in
+    let v = c .before .before .before .before .before .before .before .before .before .before .collect-segments-inner .last .1 .1 .1 in
+    let time = laws.toZ-ofZ w64 (c .before .before .before .before .before .before .before .before .before .before .before .before .before .before .before .before .before .before .b .given .0 .0 .time) (record { sfits = c .before .before .before .before .before .before .before .before .before .before .before .struct-told .given .1 .0 .1 }) in
+    let b = rw (toZ-ofZ (c .before .before .before .before .before .before .before .before .before .before .before .before .before .before .before .before .before .before .before .before .before .before .before .before .before .before .before .before .fits .base)) at (c .before .before .before .before .before .before .before .before .before .before .before .before .before .before .before .before .before .before .before .before .begin-of .ensures) in
+    span-inside w (a .nodes .now) (a .attrs .now) (a .strings .now) (a .base) (a .ctx) (a .ws) (a .k) (x .own) end first (x .hi) (a .run) (x .earlier)
+    (x .before) (three (a .segments .now) (a .reveal .now) (a .sizes .now)) (a .texts .now) j (c .before .before .before .before .before .before .before .before .before .before .before .before .before .before .before .before .before .before .before .before .before .element-at .result) (c .before .before .before .before .before .before .before .before .before .before .before .before .before .before .before .before .before .before .before .before .before .element-at .ensures) (p .no-break)
+    (p .a-span) (c .before .before .before .before .before .before .before .before .before .before .before .before .before .before .before .before .before .before .b .given .0 .0) (λ l o. sym (c .before .before .before .before .before .before .before .before .before .before .before .before .before .before .before .before .before .before .b .given .1) ∙ b l o) (c .before .before .before .before .before .before .before .before .before .before .before .before .before .before .before .before .resolve-ws .result) (c .before .before .before .before .before .before .before .before .before .before .before .before .before .before .before .before .resolve-ws .ensures)
+    (three (v .0) (v .1 .0) (v .1 .1 .0)) (v .1 .1 .1 .0) (x .forest) (x .holds, x .rows, x .placed, x .standing, x .flag) (c .before .r2 .given .0 .0)
+    (rw (c .before .r2 .given .1, time) at (c .before .before .before .before .before .before .before .before .before .before .collect-segments-inner .ensures))
+
+-- src/collect.rt:319:1
+collect-span-same-length-5 : (t : ℕ) → collect-span-lts.Need-same-length-5 (span t) (collect-span-at t) collect-span.Post
+collect-span-same-length-5 t c = search needs
+
+-- src/collect.rt:319:1
+collect-span-same-length-6 : (t : ℕ) → collect-span-lts.Need-same-length-6 (span t) (collect-span-at t) collect-span.Post
+collect-span-same-length-6 t c = search needs
+
+-- src/collect.rt:319:1
+collect-span-same-length-7 : (t : ℕ) → collect-span-lts.Need-same-length-7 (span t) (collect-span-at t) collect-span.Post
+collect-span-same-length-7 t c = search needs
+
+-- src/collect.rt:319:1
+collect-span-same-length-8 : (t : ℕ) → collect-span-lts.Need-same-length-8 (span t) (collect-span-at t) collect-span.Post
+collect-span-same-length-8 t c = search needs
+
+-- src/collect.rt:319:1
+collect-span-returns-3 : (t : ℕ) → collect-span-lts.Need-returns-3 (span t) (collect-span-at t) collect-span.Post
+collect-span-returns-3 t c =
+    λ first w end x j.
+    let p = c .before .before .before .before .before .before .before .before .before .before .before .before .before .before .before .before .before .before .before .before .before .before .before .before .before .before .before .before .before .before .before .before .before .before .before .before .before .before .pre .1 in
+    let a = c .before .before .before .before .before .before .before .before .before .before .before .before .before .before .before .before .before .before .before .before .before .before .before .before .before .before .before .before .before .before .before .before .before .before .before .before .before .before .args in
+    let v = c .before .before .before .before .before .before .before .before .before .before .before .before .before .before .before .before .before .before .before .before .collect-segments-inner .last .1 .1 .1 in
+    let u = c .before .before .before .before .before .wrap-with-style .last .1 .1 in
+    let time = laws.toZ-ofZ w64 (c .before .before .before .before .before .before .before .before .before .before .before .before .before .before .before .before .before .before .before .before .before .before .before .before .before .before .before .before .b .given .0 .0 .time) (record { sfits = c .before .before .before .before .before .before .before .before .before .before .before .before .before .before .before .before .before .before .before .before .before .struct-told .given .1 .0 .1 }) in
+    let b = rw (toZ-ofZ (c .before .before .before .before .before .before .before .before .before .before .before .before .before .before .before .before .before .before .before .before .before .before .before .before .before .before .before .before .before .before .before .before .before .before .before .before .before .before .fits .base)) at (c .before .before .before .before .before .before .before .before .before .before .before .before .before .before .before .before .before .before .before .before .before .before .before .before .before .before .before .before .before .before .begin-of .ensures) in
+    span-came w (a .nodes .now) (a .attrs .now) (a .strings .now) (a .base) (a .ctx) (a .ws) (a .k) (x .own) end first (x .hi) (a .run) (x .earlier)
+    (x .before) (three (a .segments .now) (a .reveal .now) (a .sizes .now)) (a .texts .now) j (c .before .before .before .before .before .before .before .before .before .before .before .before .before .before .before .before .before .before .before .before .before .before .before .before .before .before .before .before .before .before .before .element-at .result) (c .before .before .before .before .before .before .before .before .before .before .before .before .before .before .before .before .before .before .before .before .before .before .before .before .before .before .before .before .before .before .before .element-at .ensures) (p .no-break)
+    (p .a-span) (c .before .before .before .before .before .before .before .before .before .before .before .before .before .before .before .before .before .before .before .before .before .before .before .before .before .before .before .before .b .given .0 .0) (λ l o. sym (c .before .before .before .before .before .before .before .before .before .before .before .before .before .before .before .before .before .before .before .before .before .before .before .before .before .before .before .before .b .given .1) ∙ b l o) (c .before .before .before .before .before .before .before .before .before .before .before .before .before .before .before .before .before .before .before .before .before .before .before .before .before .before .resolve-ws .result) (c .before .before .before .before .before .before .before .before .before .before .before .before .before .before .before .before .before .before .before .before .before .before .before .before .before .before .resolve-ws .ensures)
+    (three (v .0) (v .1 .0) (v .1 .1 .0)) (v .1 .1 .1 .0) (x .forest) (x .holds, x .rows, x .placed, x .standing, x .flag) (c .before .before .before .before .before .before .before .before .before .before .before .inner .given .0 .0)
+    (rw (c .before .before .before .before .before .before .before .before .before .before .before .inner .given .1, time) at (c .before .before .before .before .before .before .before .before .before .before .before .before .before .before .before .before .before .before .before .before .collect-segments-inner .ensures)) (three (u .0) (u .1 .0) (u .1 .1 .0)) (c .before .before .before .before .before .wrap-with-style .result)
+    (rw time at (c .before .before .before .before .before .wrap-with-style .ensures))
+
+pub +collect-node+collect-segments-inner+collect-span-spec : {M : Type 1} → statement M
++collect-node+collect-segments-inner+collect-span-spec =
+    close μ-collect-node μ-collect-segments-inner μ-collect-span (λ t. collect-node-lts.spec (node t)
+    (collect-node-at t)
+    collect-node.Post
+    (collect-node-mul-if1 t)
+    (collect-node-mul-if1-2 t)
+    (collect-node-shared-slice-read-if1 t)
+    (collect-node-collect-text-requires t)
+    (collect-node-same-length t)
+    (collect-node-same-length-2 t)
+    (collect-node-same-length-3 t)
+    (collect-node-same-length-4 t)
+    (collect-node-returns t)
+    (collect-node-element-at-requires t)
+    (collect-node-slice-aggregate-is-element t)
+    (collect-node-is-element-requires t)
+    (collect-node-collect-break-requires t)
+    (collect-node-same-length-5 t)
+    (collect-node-same-length-6 t)
+    (collect-node-same-length-7 t)
+    (collect-node-same-length-8 t)
+    (collect-node-returns-2 t)
+    (collect-node-slice-aggregate-is-element-2 t)
+    (collect-node-is-element-requires-2 t)
+    (collect-node-collect-span-requires t)
+    (collect-node-same-length-9 t)
+    (collect-node-same-length-10 t)
+    (collect-node-same-length-11 t)
+    (collect-node-same-length-12 t)
+    (collect-node-returns-3 t)
+    (collect-node-add-collect-segments-inner t)
+    (collect-node-collect-segments-inner-requires t)
+    (collect-node-same-length-13 t)
+    (collect-node-same-length-14 t)
+    (collect-node-same-length-15 t)
+    (collect-node-same-length-16 t)
+    (collect-node-returns-4 t))
+    (λ t. collect-segments-inner-lts.spec (siblings t)
+    (collect-segments-inner-at t)
+    collect-segments-inner.Post collect-segments-inner-Inv-loop collect-segments-inner-μ-loop
+    (collect-segments-inner-loop-holds t)
+    (collect-segments-inner-collect-node-requires t)
+    (collect-segments-inner-enum-known-r t)
+    (collect-segments-inner-same-length t)
+    (collect-segments-inner-same-length-2 t)
+    (collect-segments-inner-same-length-3 t)
+    (collect-segments-inner-same-length-4 t)
+    (collect-segments-inner-returns t)
+    (collect-segments-inner-enum-known-t t)
+    (collect-segments-inner-mul-get t)
+    (collect-segments-inner-add-get t)
+    (collect-segments-inner-get-requires t)
+    (collect-segments-inner-loop-less t)
+    (collect-segments-inner-loop-again t)
+    (collect-segments-inner-same-length-5 t)
+    (collect-segments-inner-same-length-6 t)
+    (collect-segments-inner-same-length-7 t)
+    (collect-segments-inner-same-length-8 t)
+    (collect-segments-inner-returns-2 t))
+    λ t. collect-span-lts.spec (span t)
+    (collect-span-at t)
+    collect-span.Post
+    (collect-span-element-at-requires t)
+    (collect-span-begin-of-requires t)
+    (collect-span-enum-known-r t)
+    (collect-span-enum-known-b t)
+    (collect-span-resolve-ws-requires t)
+    (collect-span-add-collect-segments-inner t)
+    (collect-span-collect-segments-inner-requires t)
+    (collect-span-enum-known-r-2 t)
+    (collect-span-enum-known-inner t)
+    (collect-span-wrap-with-style-requires t)
+    (collect-span-returns t)
+    (collect-span-same-length t)
+    (collect-span-same-length-2 t)
+    (collect-span-same-length-3 t)
+    (collect-span-same-length-4 t)
+    (collect-span-returns-2 t)
+    (collect-span-same-length-5 t)
+    (collect-span-same-length-6 t)
+    (collect-span-same-length-7 t)
+    (collect-span-same-length-8 t)
+    (collect-span-returns-3 t)
