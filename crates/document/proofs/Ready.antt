@@ -17,7 +17,7 @@ use Rattle.names.specs.declared.tables.Listed.{Listed}
 use Rattle.names.specs.declared.tables.Listed.the-variants.{InlineExtra, RegionAttr, StyleExtra}
 use Rattle.track.specs.Tables.{Tables, cell, paramAt, styleAt, lookAt, sizeAt, regionAt, cueAt, optional, paramCount, styleCount, regionCount, cueCount, sizeCell}
 use Rattle.track.specs.Meaning.{isTrack, isSizeAt}
-use Rattle.track.specs.Check.{isFull}
+use Rattle.track.specs.Steps.{isFull}
 use Rattle.track.proofs.Spans.{span-within}
 use Rattle.track.proofs.Accepted.{usedStrings, param-ok, style-ok, region-ok, cue-ok, lang-ok}
 use Rattle.track.proofs.RowParts.{ParamParts, param-parts, StyleParts, style-parts, RegionParts, region-parts, cue-parts}

@@ -1,11 +1,12 @@
 // The public call. All of `out` is cleared first, and again on a refusal.
 ghost use mathlib.Core.Path.{_≡_};
 ghost use lib.ListN.{length, replicate};
+ghost use Rattle.track.specs.Tables.{tables};
 ghost use Rattle.track.specs.Meaning.{trackAt};
 ghost use Rattle.written.specs.Written.{writtenOf};
 ghost use Rattle.writer.specs.Puts.{Room, Puts};
 ghost use Rattle.writer.specs.Calls.{Filled};
-ghost use Rattle.writer.specs.Promise.{wholeText, outcomeOf, Promise};
+ghost use Rattle.writer.specs.Promise.{wholeText, Promise};
 ghost use Rattle.document.specs.Roots.{WholeReady};
 use scan::Written;
 use track::Check;
@@ -29,14 +30,13 @@ fn write_document(
     at: Written,
 ) -> Written
     requires {
-        ⌜ WholeReady (record { head = now head; params = now params; styles = now styles; regions = now regions; cues = now cues; times = now times;
-        segments = now segments; reveal = now reveal; sizes = now sizes; extras = now extras; strings = now strings; texts = now texts })
+        ⌜ WholeReady (tables (now head) (now params) (now styles) (now regions) (now cues) (now times) (now segments) (now reveal) (now sizes)
+        (now extras) (now strings) (now texts))
         × Room at (now out) ⌝ }
     ensures { λ r.
-        ⌜ Puts (writtenOf (trackAt (record { head = now (head .entry); params = now (params .entry); styles = now (styles .entry);
-        regions = now (regions .entry); cues = now (cues .entry); times = now (times .entry); segments = now (segments .entry);
-        reveal = now (reveal .entry); sizes = now (sizes .entry); extras = now (extras .entry); strings = now (strings .entry);
-        texts = now (texts .entry) })))
+        ⌜ Puts (writtenOf (trackAt (tables (now (head .entry)) (now (params .entry)) (now (styles .entry)) (now (regions .entry)) (now (cues .entry))
+        (now (times .entry)) (now (segments .entry)) (now (reveal .entry)) (now (sizes .entry)) (now (extras .entry)) (now (strings .entry))
+        (now (texts .entry)))))
         at (now (out .entry)) (now (out .exit)) r ⌝ }
 {
     let a = writer::put(out, at, b"<?xml version=\"1.0\" encoding=\"UTF-8\"?>\n");
@@ -78,14 +78,14 @@ fn fill(
     out: &mut [u8],
 ) -> Answer
     requires {
-        ⌜ WholeReady (record { head = now head; params = now params; styles = now styles; regions = now regions; cues = now cues; times = now times;
-        segments = now segments; reveal = now reveal; sizes = now sizes; extras = now extras; strings = now strings; texts = now texts })
+        ⌜ WholeReady (tables (now head) (now params) (now styles) (now regions) (now cues) (now times) (now segments) (now reveal) (now sizes)
+        (now extras) (now strings) (now texts))
         × (now out ≡ replicate (length (now out)) 0) ⌝ }
     ensures { λ r.
-        ⌜ Filled (writtenOf (trackAt (record { head = now (head .entry); params = now (params .entry); styles = now (styles .entry);
-        regions = now (regions .entry); cues = now (cues .entry); times = now (times .entry); segments = now (segments .entry);
-        reveal = now (reveal .entry); sizes = now (sizes .entry); extras = now (extras .entry); strings = now (strings .entry);
-        texts = now (texts .entry) })))
+        ⌜ Filled (writtenOf (trackAt (tables (now (head .entry)) (now (params .entry)) (now (styles .entry)) (now (regions .entry)) (now (cues
+        .entry))
+        (now (times .entry)) (now (segments .entry)) (now (reveal .entry)) (now (sizes .entry)) (now (extras .entry)) (now (strings .entry))
+        (now (texts .entry)))))
         (length (now (out .entry))) r (now (out .exit)) ⌝ }
 {
     let end = writer::limit(out.len());
@@ -131,10 +131,9 @@ pub fn write(
     out: &mut [u8],
 ) -> Answer
     ensures { λ r.
-        ⌜ Promise (outcomeOf wholeText (record { head = now (head .entry); params = now (params .entry); styles = now (styles .entry);
-        regions = now (regions .entry); cues = now (cues .entry); times = now (times .entry); segments = now (segments .entry);
-        reveal = now (reveal .entry); sizes = now (sizes .entry); extras = now (extras .entry); strings = now (strings .entry);
-        texts = now (texts .entry) }) (length (now (out .entry)))) (now (out .entry)) r (now (out .exit)) ⌝ }
+        ⌜ Promise wholeText (tables (now (head .entry)) (now (params .entry)) (now (styles .entry)) (now (regions .entry)) (now (cues .entry))
+        (now (times .entry)) (now (segments .entry)) (now (reveal .entry)) (now (sizes .entry)) (now (extras .entry)) (now (strings .entry))
+        (now (texts .entry))) (now (out .entry)) r (now (out .exit)) ⌝ }
 {
     scan::clear_bytes(out);
     match track::check_track(

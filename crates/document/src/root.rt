@@ -100,7 +100,8 @@ pub fn write_head(
         ⌜ StylesReady (now styles) (now sizes) (now extras) (now strings) n
         × RegionsReady (regionTables (now regions) (now extras) (now strings)) m × Room at (now out) ⌝ }
     ensures { λ r.
-        ⌜ Puts (headText (rowsFrom (styleIn (styleTables (now (styles .entry)) (now (sizes .entry)) (now (extras .entry)) (now (strings .entry)))) n 0)
+        ⌜ Puts (headText (rowsFrom (styleIn (styleTables (now (styles .entry)) (now (sizes .entry)) (now (extras .entry)) (now (strings .entry))))
+        n 0)
         (rowsFrom (regionIn (regionTables (now (regions .entry)) (now (extras .entry)) (now (strings .entry)))) m 0))
         at (now (out .entry)) (now (out .exit)) r ⌝ }
 {

@@ -131,7 +131,8 @@ fn write_style(
 ) -> Written
     requires { ⌜ StylesReady (now styles) (now sizes) (now extras) (now strings) n × (i < n) × Room at (now out) ⌝ }
     ensures { λ r.
-        ⌜ Puts (styleText (rowsFrom (styleIn (styleTables (now (styles .entry)) (now (sizes .entry)) (now (extras .entry)) (now (strings .entry)))) n 0)
+        ⌜ Puts (styleText (rowsFrom (styleIn (styleTables (now (styles .entry)) (now (sizes .entry)) (now (extras .entry)) (now (strings
+        .entry)))) n 0)
         (styleIn (styleTables (now (styles .entry)) (now (sizes .entry)) (now (extras .entry)) (now (strings .entry))) i))
         at (now (out .entry)) (now (out .exit)) r ⌝ }
 {
@@ -158,7 +159,8 @@ fn write_styles(
 ) -> Written
     requires { ⌜ StylesReady (now styles) (now sizes) (now extras) (now strings) n × Room at (now out) ⌝ }
     ensures { λ r.
-        ⌜ Puts (lines (styleText (rowsFrom (styleIn (styleTables (now (styles .entry)) (now (sizes .entry)) (now (extras .entry)) (now (strings .entry)))) n 0))
+        ⌜ Puts (lines (styleText (rowsFrom (styleIn (styleTables (now (styles .entry)) (now (sizes .entry)) (now (extras .entry)) (now (strings
+        .entry)))) n 0))
         (rowsFrom (styleIn (styleTables (now (styles .entry)) (now (sizes .entry)) (now (extras .entry)) (now (strings .entry)))) n 0))
         at (now (out .entry)) (now (out .exit)) r ⌝ }
 {
@@ -188,7 +190,8 @@ pub fn write_styling(
 ) -> Written
     requires { ⌜ StylesReady (now styles) (now sizes) (now extras) (now strings) n × Room at (now out) ⌝ }
     ensures { λ r.
-        ⌜ Puts (stylingLines (rowsFrom (styleIn (styleTables (now (styles .entry)) (now (sizes .entry)) (now (extras .entry)) (now (strings .entry)))) n 0))
+        ⌜ Puts (stylingLines (rowsFrom (styleIn (styleTables (now (styles .entry)) (now (sizes .entry)) (now (extras .entry)) (now (strings
+        .entry)))) n 0))
         at (now (out .entry)) (now (out .exit)) r ⌝ }
 {
     if n == 0 {

@@ -5,7 +5,7 @@
 --     determined                     two outcomes that meet the promise are one
 use Prim.Native.Nat.{ℕ, zero, suc, _+_, _-_, _≤_, _<_}
 use mathlib.Core.Path.{_≡_, refl, sym, ap, ap₂, _∙_}
-use mathlib.Core.Bool.{Bool, true, false, cond, _&&_}
+use mathlib.Core.Bool.{Bool, true, false, cond, _&&_, false≢true}
 use mathlib.Core.List.{List, [], _++_}
 use mathlib.Core.Option.{Option, none, some}
 use native.Mathlib.Omega.{arith}
@@ -18,46 +18,40 @@ use Rattle.track.specs.declared.check.Check.{Check}
 use Rattle.track.specs.Track.{Bytes, Cue, Track}
 use Rattle.track.specs.Tables.{Tables, cueCount, rowsFrom}
 use Rattle.track.specs.Meaning.{isTrack, cueIn, trackAt, trackIn}
-use Rattle.track.specs.Check.{isFull, checkOf, refusedAs}
+use Rattle.track.specs.Steps.{isFull, checkOf, refusedAs}
+use Rattle.track.proofs.Answers.{full-long, long-full}
 use Rattle.track.proofs.Exactly.{no-some, track-some, track-none, check-short, check-none, check-track}
 use Rattle.written.specs.Written.{cueWritten}
 use Rattle.writer.specs.declared.calls.Answer.{Answer}
-use Rattle.writer.specs.Promise.{numberOf, placeOf, bytesOf, cueNumbered, cueNumber, Outcome, gives, meets, fits, ofText, ofTrack, outcomeOf, numberIn}
-use Rattle.writer.specs.Promise.{countIn, textIn, Promise}
+use Rattle.writer.specs.Promise.{numberOf, placeOf, bytesOf, cueNumbered, cueNumber, Outcome, gives, meets, fits, ofText, Comes}
+use Rattle.writer.specs.Promise.{short-table, no-track, of-track, numberIn, countIn, textIn, Promise}
 use Rattle.writer.specs.Calls.{refusedWith, fitted, shown, Filled}
 use Rattle.writer.proofs.CallLaws.{accepted}
 
 -- ---- a refusal, and a text
-pub promise-met : (n : ℕ) (lent left : List ℕ) → left ≡ replicate (length lent) 0 → Promise (meets n) lent (refusedWith n) left
-unfolding numberOf placeOf bytesOf numberIn countIn textIn
-promise-met n lent left e = record { number = refl; place = refl; count = refl; bytes = e ∙ rw (sub-zero (length lent)) refl }
+module _ (text : Track Bytes → Option Bytes) (T : Tables) (lent left : List ℕ) where
+  met : (n : ℕ) → Comes text T (length lent) (meets n) → left ≡ replicate (length lent) 0 → Promise text T lent (refusedWith n) left
+  unfolding numberOf placeOf bytesOf numberIn countIn textIn
+  met n c e =
+      record { outcome = meets n; comes = c; number = refl; place = refl; count = refl; bytes = e ∙ rw (sub-zero (length lent)) refl }
 
-pub promise-text :
-    (w : Bytes) (lent left : List ℕ) (r : Answer) (k : ℕ) → k ≡ length lent → r ≡ fitted w k → left ≡ shown w k r
-    → Promise (ofText (length lent) (some w)) lent r left
-unfolding ofText fits fitted numberOf placeOf bytesOf numberIn countIn textIn
-promise-text w lent left r k q a b =
-    by-test (leb (length w) k && leb (length w) 65536)
-    (λ e.
-    let c : r ≡ Answer.Bytes (length w) = a ∙ rw e refl in
-    rw (← q, e, c) (record { number = refl; place = refl; count = refl; bytes = rw (← q) (rw c at b) }))
-    (λ e.
-    let c : r ≡ refusedWith 18 = a ∙ rw e refl in
-    rw (← q, e, c) (promise-met 18 lent left (rw (← q) (rw c at b))))
+  gave : (w : Bytes) → Comes text T (length lent) (gives w) → left ≡ w ++ replicate (length lent - length w) 0
+      → Promise text T lent (Answer.Bytes (length w)) left
+  unfolding numberOf placeOf bytesOf numberIn countIn textIn
+  gave w c e = record { outcome = gives w; comes = c; number = refl; place = refl; count = refl; bytes = e }
 
--- ---- what a call asks for
-module _ (text : Track Bytes → Option Bytes) (T : Tables) (k : ℕ) where
-  pub outcome-short : isFull T ≡ false → outcomeOf text T k ≡ meets 1
-  unfolding outcomeOf
-  outcome-short f = rw f refl
-
-  pub outcome-none : isFull T ≡ true → isTrack T ≡ false → outcomeOf text T k ≡ meets 17
-  unfolding outcomeOf ofTrack
-  outcome-none f h = rw (f, track-none T h) refl
-
-  pub outcome-text : isFull T ≡ true → isTrack T ≡ true → outcomeOf text T k ≡ ofText k (text (trackAt T))
-  unfolding outcomeOf ofTrack
-  outcome-text f h = rw (f, track-some T h) refl
+  came : (w : Bytes) (r : Answer) (k : ℕ) → k ≡ length lent → Comes text T (length lent) (ofText (length lent) (some w)) → Filled w k r left
+      → Promise text T lent r left
+  unfolding ofText fits fitted
+  came w r k q c a =
+      let b : Filled w (length lent) r left = rw q at a in
+      by-test (leb (length w) (length lent) && leb (length w) 65536)
+      (λ e.
+      let d : r ≡ Answer.Bytes (length w) = b .answer ∙ rw e refl in
+      rw d (gave w (rw e at c) (rw d at (b .bytes))))
+      (λ e.
+      let d : r ≡ refusedWith 18 = b .answer ∙ rw e refl in
+      rw d (met 18 (rw e at c) (rw d at (b .bytes))))
 
 -- where the check refuses
 track-refused : {X : Type 0} (x : Refusal) → Check.Track ≡ Check.Refused x → X
@@ -67,27 +61,29 @@ same-answer : (n : ℕ) (x : Refusal) → refusedAs n ≡ Check.Refused x → An
 same-answer n x e = let q : x ≡ record { number = n; place = 0 } = cc in ap Answer.Refused q
 
 module _ (text : Track Bytes → Option Bytes) (T : Tables) (lent left : List ℕ) where
-  pub promise-refused :
-      (x : Refusal) → checkOf T ≡ Check.Refused x → left ≡ replicate (length lent) 0
-      → Promise (outcomeOf text T (length lent)) lent (Answer.Refused x) left
+  pub promise-refused : (x : Refusal) → checkOf T ≡ Check.Refused x → left ≡ replicate (length lent) 0 → Promise text T lent (Answer.Refused x) left
   promise-refused x e b =
       by-test (isFull T)
       (λ f. by-test (isTrack T)
       (λ h. track-refused x (sym (check-track T f h) ∙ e))
-      (λ h. rw (outcome-none text T (length lent) f h, same-answer 17 x (sym (check-none T f h) ∙ e)) (promise-met 17 lent left b)))
-      (λ f. rw (outcome-short text T (length lent) f, same-answer 1 x (sym (check-short T f) ∙ e)) (promise-met 1 lent left b))
+      (λ h. rw (same-answer 17 x (sym (check-none T f h) ∙ e)) (met text T lent left 17 (no-track (full-long T f) (track-none T h)) b)))
+      (λ f. rw (same-answer 1 x (sym (check-short T f) ∙ e))
+      (met text T lent left 1 (short-table (λ l. false≢true (sym f ∙ long-full T l))) b))
 
   -- where there is a track: w is the text that is asked for, or there is none
-  pub promise-done :
-      isFull T ≡ true → isTrack T ≡ true → (w : Bytes) → text (trackAt T) ≡ some w → (r : Answer) (k : ℕ) → k ≡ length lent
-      → Filled w k r left → Promise (outcomeOf text T (length lent)) lent r left
-  promise-done f h w e r k q a = rw (outcome-text text T (length lent) f h, e) (promise-text w lent left r k q (a .answer) (a .bytes))
+  module _ (f : isFull T ≡ true) (h : isTrack T ≡ true) where
+    comes-text : (o : Option Bytes) → text (trackAt T) ≡ o → Comes text T (length lent) (ofText (length lent) o)
+    comes-text o e =
+        let c : Comes text T (length lent) (ofText (length lent) (text (trackAt T))) = of-track (trackAt T) (full-long T f) (track-some T h) in
+        rw e at c
 
-  promise-none :
-      isFull T ≡ true → isTrack T ≡ true → text (trackAt T) ≡ none → (r : Answer) → r ≡ refusedWith 17 → left ≡ replicate (length lent) 0
-      → Promise (outcomeOf text T (length lent)) lent r left
-  unfolding ofText
-  promise-none f h e r a b = rw (outcome-text text T (length lent) f h, e, a) (promise-met 17 lent left b)
+    pub promise-done : (w : Bytes) → text (trackAt T) ≡ some w → (r : Answer) (k : ℕ) → k ≡ length lent → Filled w k r left
+        → Promise text T lent r left
+    promise-done w e r k q a = came text T lent left w r k q (comes-text (some w) e) a
+
+    promise-none : text (trackAt T) ≡ none → (r : Answer) → r ≡ refusedWith 17 → left ≡ replicate (length lent) 0 → Promise text T lent r left
+    unfolding ofText
+    promise-none e r a b = rw a (met text T lent left 17 (comes-text none e) b)
 
 -- ---- a cue by its index
 cue-there : (g : ℕ → Cue Bytes) (n j i : ℕ) → i < n → cueNumbered i (rowsFrom g n j) ≡ some (cueWritten (g (j + i)))
@@ -113,12 +109,12 @@ module _ (T : Tables) (i : ℕ) where
 
   module _ (lent left : List ℕ) (r : Answer) (e : checkOf T ≡ Check.Track) where
     pub promise-past :
-        cueCount (T .head) ≤ i → r ≡ refusedWith 17 → left ≡ replicate (length lent) 0 → Promise (outcomeOf (cueNumber i) T (length lent)) lent r left
+        cueCount (T .head) ≤ i → r ≡ refusedWith 17 → left ≡ replicate (length lent) 0 → Promise (cueNumber i) T lent r left
     promise-past h a b = promise-none (cueNumber i) T lent left (accepted T e .0) (accepted T e .1) (cue-none h) r a b
 
     pub promise-cue :
         i < cueCount (T .head) → (k : ℕ) → k ≡ length lent → Filled (cueWritten (cueIn T i)) k r left
-        → Promise (outcomeOf (cueNumber i) T (length lent)) lent r left
+        → Promise (cueNumber i) T lent r left
     promise-cue h k q a = promise-done (cueNumber i) T lent left (accepted T e .0) (accepted T e .1) _ (cue-text h) r k q a
 
 -- ---- two outcomes that meet the promise are one
@@ -132,7 +128,27 @@ same-said (Answer.Bytes n) (Answer.Refused y) e f g = no-some (sym g)
 same-said (Answer.Refused x) (Answer.Bytes m) e f g = no-some g
 same-said (Answer.Refused x) (Answer.Refused y) e f g = ap Answer.Refused (same-refusal x y e f)
 
+-- of equal tables and bytes there is one outcome
+module _ (text : Track Bytes → Option Bytes) (T : Tables) (lent : ℕ) where
+  one-track : (t u : Track Bytes) → trackIn T ≡ some t → trackIn T ≡ some u → t ≡ u
+  one-track t u a b = let e : some t ≡ some u = sym a ∙ b in cc
+
+  one-outcome : (o v : Outcome) → Comes text T lent o → Comes text T lent v → o ≡ v
+  one-outcome _ _ (short-table a) (short-table b) = refl
+  one-outcome _ _ (short-table a) (no-track b c) = absurd (a b)
+  one-outcome _ _ (short-table a) (of-track t b c) = absurd (a b)
+  one-outcome _ _ (no-track a b) (short-table c) = absurd (c a)
+  one-outcome _ _ (no-track a b) (no-track c d) = refl
+  one-outcome _ _ (no-track a b) (of-track t c d) = no-some (sym b ∙ d)
+  one-outcome _ _ (of-track t a b) (short-table c) = absurd (c a)
+  one-outcome _ _ (of-track t a b) (no-track c d) = no-some (sym d ∙ b)
+  one-outcome _ _ (of-track t a b) (of-track u c d) = ap (λ (k : Track Bytes). ofText lent (text k)) (one-track t u b d)
+
 pub determined :
-    (o : Outcome) (lent : List ℕ) (a b : Answer) (u v : List ℕ) → Promise o lent a u → Promise o lent b v → (a ≡ b) × (u ≡ v)
-determined o lent a b u v p q =
-    (same-said a b (p .number ∙ sym (q .number)) (p .place ∙ sym (q .place)) (p .count ∙ sym (q .count)), p .bytes ∙ sym (q .bytes))
+    (text : Track Bytes → Option Bytes) (T : Tables) (lent : List ℕ) (a b : Answer) (u v : List ℕ) → Promise text T lent a u
+    → Promise text T lent b v → (a ≡ b) × (u ≡ v)
+determined text T lent a b u v p q =
+    let e : p .outcome ≡ q .outcome = one-outcome text T (length lent) (p .outcome) (q .outcome) (p .comes) (q .comes) in (
+      same-said a b (p .number ∙ (ap numberIn e ∙ sym (q .number))) (p .place ∙ sym (q .place)) (p .count ∙ (ap countIn e ∙ sym (q .count))),
+      p .bytes ∙ (ap (λ (o : Outcome). textIn o ++ replicate (length lent - length (textIn o)) 0) e ∙ sym (q .bytes)),
+    )

@@ -8,9 +8,8 @@ use mathlib.Core.Option.{Option, none, some}
 use lib.ListN.{length, replicate}
 use lib.Dec.{leb}
 use Rattle.track.specs.Track.{Bytes, Cue, Track}
-use Rattle.track.specs.Tables.{Tables}
+use Rattle.track.specs.Tables.{Tables, lengths, LongEnough}
 use Rattle.track.specs.Meaning.{trackIn}
-use Rattle.track.specs.Check.{isFull}
 use Rattle.written.specs.Written.{writtenOf, cueWritten}
 use Rattle.writer.specs.declared.calls.Answer.{Answer}
 
@@ -57,16 +56,12 @@ unfolding fits
 ofText lent none = meets 17
 ofText lent (some w) = cond (fits lent w) (gives w) (meets 18)
 
--- 17: what is handed is no track
-unfoldable pub ofTrack : (Track Bytes → Option Bytes) → ℕ → Option (Track Bytes) → Outcome
-unfolding ofText
-ofTrack text lent none = meets 17
-ofTrack text lent (some t) = ofText lent (text t)
-
--- "1. A lent table is shorter than its fixed length." "for a handed track 17 comes after […]; 18 is last"
-unfoldable pub outcomeOf : (Track Bytes → Option Bytes) → Tables → ℕ → Outcome
-unfolding isFull trackIn ofTrack
-outcomeOf text T lent = cond (isFull T) (ofTrack text lent (trackIn T)) (meets 1)
+-- of the tables T, where so many bytes are lent: "1. A lent table is shorter than its fixed length.", "17. A handed track has […]", where they
+-- mean none, or else what comes of the text that is asked for; "18 is last"
+pub data Comes (text : Track Bytes → Option Bytes) (T : Tables) (lent : ℕ) : Outcome → Type 0 where
+  short-table : ¬ LongEnough (lengths T) → Comes text T lent (meets 1)
+  no-track : LongEnough (lengths T) → trackIn T ≡ none → Comes text T lent (meets 17)
+  of-track : (t : Track Bytes) → LongEnough (lengths T) → trackIn T ≡ some t → Comes text T lent (ofText lent (text t))
 
 unfoldable pub numberIn : Outcome → ℕ
 numberIn (gives w) = 0
@@ -81,7 +76,9 @@ textIn (gives w) = w
 textIn (meets n) = []
 
 -- ---- the promise
-pub record Promise (outcome : Outcome) (lent : List ℕ) (answer : Answer) (left : List ℕ) : Type 0 where
+pub record Promise (text : Track Bytes → Option Bytes) (T : Tables) (lent : List ℕ) (answer : Answer) (left : List ℕ) : Type 0 where
+  pub outcome : Outcome
+  pub comes : Comes text T (length lent) outcome
   -- "the number, the place"
   pub number : numberOf answer ≡ numberIn outcome
   pub place : placeOf answer ≡ 0

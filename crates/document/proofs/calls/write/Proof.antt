@@ -1,7 +1,7 @@
 use Prim.Native.Nat.{ℕ}
 use mathlib.Core.Path.{refl, sym, ap, _∙_}
 use lib.ListN.{length, length-replicate}
-use Rattle.writer.proofs.CallLaws.{accepted, clear-self}
+use Rattle.writer.proofs.CallLaws.{checked, accepted, clear-self}
 use Rattle.writer.proofs.Promised.{promise-refused, promise-done}
 use Rattle.document.proofs.Ready.{whole-ready}
 use borrow.Author.Needs.{needs}
@@ -32,7 +32,7 @@ enum-told c = search needs
 -- src/calls.rt:155:25
 fill-requires : tie.Need-fill-requires
 fill-requires c κs =
-    let t = sym (c .before .before .before .check-track .ensures) ∙ c .before .enum-told .given .1 in
+    let t = checked _ _ _ (c .before .before .before .check-track .ensures) (c .before .enum-told .given .1) in
     let a = accepted _ t in
     (whole-ready _ (a .0) (a .1), clear-self _ (length (c .before .before .before .before .before .before .before .before .before .before .before .before .before .before .before .before .before .before .before .args .out .now)) (c .before .before .before .before .before .before .clear-bytes .ensures))
 
@@ -43,7 +43,7 @@ same-length c = search needs
 -- src/calls.rt:118:1
 returns : tie.Need-returns
 returns c =
-    let t = sym (c .before .before .before .check-track .ensures) ∙ c .before .r .given .1 in
+    let t = checked _ _ _ (c .before .before .before .check-track .ensures) (c .before .r .given .1) in
     promise-refused _ _ _ _ _ t (c .before .before .before .before .before .before .clear-bytes .ensures)
 
 -- src/calls.rt:118:1
@@ -53,7 +53,7 @@ same-length-2 c = search needs
 -- src/calls.rt:118:1
 returns-2 : tie.Need-returns-2
 returns-2 c =
-    let t = sym (c .before .before .before .before .before .before .check-track .ensures) ∙ c .before .before .before .before .enum-told .given .1 in
+    let t = checked _ _ _ (c .before .before .before .before .before .before .check-track .ensures) (c .before .before .before .before .enum-told .given .1) in
     let a = accepted _ t in
     let e = ap length (c .before .before .before .before .before .before .before .before .before .clear-bytes .ensures) ∙ length-replicate {A = ℕ} _ 0 in
     promise-done _ _ _ _ (a .0) (a .1) _ refl _ _ e (c .before .before .fill .ensures)
