@@ -31,7 +31,19 @@ use Rattle.styles.specs.Reaches.{Reaches, Exactly}
 use Rattle.styles.specs.Values.{laidOver, blank, unstyled}
 use Rattle.styles.specs.Resolve.{Resolution, resolve}
 use Rattle.styles.specs.Own.{Read, is, refused, next}
-use Rattle.styles.specs.Queries.{nothing, resolveOptional, withOwn, regionFound, regionStyle, others, both, regionOptional, cueFound, effectiveStyle, nth}
+use Rattle.styles.specs.Queries.{
+  nothing,
+  resolveOptional,
+  withOwn,
+  regionFound,
+  regionStyle,
+  others,
+  both,
+  regionOptional,
+  cueFound,
+  effectiveStyle,
+  nth,
+}
 use Rattle.styles.specs.Cells.{blankLook, Tidy}
 use Rattle.styles.specs.Ids.{idsIn}
 use Rattle.styles.specs.Steps as styles
@@ -43,8 +55,31 @@ use Rattle.styles.proofs.Tidying.{tidy-blank}
 use Rattle.queries.specs.declared.query.Resolved.{Resolved}
 use Rattle.queries.specs.declared.region.Part.{Part}
 use Rattle.queries.specs.declared.region.PartRead.{PartRead}
-use Rattle.queries.specs.Promise.{Asked, askedValue, askedRegion, askedCue, ByRegion, ByCue, Queried, ReferencedStyle, RegionStyle, EffectiveStyle}
-use Rattle.queries.specs.Steps.{SpanIn, regionTables, regionsOf, partAs, PartPost, RegionPost, CueRegionPost, queryCheck, refusedAs, answerOf, FinishPost}
+use Rattle.queries.specs.Promise.{
+  Asked,
+  askedValue,
+  askedRegion,
+  askedCue,
+  ByRegion,
+  ByCue,
+  Queried,
+  ReferencedStyle,
+  RegionStyle,
+  EffectiveStyle,
+}
+use Rattle.queries.specs.Steps.{
+  SpanIn,
+  regionTables,
+  regionsOf,
+  partAs,
+  PartPost,
+  RegionPost,
+  CueRegionPost,
+  queryCheck,
+  refusedAs,
+  answerOf,
+  FinishPost,
+}
 use Rattle.queries.proofs.Regions.{blank-unstyled}
 use Rattle.queries.proofs.Reaching.{region-exactly, cue-exactly}
 use Rattle.queries.proofs.Promising.{zeros, valued-query, over-query, given-query}
@@ -106,7 +141,8 @@ module _ (text : Bytes) (T : Tables) (lent : List ℕ) (ask : Asked) (reached : 
 -- ---- a value
 module _ (value : Bytes) (T : Tables) (lent : List ℕ) where
   pub referenced : (answer : Resolved) (left : List ℕ)
-      → Queried value T lent (askedValue value) (λ k. Reaches (k .styles) value) (trimmed value) answer left → ReferencedStyle value T lent answer left
+      → Queried value T lent (askedValue value) (λ k. Reaches (k .styles) value) (trimmed value) answer left → ReferencedStyle value T lent
+      answer left
   referenced answer left q = record {
     queried = q;
     no-style = λ n k e.
@@ -128,10 +164,12 @@ module _ (value : Bytes) (T : Tables) (lent : List ℕ) where
         → FinishPost p walked t₂ t₃ answer → ReferencedStyle value T lent answer t₃
     value-asked p n walked answer a f =
         let q : resolve (trackAt T .styles) value
-        ≡ resolved value T lent (askedValue value) (λ k. Reaches (k .styles) value) (trimmed value) h value [] look t₁ t₂ t₃ cleared = unread same-value in
+        ≡ resolved value T lent (askedValue value) (λ k. Reaches (k .styles) value) (trimmed value) h value [] look t₁ t₂ t₃ cleared = unread
+        same-value in
         referenced answer t₃
         (asked value T lent (askedValue value) (λ k. Reaches (k .styles) value) (trimmed value) h value [] look t₁ t₂ t₃ cleared same-value
-        (rw (ap (λ (r : Resolution). r .ids) q) at (resolve-answers (trackAt T .styles) value .ids-reached)) (rw blank-look tidy-blank) p n walked answer a f)
+        (rw (ap (λ (r : Resolution). r .ids) q) at (resolve-answers (trackAt T .styles) value .ids-reached)) (rw blank-look tidy-blank) p n
+        walked answer a f)
       where
         unread : {a b : Resolution} → is a ≡ is b → a ≡ b
         unread e = cc
@@ -151,7 +189,8 @@ module _ (id : Bytes) (T : Tables) (lent : List ℕ) (h : queryCheck id T ≡ Ch
 
   pub region-refuses : (n : ℕ) → RegionPost (T .regions) (T .extras) (T .strings) (regionCount (T .head)) id (PartRead.Refused n)
       → (left : List ℕ) → left ≡ replicate (length lent) 0 → RegionStyle id T lent (refusedAs n) left
-  region-refuses n p left z = valued-query id T lent (askedRegion id) (λ k. ByRegion k id) id h n (asks-region (PartRead.Refused n) p) (p .within) left z
+  region-refuses n p left z = valued-query id T lent (askedRegion id) (λ k. ByRegion k id) id h n (asks-region (PartRead.Refused n) p) (p
+      .within) left z
 
   module _ (x : Part) (p : RegionPost (T .regions) (T .extras) (T .strings) (regionCount (T .head)) id (PartRead.Is x)) (t₁ t₂ t₃ : List ℕ)
       (cleared : t₁ ≡ replicate (length lent) 0) where
@@ -210,17 +249,20 @@ module _ (T : Tables) (i : ℕ) (lent : List ℕ) (h : queryCheck [] T ≡ Check
     the-cue = nth-first (cueIn T) (cueCount (T .head)) i l
 
     -- its region
-    region-given : (has : Bool) (v : Bytes) → regionOptional (trackAt T) (given has v) ≡ cond has (regionFound (trackAt T .styles) (findRegion v (trackAt T .regions))) (is nothing)
+    region-given : (has : Bool) (v : Bytes) → regionOptional (trackAt T) (given has v) ≡ cond has (regionFound (trackAt T .styles) (findRegion v
+        (trackAt T .regions))) (is nothing)
     unfolding regionStyle
     region-given true v = refl
     region-given false v = refl
 
-    regions-same : (v : Bytes) → findRegion v (regionsOf (T .regions) (T .extras) (T .strings) (regionCount (T .head))) ≡ findRegion v (trackAt T .regions)
+    regions-same : (v : Bytes) → findRegion v (regionsOf (T .regions) (T .extras) (T .strings) (regionCount (T .head))) ≡ findRegion v (trackAt T
+        .regions)
     unfolding trackAt regionIn
     regions-same v = refl
 
     -- its own value
-    own-given : (styles : List (Style Bytes)) → resolveOptional styles (given (cue .«has_style») (bytesAt (T .strings) (cue .style))) ≡ resolve styles (bytesAt (T .strings) (cue .style))
+    own-given : (styles : List (Style Bytes)) → resolveOptional styles (given (cue .«has_style») (bytesAt (T .strings) (cue .style))) ≡ resolve
+        styles (bytesAt (T .strings) (cue .style))
     unfolding cueAt cell optional nothing
     own-given styles =
         by-test (eqb (getD (T .cues) (i * 11 + 0) 0) 1) (λ e. rw e) (λ e. rw (e, no-bytes (T .strings)) (sym (resolve-nothing styles)))
@@ -238,7 +280,8 @@ module _ (T : Tables) (i : ℕ) (lent : List ℕ) (h : queryCheck [] T ≡ Check
           own-given (trackAt T .styles),
         )
 
-    pub cue-refuses : (n : ℕ) → CueRegionPost (T .regions) (T .extras) (T .strings) (regionCount (T .head)) (cue .«has_region») (cue .region) (PartRead.Refused n)
+    pub cue-refuses : (n : ℕ) → CueRegionPost (T .regions) (T .extras) (T .strings) (regionCount (T .head)) (cue .«has_region») (cue .region)
+        (PartRead.Refused n)
         → (left : List ℕ) → left ≡ replicate (length lent) 0 → EffectiveStyle T i lent (refusedAs n) left
     cue-refuses n p left z = valued-query [] T lent (askedCue i) (λ k. ByCue k i) [] h n (asks-cue (PartRead.Refused n) p) (p .within) left z
 
@@ -246,15 +289,18 @@ module _ (T : Tables) (i : ℕ) (lent : List ℕ) (h : queryCheck [] T ≡ Check
         (p : CueRegionPost (T .regions) (T .extras) (T .strings) (regionCount (T .head)) (cue .«has_region») (cue .region) (PartRead.Is x))
         (t₁ t₂ t₃ : List ℕ) (cleared : t₁ ≡ replicate (length lent) 0) where
       abbrev cue-answer : Resolution
-      cue-answer = resolved [] T lent (askedCue i) (λ k. ByCue k i) [] h (bytesAt (T .strings) (x .chain)) (bytesAt (T .strings) (cue .style)) (x .look) t₁ t₂ t₃ cleared
+      cue-answer = resolved [] T lent (askedCue i) (λ k. ByCue k i) [] h (bytesAt (T .strings) (x .chain)) (bytesAt (T .strings) (cue .style)) (x
+          .look) t₁ t₂ t₃ cleared
 
       same-cue : askedCue i (trackAt T) ≡ is cue-answer
       unfolding trackAt
       same-cue = asks-cue (PartRead.Is x) p
 
       pub cue-asked : (walked : Applied) (answer : Resolved)
-          → AnswerPost [] (T .styles) (T .sizes) (T .strings) (styleCount (T .head)) (bytesAt (T .strings) (x .chain)) (bytesAt (T .strings) (cue .style)) t₁ t₂ (x .look) walked
+          → AnswerPost [] (T .styles) (T .sizes) (T .strings) (styleCount (T .head)) (bytesAt (T .strings) (x .chain)) (bytesAt (T .strings) (cue
+          .style)) t₁ t₂ (x .look) walked
           → FinishPost (span 0 0) walked t₂ t₃ answer → EffectiveStyle T i lent answer t₃
       cue-asked walked answer a f =
-          asked [] T lent (askedCue i) (λ k. ByCue k i) [] h (bytesAt (T .strings) (x .chain)) (bytesAt (T .strings) (cue .style)) (x .look) t₁ t₂ t₃ cleared
+          asked [] T lent (askedCue i) (λ k. ByCue k i) [] h (bytesAt (T .strings) (x .chain)) (bytesAt (T .strings) (cue .style)) (x .look) t₁
+          t₂ t₃ cleared
           same-cue (cue-exactly (trackAt T) i cue-answer same-cue) (p .within .1) (span 0 0) (no-bytes []) walked answer a f

@@ -55,7 +55,8 @@ seven a b c d e f g h =
 
 module _ (T : Tables) where
   rows : Bool
-  rows = rowsFull (length (T .head)) (length (T .params)) (length (T .styles)) (length (T .regions)) (length (T .cues)) (length (T .segments)) (length (T .extras))
+  rows = rowsFull (length (T .head)) (length (T .params)) (length (T .styles)) (length (T .regions)) (length (T .cues)) (length (T .segments))
+      (length (T .extras))
 
   rest : Bool
   rest = restFull (length (T .times)) (length (T .reveal)) (length (T .sizes)) (length (T .strings)) (length (T .texts))
@@ -168,6 +169,7 @@ module _ (T : Tables) where
         → SpanIn (T .strings) (cueAt (T .cues) (T .times) i .style) × SpanIn (T .strings) (cueAt (T .cues) (T .times) i .region)
     unfolding cueAt
     cue-spans i l =
-        let p = cue-parts (T .cues) (T .extras) (T .segments) (T .sizes) (usedStrings T) (usedTexts T) (segmentCount (T .head)) (cell 11 (T .cues) i 7) i
+        let p = cue-parts (T .cues) (T .extras) (T .segments) (T .sizes) (usedStrings T) (usedTexts T) (segmentCount (T .head)) (cell 11 (T
+        .cues) i 7) i
         (cue-ok T (ok .is-track) i l .0) in
         (optional-in _ _ _ (p .style), optional-in _ _ _ (p .region))

@@ -50,7 +50,8 @@ unfolding onceAt
 only-at [] b k h i = no (sym h)
 only-at (x ∷ l) b zero h zero = both (sameBytes x b) (noneOf l b) h .0 ∙ sym (eq-eqb 0 0 refl)
 only-at (x ∷ l) b zero h (suc i) = none-at l b (both (sameBytes x b) (noneOf l b) h .1) i ∙ sym (ne-eqb (suc i) 0 (λ e. omega arith))
-only-at (x ∷ l) b (suc k) h zero = not-true (sameBytes x b) (both (not (sameBytes x b)) (onceAt l b k) h .0) ∙ sym (ne-eqb 0 (suc k) (λ e. omega arith))
+only-at (x ∷ l) b (suc k) h zero = not-true (sameBytes x b) (both (not (sameBytes x b)) (onceAt l b k) h .0) ∙ sym (ne-eqb 0 (suc k) (λ e. omega
+    arith))
 only-at (x ∷ l) b (suc k) h (suc i) = only-at l b k (both (not (sameBytes x b)) (onceAt l b k) h .1) i ∙ same i k
   where
     same : (i k : ℕ) → eqb i k ≡ eqb (suc i) (suc k)

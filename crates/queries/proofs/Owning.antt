@@ -40,7 +40,22 @@ use Rattle.queries.specs.declared.own.ColorRead.{ColorRead}
 use Rattle.queries.specs.declared.own.Measure.{Measure}
 use Rattle.queries.specs.declared.own.SizeRead.{SizeRead}
 use Rattle.queries.specs.declared.own.OwnRead.{OwnRead}
-use Rattle.queries.specs.Steps.{valueAt, bytesIn, valueIn, SpanIn, HasExtras, extrasOf, says, alignWord, colorAs, ColorPost, sizeAs, SizePost, ownLook, OwnPost}
+use Rattle.queries.specs.Steps.{
+  valueAt,
+  bytesIn,
+  valueIn,
+  SpanIn,
+  HasExtras,
+  extrasOf,
+  says,
+  alignWord,
+  colorAs,
+  ColorPost,
+  sizeAs,
+  SizePost,
+  ownLook,
+  OwnPost,
+}
 use Rattle.queries.proofs.Numbered.{onceAt, value-named, value-absent, value-within}
 
 no-bytes : (z : List ℕ) → stringAt z 0 0 ≡ []
@@ -185,7 +200,11 @@ module _ (v : Bytes) where
         → SizePost v (SizeRead.Is (record { has = true; size = s }))
     size-post d s h e = let g = rw k at h in record { is = rw (g, e); tidy = λ x. no x }
 
-    pub size-none : decimalOf (take n v) 6 10 ≡ Decimal.Nothing → (s : Size) → s ≡ noSize → SizePost v (SizeRead.Is (record { has = false; size = s }))
+    pub size-none : decimalOf (take n v) 6 10 ≡ Decimal.Nothing → (s : Size) → s ≡ noSize → SizePost v (SizeRead.Is (record {
+      has = false;
+      size =
+          s;
+    }))
     size-none h s e = let g = rw k at h in record { is = rw g; tidy = λ x. e }
 
     pub size-beyond : decimalOf (take n v) 6 10 ≡ Decimal.Beyond → SizePost v SizeRead.Beyond

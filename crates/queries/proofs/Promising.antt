@@ -37,7 +37,20 @@ use Rattle.styles.specs.Steps.{Over, styleOf, Stood}
 use Rattle.styles.proofs.Along.{ids-length}
 use Rattle.styles.proofs.Members.{same-count}
 use Rattle.queries.specs.declared.query.Resolved.{Resolved}
-use Rattle.queries.specs.Promise.{numberOf, placeOf, countOf, nameIn, styleIn, AbsentZero, Asked, isOver, lastNumber, trackNumber, numberFor, Queried}
+use Rattle.queries.specs.Promise.{
+  numberOf,
+  placeOf,
+  countOf,
+  nameIn,
+  styleIn,
+  AbsentZero,
+  Asked,
+  isOver,
+  lastNumber,
+  trackNumber,
+  numberFor,
+  Queried,
+}
 use Rattle.queries.specs.Steps.{checkRest, checkText, queryCheck, answerOf, FinishPost}
 use Rattle.queries.proofs.Handed.{Accepted}
 
@@ -111,7 +124,8 @@ module _ (text : Bytes) (T : Tables) where
 
   pub check-good : Good (queryCheck text T)
   check-good =
-      ways Good (λ f. (refl, omega arith)) (λ f l. (refl, omega arith)) (λ f l u. (refl, omega arith)) (λ f l u t. (refl, omega arith)) (λ f l u t. tt)
+      ways Good (λ f. (refl, omega arith)) (λ f l. (refl, omega arith)) (λ f l u. (refl, omega arith)) (λ f l u t. (refl, omega arith)) (λ f l u
+      t. tt)
 
   abbrev Taken : Check → Type 0
   Taken Check.Track = Accepted T × (length text ≤ 65536)
@@ -251,7 +265,8 @@ module _ (text : Bytes) (T : Tables) (lent : List ℕ) (ask : Asked) (reached : 
           unfolding numberOf placeOf countOf nameIn styleIn
           given-query part q =
               by-test (w .found)
-              (λ t. rw t (as-answer (Resolved.Style (record { name = part; look = w .look; ids = w .count })) refl refl (rw t) refl (λ b x. named b x) tidy))
+              (λ t. rw t (as-answer (Resolved.Style (record { name = part; look = w .look; ids = w .count })) refl refl (rw t) refl (λ b x. named
+              b x) tidy))
               (λ t. rw t (as-answer (Resolved.NoStyle (w .count)) refl refl (rw t) refl (λ b x. no-name x) tt))
             where
               named : (b : Bytes) → some (bytesAt text part) ≡ some b → b ≡ name

@@ -12,7 +12,19 @@ use Rattle.records.specs.Find.{findRegion}
 use Rattle.styles.specs.Reaches.{_∈_, Reaches, Distinct, empty, Exactly}
 use Rattle.styles.specs.Resolve.{Resolution, resolve}
 use Rattle.styles.specs.Own.{Read, is, refused, next, valueOf, ownValues}
-use Rattle.styles.specs.Queries.{nothing, resolveOptional, withOwn, regionFound, regionStyle, others, both, regionOptional, cueFound, effectiveStyle, nth}
+use Rattle.styles.specs.Queries.{
+  nothing,
+  resolveOptional,
+  withOwn,
+  regionFound,
+  regionStyle,
+  others,
+  both,
+  regionOptional,
+  cueFound,
+  effectiveStyle,
+  nth,
+}
 use Rattle.styles.proofs.Theorem.{resolve-answers}
 use Rattle.styles.proofs.Both.{both-exactly}
 use Rattle.queries.specs.Promise.{ByRegion, chained, ByCue, its-region, its-value}
@@ -104,7 +116,8 @@ module _ (k : Track Bytes) where
       go (is s) u q =
           rw (← (ids-of q))
           (exactly-map {P = λ (a : Bytes). ByOptional (c .region) a ⊎ ByValue (k .styles) (c .style) a} to from
-          (both-exactly (s .ids) (resolveOptional (k .styles) (c .style) .ids) (optional-exactly (c .region) s u) (value-exactly (k .styles) (c .style))))
+          (both-exactly (s .ids) (resolveOptional (k .styles) (c .style) .ids) (optional-exactly (c .region) s u) (value-exactly (k .styles) (c
+          .style))))
 
   pub cue-exactly : (i : ℕ) (r : Resolution) → effectiveStyle k i ≡ is r → Exactly (ByCue k i) (r .ids)
   unfolding effectiveStyle

@@ -28,7 +28,24 @@ use Rattle.styles.proofs.Tidying.{tidy-blank}
 use Rattle.queries.specs.declared.own.OwnRead.{OwnRead}
 use Rattle.queries.specs.declared.region.Part.{Part}
 use Rattle.queries.specs.declared.region.PartRead.{PartRead}
-use Rattle.queries.specs.Steps.{valueAt, bytesIn, valueIn, SpanIn, HasExtras, extrasOf, ownAs, OwnPost, HasRegions, regionTables, regionsOf, blankPart, partAs, PartPost, RegionPost, CueRegionPost}
+use Rattle.queries.specs.Steps.{
+  valueAt,
+  bytesIn,
+  valueIn,
+  SpanIn,
+  HasExtras,
+  extrasOf,
+  ownAs,
+  OwnPost,
+  HasRegions,
+  regionTables,
+  regionsOf,
+  blankPart,
+  partAs,
+  PartPost,
+  RegionPost,
+  CueRegionPost,
+}
 use Rattle.queries.proofs.Numbered.{value-within, value-absent}
 use Rattle.queries.proofs.Owning.{chain-is}
 

@@ -24,7 +24,22 @@ use Rattle.styles.specs.Resolve.{Walked, Resolution, start, walk, answer
 use Rattle.styles.specs.Queries.{others, both, styled, withOwn}
 use Rattle.styles.specs.Cells.{overlaid, blankLook, isPlain, Tidy}
 use Rattle.styles.specs.Ids.{idsIn, lastOf, Held, Unlinked}
-use Rattle.styles.specs.Steps.{stylesIn, stateIn, Over, Applies, Overflows, styleOf, Stood, LaysOver, idsOfBoth, Pairs, PairsOver, answerOf, Answered, AnswerOver}
+use Rattle.styles.specs.Steps.{
+  stylesIn,
+  stateIn,
+  Over,
+  Applies,
+  Overflows,
+  styleOf,
+  Stood,
+  LaysOver,
+  idsOfBoth,
+  Pairs,
+  PairsOver,
+  answerOf,
+  Answered,
+  AnswerOver,
+}
 use Rattle.styles.proofs.Clearing.{unlinked-ids, unlinked-within}
 use Rattle.styles.proofs.Along.{over-kept, over-longer, walk-none}
 use Rattle.styles.proofs.Lookups.{look-over, no-words}

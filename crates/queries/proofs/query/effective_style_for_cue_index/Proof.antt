@@ -133,7 +133,8 @@ returns-3 c =
 same-length-4 : tie.Need-same-length-4
 same-length-4 c =
     let c5 = c .before .before .before .before .before in
-    let c26 = c5 .before .before .before .before .before .before .before .before .before .before .before .before .before .before .before .before .before .before .before .before .before in
+    let c26 = c5 .before .before .before .before .before .before .before .before .before .before .before .before .before .before .before .before
+    .before .before .before .before .before in
     omega (arith, c26 .ids .given, c5 .ids2 .given, c .before .ids3 .given)
 
 returns-4 : tie.Need-returns-4
