@@ -22,7 +22,7 @@ use Rattle.derivation.proofs.Contents.{nodes-same}
 pub whole-same : (s : List ℕ) (n m : ℕ) → Fits s n m → Same s (prologEnd s) (meaning s n m) (nodesC 64 8192 8192 (drop (prologEnd s) s))
 whole-same s n m f =
     rw (in-range s n m (prologEnd s) f refl) (nodes-same s 64 (prologEnd s) 0 0
-        (record { within = prolog-agrees s .1; most = omega arith; least = omega arith }))
+    (record { within = prolog-agrees s .1; most = omega arith; least = omega arith }))
 
 finish-same : (s : List ℕ) (lo : ℕ) (o : Out) (l : LRes Forest) → Same s lo o l → resultIn s o ≡ finishL (length s) l
 unfolding resultIn

@@ -155,8 +155,11 @@ unfolding closeAt
 close-same s d p x b h e =
     let g : ℕ = runEnd (other 62) s p in
     let i : ℕ = length s - p in
-    rw (close-law d (8192 - x .nodes) (8192 - x .attrs) (drop p s) (rw (length-drop p s) (omega arith)) (kind-at s p ∙ rw e), length-drop p s,
-        past-drop (other 62) s p)
+    rw (
+      close-law d (8192 - x .nodes) (8192 - x .attrs) (drop p s) (rw (length-drop p s) (omega arith)) (kind-at s p ∙ rw e),
+      length-drop p s,
+      past-drop (other 62) s p,
+    )
     (by-test (ltb g (length s))
     (λ w. let l : g < length s = ltb-true g (length s) w in
     rw (w, byte-at s g l, after-close i (getD s g 0) (drop (g + 1) s) .1, joined-none (treeIn s (x .forest)))

@@ -92,7 +92,7 @@ module _ (s : List ℕ) (rec : Counted Forest) (q k a : ℕ) (b : Stands s q k a
   -- ---- sections
   section-law : (d i j : ℕ) → q + 9 ≤ length s
       → nodeL content as-section d (suc i) j (drop q s) ≡ lok (section (stringAt s (q + 9) (seek cdataEnd s (q + 9) - (q + 9)))) i j
-          (drop (marks.past cdataEnd s (q + 9)) s)
+      (drop (marks.past cdataEnd s (q + 9)) s)
   unfolding nodeL
   section-law d i j h = rw (drop-drop 9 q s, before-at cdataEnd s (q + 9) h, beyond-at cdataEnd s (q + 9))
 
@@ -125,7 +125,7 @@ module _ (s : List ℕ) (rec : Counted Forest) (q k a : ℕ) (b : Stands s q k a
     unfolding enclose treeIn
     enclose-same l r (got f z j c) x h t =
         rw (t .0) (read-same (element (stringAt s (q + 1) n) (attrsIn s l) (treeIn s f)) (placed.elem q n l f placed.nil) z j c refl
-            (omega (arith, t .1)) (t .2))
+        (omega (arith, t .1)) (t .2))
     enclose-same l r (nothing z) x h t = absurd t
     enclose-same l r (bad m z) x h t = (rw (t .0), t .1)
 
@@ -153,7 +153,11 @@ module _ (s : List ℕ) (rec : Counted Forest) (q k a : ℕ) (b : Stands s q k a
   element-more d ih h =
       let e : ℕ = runEnd nameByte s (q + 1) in
       by-test (ltb k 8192)
-      (λ x. rw (x, one-more k (ltb-true k 8192 x), element-law d (8192 - (k + 1)) (8192 - a),
-          tag-agrees s (content d) q (8192 - (k + 1)) a h (b .least))
+      (λ x. rw (
+        x,
+        one-more k (ltb-true k 8192 x),
+        element-law d (8192 - (k + 1)) (8192 - a),
+        tag-agrees s (content d) q (8192 - (k + 1)) a h (b .least),
+      )
       (tagged-same (e - (q + 1)) d ih (startAt s q e a) (tag-ends s q a h (b .least) (startAt s q e a) refl) (ltb-true k 8192 x)))
       (λ x. rw (x, no-more k (ltb-false k 8192 x), full-element d (8192 - a)) (bad-same 5))

@@ -104,8 +104,14 @@ module _ (m s : List ℕ) where
           (λ e. let z : i - i ≡ 0 = omega arith in
           rw (seek-here m s i h e, z, byte-at s i h, ← (byte-at s i h), prefix-at m s i, e))
           (λ e. let z : seek m s (i + 1) - i ≡ suc (seek m s (i + 1) - (i + 1)) = omega (arith, sought (i + 1) (omega arith) .after) in
-          rw (seek-on m s i h e, z, byte-at s i h, ← (byte-at s i h), prefix-at m s i,
-              e) (ap (getD s i 0 ∷_) (k (i + 1) (omega arith) (omega arith))))
+          rw (
+            seek-on m s i h e,
+            z,
+            byte-at s i h,
+            ← (byte-at s i h),
+            prefix-at m s i,
+            e,
+          ) (ap (getD s i 0 ∷_) (k (i + 1) (omega arith) (omega arith))))
 
   pub before-at : (i : ℕ) → i ≤ length s → before m (drop i s) ≡ stringAt s i (seek m s i - i)
   before-at i h = before-take i h ∙ sym (string-is s i (seek m s i - i))

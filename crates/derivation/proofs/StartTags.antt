@@ -79,7 +79,7 @@ record Rest (s : List ℕ) (p : ℕ) (x : TagState) (o : TagOut) : Type 0 where
 
 slash-agrees : (s : List ℕ) (p : ℕ) (x : TagState) → p < length s → (rec : Counted Forest) (n : Bytes) (k : ℕ)
     → lift (afterSlash (suc (length (drop (p + 1) s))) (element n (attrsIn s (x .list)) none) (past blank (drop (p + 1) s)))
-        (λ t r. lok t k (8192 - x .count) r)
+    (λ t r. lok t k (8192 - x .count) r)
     ≡ tagCase rec s n k (slash s p x)
 unfolding slash startsAt tagCase
 slash-agrees s p x h rec n k =
@@ -205,7 +205,7 @@ module _ (s : List ℕ) (p : ℕ) (x : TagState) (i : Head s p x) (later : (q : 
           (rest-attr s p x h u (rw (v, w)) g y q _ (a .0) (k .1) (later q _ (k .1) (record { within = a .1; solid = k .0; most = omega arith })))
       at-attribute g (flaw n q) e a =
           rw (tag-flaw s p x h (eqb-false (getD s p 0) 62 v) (eqb-false (getD s p 0) 47 w) n q g e)
-              (rest-flaw s p x h u (rw (v, w)) g n q (a .0) (a .1))
+          (rest-flaw s p x h u (rw (v, w)) g n q (a .0) (a .1))
 
       at-other : Rest s p x (tagFrom s p x)
       at-other = by-test (ltb (x .count) 8192)
@@ -217,7 +217,7 @@ module _ (s : List ℕ) (p : ℕ) (x : TagState) (i : Head s p x) (later : (q : 
     at-byte = by-test (eqb (getD s p 0) 62)
         (λ v. rw (tag-open s p x h (eqb-true (getD s p 0) 62 v)) (rest-open s p x h u v (i .most)))
         (λ v. by-test (eqb (getD s p 0) 47) (λ w. rw (tag-slash s p x h (eqb-true (getD s p 0) 47 w)) (rest-slash s p x h u v w (i .most)))
-            (λ w. at-other v w))
+        (λ w. at-other v w))
 
   turn : Rest s p x (tagFrom s p x)
   turn = by-test (ltb p (length s)) (λ b. at-byte (ltb-true p (length s) b))
@@ -277,5 +277,5 @@ tag-agrees s rec p k a h g =
     rw b (nameless rec (length s - p) k (8192 - a) n (drop (skip s e) s) (rw z (string-is s (p + 1) 0))))
     (λ b. let z : e ≡ p + 1 → ⊥ = eqb-false e (p + 1) b in
     let c : length n ≡ e - (p + 1) = ap length (string-is s (p + 1) (e - (p + 1)))
-        ∙ length-take-le (e - (p + 1)) (drop (p + 1) s) (simp length-drop (omega arith)) in
+    ∙ length-take-le (e - (p + 1)) (drop (p + 1) s) (simp length-drop (omega arith)) in
     rw b (named rec (length s - p) k (8192 - a) n (drop (skip s e) s) (omega arith) ∙ rest-start s p e a (omega arith) high g .agrees rec n k)))

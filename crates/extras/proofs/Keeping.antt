@@ -1,7 +1,7 @@
 -- Extras, one name after the other. Assumes nothing.
 --     entry-none, entry-kept, entry-extra, is-align, no-align     the extra of one name
 --     Kept, kept-start, kept-on, kept-all     one turn of `keep_all`
---     few-extras, kept-room, room-for, long-after    no more of them than attributes, so that each row is in the table
+--     few-extras, kept-room, few-names, room-for, long-after    no more of them than attributes, so that each row is in the table
 --     lists-from                              where they stand
 use Prim.Native.Nat.{ℕ, zero, suc, _+_, _-_, _*_, _≤_, _<_, _^_}
 use mathlib.Core.Path.{_≡_, refl, sym, ap, _∙_}
@@ -162,7 +162,7 @@ kept-room {list = list} {l} {i} x h z f e =
     let a = length-append (x .done ++ keptIn z i f) rest in
     omega (arith, w, x .count, count-kept z i f, a, length-append (x .done) (keptIn z i f))
 
-few-names : (list : Listed) → length (names list) ≤ 53
+pub few-names : (list : Listed) → length (names list) ≤ 53
 few-names Listed.StyleExtra = leb-true _ _ refl
 few-names Listed.InlineExtra = leb-true _ _ refl
 few-names Listed.RegionAttr = leb-true _ _ refl

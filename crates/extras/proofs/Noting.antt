@@ -8,7 +8,7 @@ use mathlib.Core.List.{List, [], _∷_}
 use mathlib.Core.Option.{Option, none, some}
 use native.Mathlib.Omega.{arith}
 use lib.Dec.{eqb}
-use lib.ListN.{length, getD, set, replicate, getD-replicate}
+use lib.ListN.{length, getD, set, length-set}
 use lib.Seq.{getD-set-same, getD-set-other}
 use borrow.Author.Tests.{eqb-true, ne-eqb, eqb-false}
 use Rattle.scan.specs.Names.{sameFolded}
@@ -142,3 +142,7 @@ pub number-fits : (list : Listed) (s rows : List ℕ) → length (names list) �
     → NumberFits rows number
 number-fits list s rows h Number.Nothing e = tt
 number-fits list s rows h (Number.At i) e = omega (arith, number-name list s i (sym e) .0)
+
+pub long-note : (rows : List ℕ) (number : Number) (r : ℕ) → length (withNote rows number r) ≡ length rows
+long-note rows (Number.At i) r = by-test (eqb (getD rows i 0) 0) (λ e. rw e (length-set rows i r)) (λ e. rw e)
+long-note rows Number.Nothing r = refl

@@ -130,7 +130,7 @@ alone-rest n after h = go (past blank after) refl
     go (a ∷ s) e =
         by-test (eqb a 61)
         (λ t. absurd (h (run blank after) s (record { all = run-only blank after }) (run-past blank after
-            ∙ ap (run blank after ++_) (e ∙ ap (_∷ s) (eqb-eq a 61 t)))))
+        ∙ ap (run blank after ++_) (e ∙ ap (_∷ s) (eqb-eq a 61 t)))))
         (λ t. rw t)
 
 pub with-value : (n c w after v : Bytes) → Blanks c → Value after w v → afterName n (`=` then c then w then after) ≡ ok (attr n v) after
@@ -157,7 +157,7 @@ attribute-complete {after} (named {n} {b} {c} {w} {v} h bb cc val) =
       after,
       ap readAttribute assoc
           ∙ ap₂ (λ x y. afterName x (past blank y)) (run-is attrNameByte n s (h .run .only) (h .run .longest))
-              (past-is attrNameByte n s (h .run .only) (h .run .longest))
+          (past-is attrNameByte n s (h .run .only) (h .run .longest))
           ∙ ap (afterName n) (past-is blank b (`=` then c then w then after) (bb .all) blank-equals)
           ∙ with-value n c w after v cc val,
       refl,
@@ -235,7 +235,7 @@ opening-complete {after} rec h (opening {n} {b} {w} {l = l} nm bb at) =
     let k : ℕ = suc (length (n ++ s)) in
     ap (readElement rec) assoc
     ∙ ap₂ (λ x y. afterTagName rec k x (past blank y)) (run-is nameByte n s (nm .run .only) (nm .run .longest))
-        (past-is nameByte n s (nm .run .only) (nm .run .longest))
+    (past-is nameByte n s (nm .run .only) (nm .run .longest))
     ∙ ap (afterTagName rec k n) (past-is blank b (w ++ after) (bb .all) (attributes-stops (tag-end-stops h) at))
     ∙ go n (nm .some-byte) k
   where
@@ -379,7 +379,7 @@ element-c {after} {w} h k d ih n g =
       sorted =
           ap kind (tg .is)
           ∙ kind-element (tg .byte) (tg .rest) (tg .no-slash) (subst (λ s. ¬ Begins `<!--` s) (tg .is) h′)
-              (subst (λ s. ¬ Begins `<![CDATA[` s) (tg .is) k′);
+          (subst (λ s. ¬ Begins `<![CDATA[` s) (tg .is) k′);
       gives = ih n g;
       some-byte = rw ((element-tagged d) .is) (omega arith);
     }
@@ -545,11 +545,11 @@ no-more-here (a ∷ s) h =
     by-test (prefix `<?` t)
     (λ q. let b = prefix-begins `<?` t q in let w = up-to 63 (62 ∷ []) t in
     absurd (h (w .0) _ (w .1) (instruction (begins-piece `<?` (63 ∷ []) _ (w .0) open-instruction (w .2) (subst (Begins `<?`) (w .1) b)) (w .2))))
-        (λ q₁.
+    (λ q₁.
     by-test (prefix `<!--` t)
     (λ q. let b = prefix-begins `<!--` t q in let w = up-to 45 (45 ∷ 62 ∷ []) t in
     absurd (h (w .0) _ (w .1) (Piece.comment (begins-piece `<!--` (45 ∷ 45 ∷ []) _ (w .0) open-comment (w .2) (subst (Begins `<!--`) (w .1) b))
-        (w .2)))) (λ q₂.
+    (w .2)))) (λ q₂.
     by-test (prefix `<!` t)
     (λ q. let b = prefix-begins `<!` t q in let w = up-to 62 [] t in
     absurd (h (w .0) _ (w .1) (declaration (begins-piece `<!` [] _ (w .0) open-declaration (w .2) (subst (Begins `<!`) (w .1) b))

@@ -82,10 +82,10 @@ module _ (rec : Counted Forest) (N : ℕ) (ih : ContentEnds N rec) where
   opened-end n l k j [] g = omega arith
   opened-end n l k j (a ∷ s) g = by-test (eqb a 62)
       (λ e. rw e (ends-lmap (element n l) (suc (length s)) (rec k j s)
-          (weaken-l (length s) (suc (length s)) (rec k j s) (omega arith) (ih k j s (omega arith)))))
+      (weaken-l (length s) (suc (length s)) (rec k j s) (omega arith) (ih k j s (omega arith)))))
       (λ e. rw e (ends-lift (suc (length s)) k j (afterSlash (suc (length s)) (element n l none) (past blank s))
       (weaken (length (past blank s)) (suc (length s)) (afterSlash (suc (length s)) (element n l none) (past blank s))
-          (omega (arith, past-length blank s))
+      (omega (arith, past-length blank s))
       (slash-ends (λ r. ok none r) 0 (λ r h. omega arith) (suc (length s)) (element n l none) (past blank s) (omega arith)))))
 
   pub tag-then-end : (n r : Bytes) (x : LRes (List Attr)) → length r ≤ N → EndsL (length r) x
@@ -127,18 +127,18 @@ node-then-ends rec N ih M (lok t k j r) h g =
 
 pub content-as-end : (rec : ℕ → Before → Counted Forest) (N : ℕ) → ((d : ℕ) (p : Before) → ContentEnds N (rec d p))
     → (d : ℕ) (p : Before) (k j a : ℕ) (s : Bytes) (i : Kind) → View (a ∷ s) i → length s < N
-        → EndsL (suc (length s)) (contentAsL rec d p i k j (a ∷ s))
+    → EndsL (suc (length s)) (contentAsL rec d p i k j (a ∷ s))
 unfolding contentAsL
 content-as-end rec N ih d no-comment k j a s as-close v g =
     ends-lift (suc (length s)) k j (afterClose (suc (length s)) (past (other 62) (a ∷ s)))
     (weaken (length (past (other 62) (a ∷ s))) (suc (length s)) (afterClose (suc (length s)) (past (other 62) (a ∷ s)))
-        (past-length (other 62) (a ∷ s))
+    (past-length (other 62) (a ∷ s))
     (close-ends (suc (length s)) (past (other 62) (a ∷ s))))
 content-as-end rec N ih d a-comment k j a s as-close v g = omega arith
 content-as-end rec N ih d p k j a s as-comment (comments h) g =
     let short : length (beyond `-->` (a ∷ s)) ≤ length s = comment-ends a s h in
     weaken-l (length (beyond `-->` (a ∷ s))) (suc (length s)) (rec d a-comment k j (beyond `-->` (a ∷ s))) (omega arith)
-        (ih d a-comment k j (beyond `-->` (a ∷ s)) (omega arith))
+    (ih d a-comment k j (beyond `-->` (a ∷ s)) (omega arith))
 content-as-end rec N ih d p k j a s (as-node i) v g =
     node-then-ends (rec d no-comment) N (ih d no-comment) (length s) (nodeL (λ d. rec d no-comment) i d k j (a ∷ s))
     (node-end (λ d. rec d no-comment) N (λ d. ih d no-comment) a s i v d k j (omega arith)) g
@@ -149,7 +149,7 @@ content-end zero d p k j s g = absurd (omega (arith, g))
 content-end (suc n) d p k j [] g = omega arith
 content-end (suc n) d p k j (a ∷ s) g =
     content-as-end (λ d p k j r. contentL n d p k j r) n (λ d p k j r h. content-end n d p k j r h) d p k j a s (kind (a ∷ s)) (view (a ∷ s))
-        (omega arith)
+    (omega arith)
 
 pub nodes-as-end : (content rec : ℕ → Counted Forest) (N : ℕ) → ((d : ℕ) → ContentEnds N (content d)) → ((d : ℕ) → ContentEnds N (rec d))
     → (d k j a : ℕ) (s : Bytes) (i : Kind) → View (a ∷ s) i → length s < N → EndsL (suc (length s)) (nodesAsL content rec d i k j (a ∷ s))
@@ -158,7 +158,7 @@ nodes-as-end content rec N hc ih d k j a s as-close v g = omega arith
 nodes-as-end content rec N hc ih d k j a s as-comment (comments h) g =
     let short : length (beyond `-->` (a ∷ s)) ≤ length s = comment-ends a s h in
     weaken-l (length (beyond `-->` (a ∷ s))) (suc (length s)) (rec d k j (beyond `-->` (a ∷ s))) (omega arith)
-        (ih d k j (beyond `-->` (a ∷ s)) (omega arith))
+    (ih d k j (beyond `-->` (a ∷ s)) (omega arith))
 nodes-as-end content rec N hc ih d k j a s (as-node i) v g =
     node-then-ends (rec d) N (ih d) (length s) (nodeL content i d k j (a ∷ s)) (node-end content N hc a s i v d k j (omega arith)) g
 

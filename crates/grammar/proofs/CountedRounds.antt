@@ -88,7 +88,7 @@ module _ (N : ℕ) (f g : Counted Forest) (same : (k j : ℕ) (r : Bytes) → le
   tag-same i (a ∷ n) k j m h =
       let r : Bytes = past blank m in
       opening-then-same (a ∷ n) (length r) (attributesL (suc (length r)) k j r)
-          (attributes-end (suc (length r)) k j r (past-stops blank m) (omega arith))
+      (attributes-end (suc (length r)) k j r (past-stops blank m) (omega arith))
       (omega (arith, past-length blank m))
 
   element-same : (k j : ℕ) (s : Bytes) → length s ≤ N → elementL f k j s ≡ elementL g k j s
@@ -129,7 +129,7 @@ content-as-same N f g q e d p k j a s (as-node i) v h =
     more-same N (f d no-comment) (g d no-comment) (q d no-comment) (length s) (nodeL (λ d. f d no-comment) i d k j (a ∷ s))
     (node-end (λ d. f d no-comment) N (λ d. e d no-comment) a s i v d k j (omega arith)) h
     ∙ ap (λ x. lnext x (λ t k j r. lmap (more t) (g d no-comment k j r)))
-        (node-same N (λ d. f d no-comment) (λ d. g d no-comment) (λ d. q d no-comment) i d k j a s (omega arith))
+    (node-same N (λ d. f d no-comment) (λ d. g d no-comment) (λ d. q d no-comment) i d k j a s (omega arith))
 
 content-step-same : (N : ℕ) (f g : ℕ → Before → Counted Forest) → Agree N f g → AllEnd N f → (d : ℕ) (p : Before) (k j : ℕ) (s : Bytes) → length s ≤ N
     → contentStepL f d p k j s ≡ contentStepL g d p k j s
@@ -145,7 +145,7 @@ content-rounds (suc n) zero d p k j s h g = absurd (omega (arith, g))
 content-rounds (suc n) (suc m) d p k j s h g =
     content-step-same (length s) (λ d p k j r. contentL n d p k j r) (λ d p k j r. contentL m d p k j r)
     (λ d q k j r l. content-rounds n m d q k j r (omega arith) (omega arith)) (λ d q k j r l. content-end n d q k j r (omega arith)) d p k j s
-        (omega arith)
+    (omega arith)
 
 unfoldable pub contentC : ℕ → Before → Counted Forest
 contentC d p k j s = contentL (suc (length s)) d p k j s
@@ -155,7 +155,7 @@ unfolding contentC contentL
 contentC-is d p k j s =
     content-step-same (length s) (λ d p k j r. contentL (length s) d p k j r) contentC
     (λ d q k j r l. content-rounds (length s) (suc (length r)) d q k j r l (omega arith)) (λ d q k j r l. content-end (length s) d q k j r l) d p k
-        j s (omega arith)
+    j s (omega arith)
 
 -- ---- documents
 
@@ -182,9 +182,9 @@ nodes-rounds zero m d k j s h g = absurd (omega (arith, h))
 nodes-rounds (suc n) zero d k j s h g = absurd (omega (arith, g))
 nodes-rounds (suc n) (suc m) d k j s h g =
     nodes-step-same (length s) (λ d k j r. contentL n d no-comment k j r) (λ d k j r. contentL m d no-comment k j r) (λ d k j r. nodesL n d k j r)
-        (λ d k j r. nodesL m d k j r)
+    (λ d k j r. nodesL m d k j r)
     (λ d k j r l. content-rounds n m d no-comment k j r (omega arith) (omega arith))
-        (λ d k j r l. nodes-rounds n m d k j r (omega arith) (omega arith))
+    (λ d k j r l. nodes-rounds n m d k j r (omega arith) (omega arith))
     (λ d k j r l. content-end n d no-comment k j r (omega arith)) d k j s (omega arith)
 
 unfoldable pub nodesC : ℕ → Counted Forest
@@ -194,9 +194,9 @@ pub nodesC-is : (d k j : ℕ) (s : Bytes) → nodesC d k j s ≡ nodesStepL (λ 
 unfolding nodesC contentC nodesL
 nodesC-is d k j s =
     nodes-step-same (length s) (λ d k j r. contentL (length s) d no-comment k j r) (λ d. contentC d no-comment)
-        (λ d k j r. nodesL (length s) d k j r) nodesC
+    (λ d k j r. nodesL (length s) d k j r) nodesC
     (λ d k j r l. content-rounds (length s) (suc (length r)) d no-comment k j r l (omega arith))
-        (λ d k j r l. nodes-rounds (length s) (suc (length r)) d k j r l (omega arith))
+    (λ d k j r l. nodes-rounds (length s) (suc (length r)) d k j r l (omega arith))
     (λ d k j r l. content-end (length s) d no-comment k j r l) d k j s (omega arith)
 
 pub readDocumentL-is : (d k j : ℕ) (s : Bytes) → readDocumentL d k j s ≡ finishL (length s) (nodesC d k j (pastProlog (suc (length s)) s))

@@ -74,14 +74,14 @@ name-ends n [] = omega arith
 name-ends n (a ∷ s) = by-test (eqb a 61)
     (λ e. rw e (ends-map (attr n) (suc (length s)) (readValue (suc (length s)) (past blank s))
     (weaken (length (past blank s)) (suc (length s)) (readValue (suc (length s)) (past blank s)) (omega (arith, past-length blank s))
-        (value-ends (suc (length s)) (past blank s)))))
+    (value-ends (suc (length s)) (past blank s)))))
     (λ e. rw e (omega arith))
 
 pub equals-ends : (s : Bytes) → Ends (length s) (readAttribute (61 ∷ s))
 unfolding readAttribute afterName afterNameAs run past attrNameByte blank
 equals-ends s = ends-map (attr []) (length s) (readValue (suc (length s)) (past blank s))
     (weaken (length (past blank s)) (length s) (readValue (suc (length s)) (past blank s)) (past-length blank s)
-        (value-ends (suc (length s)) (past blank s)))
+    (value-ends (suc (length s)) (past blank s)))
 
 pub attribute-ends : (a : ℕ) (s : Bytes) → blank a ≡ false → tagEnd a ≡ false → Ends (length s) (readAttribute (a ∷ s))
 unfolding readAttribute attrNameByte
@@ -90,7 +90,7 @@ attribute-ends a s u i = by-test (attrNameByte a)
     weaken (length t) (length s) (afterName (run attrNameByte (a ∷ s)) t)
     (omega (arith, past-length blank (past attrNameByte (a ∷ s)), past-head attrNameByte a s e)) (name-ends (run attrNameByte (a ∷ s)) t))
     (λ e. subst (λ z. Ends (length s) (readAttribute (z ∷ s))) (sym (eqb-eq a 61 (equals-byte (blank a) (eqb a 62) (eqb a 47) (eqb a 61) e u i)))
-        (equals-ends s))
+    (equals-ends s))
 
 pub attributes-next : (n N : ℕ) (x : Res Attr) → Ends N x → N < n
     → ((r : Bytes) → Stops blank r → length r < n → Ends (length r) (readAttributes n r))
@@ -108,7 +108,7 @@ attributes-ends (suc n) [] h g = omega arith
 attributes-ends (suc n) (a ∷ s) h g =
     let ih : (r : Bytes) → Stops blank r → length r < n → Ends (length r) (readAttributes n r) = attributes-ends n in
     by-test (tagEnd a) (λ e. rw e (omega arith)) (λ e. rw e (attributes-next n (length s) (readAttribute (a ∷ s)) (attribute-ends a s h e)
-        (omega arith) ih))
+    (omega arith) ih))
 
 module _ (rec : Bytes → Res Forest) (N : ℕ) (ih : (s : Bytes) → length s < N → Ends (length s) (rec s)) where
   pub slash-ends : (k : ℕ) (t : Tree) (s : Bytes) → 0 < k → Ends (length s) (afterSlash k t s)
@@ -139,7 +139,7 @@ module _ (rec : Bytes → Res Forest) (N : ℕ) (ih : (s : Bytes) → length s <
       let r : Bytes = past blank (past nameByte s) in
       let short : length r ≤ length s = omega (arith, past-length blank (past nameByte s), past-length nameByte s) in
       weaken (length r) (length s) (afterTagName rec (suc (length s)) (run nameByte s) r) short
-          (tag-ends (suc (length s)) (run nameByte s) r (past-stops blank (past nameByte s)) (omega arith))
+      (tag-ends (suc (length s)) (run nameByte s) r (past-stops blank (past nameByte s)) (omega arith))
 
   pub node-ends : (a : ℕ) (s : Bytes) (i : NodeKind) → View (a ∷ s) (as-node i) → length s ≤ N → Ends (length s) (nodeAs rec i (a ∷ s))
   unfolding nodeAs
@@ -170,15 +170,15 @@ pub content-as-ends : (rec : Before → Bytes → Res Forest) (N : ℕ) → ((p 
 unfolding contentAs
 content-as-ends rec N ih no-comment a s as-close v g =
     weaken (length (past (other 62) (a ∷ s))) (suc (length s)) (afterClose (suc (length s)) (past (other 62) (a ∷ s)))
-        (past-length (other 62) (a ∷ s)) (close-ends (suc (length s)) (past (other 62) (a ∷ s)))
+    (past-length (other 62) (a ∷ s)) (close-ends (suc (length s)) (past (other 62) (a ∷ s)))
 content-as-ends rec N ih a-comment a s as-close v g = omega arith
 content-as-ends rec N ih p a s as-comment (comments h) g =
     let short : length (beyond `-->` (a ∷ s)) ≤ length s = comment-ends a s h in
     weaken (length (beyond `-->` (a ∷ s))) (suc (length s)) (rec a-comment (beyond `-->` (a ∷ s))) (omega arith)
-        (ih a-comment (beyond `-->` (a ∷ s)) (omega arith))
+    (ih a-comment (beyond `-->` (a ∷ s)) (omega arith))
 content-as-ends rec N ih p a s (as-node i) v g =
     node-next (rec no-comment) N (ih no-comment) (length s) (nodeAs (rec no-comment) i (a ∷ s))
-        (node-ends (rec no-comment) N (ih no-comment) a s i v (omega arith)) g
+    (node-ends (rec no-comment) N (ih no-comment) a s i v (omega arith)) g
 
 pub content-ends : (n : ℕ) (p : Before) (s : Bytes) → length s < n → Ends (length s) (readContent n p s)
 unfolding readContent contentStep
@@ -204,7 +204,7 @@ nodes-ends zero s g = absurd (omega (arith, g))
 nodes-ends (suc n) [] g = omega arith
 nodes-ends (suc n) (a ∷ s) g =
     nodes-as-ends (λ r. readContent n no-comment r) (λ r. readNodes n r) n (λ r h. content-ends n no-comment r h) (λ r h. nodes-ends n r h) a s
-        (kind (a ∷ s)) (view (a ∷ s)) (omega arith)
+    (kind (a ∷ s)) (view (a ∷ s)) (omega arith)
 
 pub finish-ends : (size N m p : ℕ) (x : Res Forest) → Ends N x → finish size x ≡ refused m p → 0 < m
 finish-ends size N m p (ok f r) h e = let z : _≡_ {A = ℕ} 0 1 = cc in omega arith

@@ -123,11 +123,11 @@ node-at (a ∷ s) after t i e g q d k j =
     let v : View (a ∷ s) (as-node i) = subst (View (a ∷ s)) e (view (a ∷ s)) in
     subst (NodeStep t after k j)
     (node-same (length s) L inElement (λ d k j r h. content-rounds n (suc (length r)) d no-comment k j r (omega arith) (omega arith)) i d k j a s
-        (omega arith))
+    (omega arith))
     (node-split t after d k j (nodeAs (Reads n) i (a ∷ s)) (nodeL L i d k j (a ∷ s)) q
     (node-sim (Reads n) L (λ d k j r. content-sim n no-comment d k j r) i d k j (a ∷ s))
     (node-inside (length s) (Reads n) L (λ r h. content-ends n no-comment r (omega arith))
-        (λ d k j r h. content-inside n no-comment d k j r (omega arith)) a s i v (omega arith) d k j))
+    (λ d k j r h. content-inside n no-comment d k j r (omega arith)) a s i v (omega arith) d k j))
 
 -- ---- an opening that the grammar has
 
@@ -187,7 +187,7 @@ attributes-step {after} h (attribute {u} {b} {w} {a} {l} x y z) k (suc j) =
     let r-is : past blank (gv .0) ≡ w ++ after = gv .2 ∙ past-is blank b (w ++ after) (y .all) (attributes-stops h z) in
     step-more after a l k j (attributesC k j (w ++ after)) (attributesC k (suc j) ((u then b then w) ++ after))
     (ap (attributesC k (suc j)) assoc ∙ attribute-round k j u s (gv .0) a (attribute-front x) (gv .1)
-        ∙ ap (λ q. lmap (a ∷_) (attributesC k j q)) r-is)
+    ∙ ap (λ q. lmap (a ∷_) (attributesC k j q)) r-is)
     (attributes-step h z k j)
 
 -- the start tag from `after` on, where the attributes l₀ are read
@@ -216,7 +216,7 @@ unfolding elementL afterTagNameL attributesC
 tag-name rec n s r k j nm e =
     let i : ℕ = suc (length (n ++ s)) in
     ap₂ (λ x y. afterTagNameL rec i x k j (past blank y)) (run-is nameByte n s (nm .run .only) (nm .run .longest))
-        (past-is nameByte n s (nm .run .only) (nm .run .longest))
+    (past-is nameByte n s (nm .run .only) (nm .run .longest))
     ∙ ap (afterTagNameL rec i n k j) e
     ∙ go n (nm .some-byte) i
   where
@@ -267,7 +267,7 @@ element-reach D K J top s w d₀ k₀ j₀ p eb (here zero k j cd ck cj f) =
     limit 4 (f 4 (length s) (cont-bad d₀ 0 p k j s as-element 4 (length s) (begins-some 60 [] s (eb .0)) (element-kind s eb) refl)) (omega arith)
 element-reach D K J top s w d₀ k₀ j₀ p eb (here (suc d) zero j cd ck cj f) =
     limit 5 (f 5 (length s) (cont-bad d₀ (suc d) p 0 j s as-element 5 (length s) (begins-some 60 [] s (eb .0)) (element-kind s eb) refl))
-        (omega arith)
+    (omega arith)
 element-reach D K J top s w d₀ k₀ j₀ p eb (here (suc d) (suc k) j cd ck cj f) =
     here d k j (omega arith) (omega arith) cj
     (λ n l e. f n l (cont-bad d₀ (suc d) p (suc k) j s as-element n l (begins-some 60 [] s (eb .0)) (element-kind s eb) e))
@@ -312,7 +312,7 @@ opened-here rec n l k j after m i e =
 
 pub start-reach : (D K J : ℕ) (top : LRes Forest) (after o w n : Bytes) (l : List Attr) (d₀ k₀ j₀ : ℕ) → Opening (62 ∷ after) o n l
     → ElementReach D K J top (o ++ (62 ∷ after)) w d₀ k₀ j₀ → Reach D K J top after (w ++ (o ++ (62 ∷ []))) (suc d₀) (suc k₀) (j₀ + length l)
-        no-comment
+    no-comment
 start-reach D K J top after o w n l d₀ k₀ j₀ op (early m i e g q) =
     early m i e (omega (arith, simp length-append at g)) (simp length-append (omega arith))
 start-reach D K J top after o w n l d₀ k₀ j₀ op (limit m e g) =
@@ -372,7 +372,7 @@ tag-reach D K J {after} h (in-start-tag {w} {o} {n} {d = d₀} {k = k₀} {j = j
     let x : Bytes = w ++ (o ++ after) in
     subst (λ z. TagReach J (answer D K J z) after (w ++ o) (j₀ + length l)) (sym (append-assoc w o after))
     (opening-reach D K J (answer D K J x) after o w n l d₀ k₀ j₀ h op
-        (element-reach D K J (answer D K J x) (o ++ after) w d₀ k₀ j₀ p eb (reach D K J v)))
+    (element-reach D K J (answer D K J x) (o ++ after) w d₀ k₀ j₀ p eb (reach D K J v)))
 
 -- ---- the numbers
 
@@ -412,7 +412,7 @@ too-deep-sooner D K J w after k₀ j₀ p (early n l e g h) eb = sooner-before D
 too-deep-sooner D K J w after k₀ j₀ p (here zero k j cd ck cj f) eb =
     sooner-here D K J w after 4 4
     (f 4 (length after) (cont-bad D 0 p k j after as-element 4 (length after) (begins-some 60 [] after (eb .0)) (element-kind after eb) refl))
-        (omega arith)
+    (omega arith)
 too-deep-sooner D K J w after k₀ j₀ p (here (suc d) k j cd ck cj f) eb = absurd (omega (arith, cd))
 
 -- 5
@@ -591,7 +591,7 @@ no-value-sooner D K J w n b c j₀ (here rec name l₀ k (suc j) cj f) h bb bc =
     let equal : length x - suc (length c) ≡ length (w then n then b) = simp length-append (omega arith) in
     by-answer D K J x 9 (length (w then n then b)) 9 (suc (length c))
     (f 9 (suc (length c)) (tag-bad rec name l₀ k (suc j) s 9 (suc (length c))
-        (attribute-bad k j s 9 (suc (length c)) (equals-front n b c h) (no-value-here n b c h bb bc))))
+    (attribute-bad k j s 9 (suc (length c)) (equals-front n b c h) (no-value-here n b c h bb bc))))
     (inr (equal, omega arith))
 
 -- 10
@@ -655,7 +655,7 @@ unfolding attributesC
 attributes-unread n after k j nm no-open =
     let r : Bytes = past blank after in
     unread-fails n after k j (readAttributes (suc (length r)) r) (attributesL (suc (length r)) k j r) nm no-open
-        (attributes-sim (suc (length r)) k j r)
+    (attributes-sim (suc (length r)) k j r)
     (attributes-sound (suc (length r)) r (past-stops blank after)) (attributes-ten (suc (length r)) k j r (past-stops blank after))
 
 pub end-of-text : (x i m : ℕ) → 0 < x → m ≤ 10 → (x - i < x) ⊎ ((x - i ≡ x) × (m ≤ 10))
@@ -724,6 +724,6 @@ exactly D K J s n p = (
   (λ h.
       let a = meets-sooner D K J (h .met) in
       let b = no-other (a .number) (a .place) n p (a .no-later)
-          (h .first (a .number) (a .place) (refused-meets D K J s (a .number) (a .place) (a .answered))) in
+      (h .first (a .number) (a .place) (refused-meets D K J s (a .number) (a .place) (a .answered))) in
       a .answered ∙ ap₂ refused (b .0) (b .1)),
 )

@@ -104,7 +104,7 @@ module _ (N : ℕ) (rec : Bytes → Res Forest) (recL : Counted Forest) (ends : 
     tag-inside i [] k j r h g = tt
     tag-inside i (a ∷ n) k j r h g =
         tag-then-inside (a ∷ n) k j (length r) (readAttributes (suc (length r)) r) (attributesL (suc (length r)) k j r)
-            (attributes-sim (suc (length r)) k j r)
+        (attributes-sim (suc (length r)) k j r)
         (attributes-inside (suc (length r)) k j r h (omega arith)) (attributes-ends (suc (length r)) r h (omega arith)) g
 
     pub element-inside : (k j : ℕ) (s : Bytes) → length s ≤ N → Inside (readElement rec s) (elementL recL k j s)
@@ -117,7 +117,7 @@ module _ (N : ℕ) (rec : Bytes → Res Forest) (recL : Counted Forest) (ends : 
 
 pub node-inside : (N : ℕ) (rec : Bytes → Res Forest) (recL : ℕ → Counted Forest) → ((s : Bytes) → length s < N → Ends (length s) (rec s))
     → ((d k j : ℕ) (s : Bytes) → length s < N → Inside (rec s) (recL d k j s)) → (a : ℕ) (s : Bytes) (i : NodeKind) → View (a ∷ s) (as-node i)
-        → length s ≤ N
+    → length s ≤ N
     → (d k j : ℕ) → Inside (nodeAs rec i (a ∷ s)) (nodeL recL i d k j (a ∷ s))
 unfolding nodeAs nodeL
 node-inside N rec recL ends ih a s as-text v g d zero j =
@@ -136,7 +136,7 @@ node-inside N rec recL ends ih a s as-element v g (suc d) (suc k) j = element-in
 
 pub node-then-inside : (N : ℕ) (rec : Bytes → Res Forest) (recL : ℕ → Counted Forest) → ((s : Bytes) → length s < N → Ends (length s) (rec s))
     → ((d k j : ℕ) (s : Bytes) → length s < N → Inside (rec s) (recL d k j s)) → (M d k j : ℕ) (u : Res Tree) (v : LRes Tree) → SimT d k j u v
-        → Inside u v → Ends M u → M < N
+    → Inside u v → Ends M u → M < N
     → Inside (next u (λ t r. mapRes (more t) (rec r))) (lnext v (λ t k j r. lmap (more t) (recL d k j r)))
 node-then-inside N rec recL ends ih M d k j u v (same t k₂ j₂ {r} x y z) h e g =
     inside-map (more t) (rec r) (recL d k₂ j₂ r) (ih d k₂ j₂ r (omega arith))
@@ -148,7 +148,7 @@ pub content-as-inside : (N : ℕ) (rec : Before → Bytes → Res Forest) (recL 
     → ((p : Before) (s : Bytes) → length s < N → Ends (length s) (rec p s))
     → ((p : Before) (d k j : ℕ) (s : Bytes) → length s < N → Inside (rec p s) (recL d p k j s)) → ((p : Before) → InStep (rec p) (λ d. recL d p))
     → (d : ℕ) (p : Before) (k j a : ℕ) (s : Bytes) (i : Kind) → View (a ∷ s) i → length s < N
-        → Inside (contentAs rec p i (a ∷ s)) (contentAsL recL d p i k j (a ∷ s))
+    → Inside (contentAs rec p i (a ∷ s)) (contentAsL recL d p i k j (a ∷ s))
 unfolding contentAs contentAsL
 content-as-inside N rec recL ends ih sim d no-comment k j a s as-close v g = inside-lift k j (afterClose (suc (length s)) (past (other 62) (a ∷ s)))
 content-as-inside N rec recL ends ih sim d a-comment k j a s as-close v g = tt
@@ -156,7 +156,7 @@ content-as-inside N rec recL ends ih sim d p k j a s as-comment (comments b) g =
     ih a-comment d k j (beyond `-->` (a ∷ s)) (omega (arith, comment-ends a s b))
 content-as-inside N rec recL ends ih sim d p k j a s (as-node i) v g =
     node-then-inside N (rec no-comment) (λ d. recL d no-comment) (ends no-comment) (ih no-comment) (length s) d k j
-        (nodeAs (rec no-comment) i (a ∷ s))
+    (nodeAs (rec no-comment) i (a ∷ s))
     (nodeL (λ d. recL d no-comment) i d k j (a ∷ s)) (node-sim (rec no-comment) (λ d. recL d no-comment) (sim no-comment) i d k j (a ∷ s))
     (node-inside N (rec no-comment) (λ d. recL d no-comment) (ends no-comment) (ih no-comment) a s i v (omega arith) d k j)
     (node-ends (rec no-comment) N (ends no-comment) a s i v (omega arith)) g
@@ -167,5 +167,5 @@ content-inside zero p d k j s g = tt
 content-inside (suc n) p d k j [] g = tt
 content-inside (suc n) p d k j (a ∷ s) g =
     content-as-inside n (λ q r. readContent n q r) (λ d p k j r. contentL n d p k j r) (λ q r h. content-ends n q r h)
-        (λ q d k j r h. content-inside n q d k j r h)
+    (λ q d k j r h. content-inside n q d k j r h)
     (λ q d k j r. content-sim n q d k j r) d p k j a s (kind (a ∷ s)) (view (a ∷ s)) (omega arith)

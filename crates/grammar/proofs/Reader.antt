@@ -114,7 +114,7 @@ abbrev pub kind : Bytes → Kind
 kind s =
     cond (prefix `</` s) as-close
     (cond (prefix `<!--` s) as-comment (cond (prefix `<![CDATA[` s) (as-node as-section)
-        (cond (prefix `<` s) (as-node as-element) (as-node as-text))))
+    (cond (prefix `<` s) (as-node as-element) (as-node as-text))))
 
 unfoldable pub nodeAs : (Bytes → Res Forest) → NodeKind → Bytes → Res Tree
 unfolding readElement before beyond

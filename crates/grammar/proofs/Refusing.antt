@@ -197,7 +197,7 @@ module _ (D K J : ℕ) (n : ℕ) (x : Bytes) (ih : AttributesR D K J n x) where
   pub attribute-then-refused : (k j j₀ N : ℕ) (w s : Bytes) (y : Res Attr) → x ≡ w ++ s → InStartTag s w j₀ → j₀ + suc j ≡ J → N < n → Ends N y
       → AttributeS s y → AttributeF s y
       → AttributesF D K J x (next y (λ a r. mapRes (a ∷_) (readAttributes n (past blank r))))
-          (lift y (λ a r. lmap (a ∷_) (attributesL n k j (past blank r))))
+      (lift y (λ a r. lmap (a ∷_) (attributesL n k j (past blank r))))
   attribute-then-refused k j j₀ N w s (bad m l) e t c g en so fa = inl (no-value-met D K J x w s j₀ m l e t fa)
   attribute-then-refused k j j₀ N w s (ok a r) e t c g en so fa = go (past blank r) refl
     where
@@ -223,11 +223,11 @@ module _ (D K J : ℕ) (n : ℕ) (x : Bytes) (ih : AttributesR D K J n x) where
   attributes-as-refused k zero j₀ w a s e t c u i g =
       let j-is : j₀ ≡ J = omega arith in
       inl (meets-at D K J (w ++ (a ∷ s)) x 7 (length w) (length x - length (a ∷ s)) (sym e) (place w (a ∷ s)
-          ∙ ap (λ z. length z - length (a ∷ s)) (sym e))
+      ∙ ap (λ z. length z - length (a ∷ s)) (sym e))
       (too-many-attributes (subst (λ z. InStartTag (a ∷ s) w z) j-is t) (attribute-begins a s u i)))
   attributes-as-refused k (suc j) j₀ w a s e t c u i g =
       attribute-then-refused k j j₀ (length s) w (a ∷ s) (readAttribute (a ∷ s)) e t c g (attribute-ends a s u i) (attribute-sound a s u i)
-          (attribute-fails a s u i)
+      (attribute-fails a s u i)
 
 pub attributes-refused : (D K J n : ℕ) (x : Bytes) → AttributesR D K J n x
 unfolding readAttributes attributesStep attributesAs attributesL attributesStepL attributesAsL
@@ -236,7 +236,7 @@ attributes-refused D K J (suc n) x k j j₀ w [] e t c h g = inr (refl, refl, re
 attributes-refused D K J (suc n) x k j j₀ w (a ∷ s) e t c h g =
     by-test (tagEnd a) (λ i. rw i tt)
     (λ i. rw i (attributes-as-refused D K J n x (λ k j j₀ w r e t c h g. attributes-refused D K J n x k j j₀ w r e t c h g) k j j₀ w a s e t c h i
-        (omega arith)))
+    (omega arith)))
 
 -- ---- start tags
 
@@ -263,9 +263,9 @@ not-ten n l r (inr h) e = go (past blank (h .0)) (sym (ap (afterOpening (λ s. o
     go (a ∷ s) q =
         by-test (eqb a 62)
         (λ t. let y : _≡_ {A = Res Tree} (ok (element n l none) s) (bad 10 0) =
-            ap (λ b. slashAs b (suc (length (h .0))) (element n l none) s) (sym t) ∙ q in let z : _≡_ {A = ℕ} 0 1 = cc in omega arith)
+        ap (λ b. slashAs b (suc (length (h .0))) (element n l none) s) (sym t) ∙ q in let z : _≡_ {A = ℕ} 0 1 = cc in omega arith)
         (λ t. let y : _≡_ {A = Res Tree} (bad 8 (suc (length (h .0)))) (bad 10 0) =
-            ap (λ b. slashAs b (suc (length (h .0))) (element n l none) s) (sym t) ∙ q in let z : _≡_ {A = ℕ} 8 10 = cc in omega arith)
+        ap (λ b. slashAs b (suc (length (h .0))) (element n l none) s) (sym t) ∙ q in let z : _≡_ {A = ℕ} 8 10 = cc in omega arith)
 
 pub at-tag-end : (r : Bytes) → Begins `>` r ⊎ Begins `/` r → AtTagEnd r
 at-tag-end r (inl h) = (62, h .0, h .1, refl)
@@ -279,7 +279,7 @@ no-opening c n m h e o r name l q op end =
     let s : Bytes = (c ∷ n) ++ m in
     let ten : readElement rec s ≡ bad 10 0 =
     ap₂ (λ y z. afterTagName rec (suc (length s)) y (past blank z)) (run-is nameByte (c ∷ n) m (h .only) (h .longest))
-        (past-is nameByte (c ∷ n) m (h .only) (h .longest))
+    (past-is nameByte (c ∷ n) m (h .only) (h .longest))
     ∙ ap (λ y. next y (afterOpening rec (c ∷ n))) e in
     not-ten name l r end (sym (opening-complete rec (at-tag-end r end) op) ∙ ap (λ y. readElement rec (drop 1 y)) (sym q) ∙ ten)
 
@@ -333,9 +333,9 @@ module _ (D K J N d₀ : ℕ) (rec : Counted Forest) (ih : ContentR D K J N (suc
       (λ h.
       let a-is : a ≡ 47 = eqb-eq a 47 (or-else (eqb a 62) (eqb a 47) (ap tagEnd (head-eq-of-cons-eq (end .2)) ∙ end .3) h) in
       rw h (subst (λ z. RefusedS D K J (w ++ (o ++ (z ∷ t)))
-          (lift (afterSlash (suc (length t)) (element n l none) (past blank t)) (λ t r. lok t k j r))) (sym a-is)
+      (lift (afterSlash (suc (length t)) (element n l none) (past blank t)) (λ t r. lok t k j r))) (sym a-is)
       (slash-refused o n l k j t (subst (λ z. Viable (o ++ (z ∷ t)) w d₀ k₀ j₀ p) a-is v) (subst (λ z. ElementBegins (o ++ (z ∷ t))) a-is eb)
-          (subst (λ z. Opening (z ∷ t) o n l) a-is op))))
+      (subst (λ z. Opening (z ∷ t) o n l) a-is op))))
 
   pub attributes-then-refused : (n b a t m : Bytes) (l : List Attr) (k j : ℕ) → m ≡ b ++ (a ++ t) → Viable (60 ∷ (n ++ m)) w d₀ k₀ j₀ p
       → ElementBegins (60 ∷ (n ++ m))
@@ -354,11 +354,11 @@ module _ (D K J N d₀ : ℕ) (rec : Counted Forest) (ih : ContentR D K J N (suc
   unfolding afterTagNameL
   tag-refused [] m k j v eb h ck cj g =
       meets-at D K J (w ++ (60 ∷ m)) (w ++ (60 ∷ m)) 6 (length w) (length (w ++ (60 ∷ m)) - suc (length m)) refl (place w (60 ∷ m))
-          (no-tag-name v eb (h .longest))
+      (no-tag-name v eb (h .longest))
   tag-refused (c ∷ n) m k j v eb h ck cj g =
       go (readAttributes (suc (length r)) r) refl (attributesL (suc (length r)) k j r)
       (attributes-refused D K J (suc (length r)) x k j (j₀ + 0) (w ++ (`<` then name then b)) r all
-          (in-start-tag {l = []} v₂ eb₂ (op [] no-attribute)) (omega arith) (past-stops blank m) (omega arith))
+      (in-start-tag {l = []} v₂ eb₂ (op [] no-attribute)) (omega arith) (past-stops blank m) (omega arith))
       (attributes-l k j (readAttributes (suc (length r)) r) (attributesL (suc (length r)) k j r) (attributes-sim (suc (length r)) k j r))
       (attributes-sound (suc (length r)) r (past-stops blank m))
     where
@@ -406,7 +406,7 @@ module _ (D K J N d₀ : ℕ) (rec : Counted Forest) (ih : ContentR D K J N (suc
           let q = subst (AttributesS r) (s .0) z in
           let short : length t ≤ N = omega (arith, ap length (q .1 .1), length-append (q .1 .0) t, past-length blank m) in
           attributes-then-refused name b (q .1 .0) t m l k₂ j₂ (m-is ∙ ap (b ++_) (q .1 .1)) v eb (record { run = h; some-byte = cons≢nil })
-              (all-blanks m) (q .1 .2) (q .0)
+          (all-blanks m) (q .1 .2) (q .0)
           (omega (arith, s .1)) (omega (arith, s .2)) short
 
   pub element-refused : (k j : ℕ) (s : Bytes) → Viable (60 ∷ s) w d₀ k₀ j₀ p → ElementBegins (60 ∷ s) → k₀ + suc k ≡ K → j₀ + j ≡ J → length s ≤ N
@@ -465,7 +465,7 @@ module _ (D K J : ℕ) (w : Bytes) (d₀ k₀ j₀ : ℕ) (p : Before) where
       let a-is : a ≡ 60 = head-eq-of-cons-eq (eb .0 .1) in
       subst (λ z. RefusedS D K J (w ++ (z ∷ s)) (elementL (rec d) k j s)) (sym a-is)
       (element-refused D K J N d₀ (rec d) (ih d (omega arith)) w k₀ j₀ p k j s (subst (λ z. Viable (z ∷ s) w d₀ k₀ j₀ p) a-is v)
-          (subst (λ z. ElementBegins (z ∷ s)) a-is eb) ck cj g)
+      (subst (λ z. ElementBegins (z ∷ s)) a-is eb) ck cj g)
 
 -- where a node is read, the grammar has it, and the counts have fallen by it
 abbrev pub NodeL : Bytes → (k j : ℕ) → LRes Tree → Type 0
@@ -488,7 +488,7 @@ node-then-refused D K J N d₀ k₀ j₀ p w s rec ih k j M (lok t k₂ j₂ r) 
     refused-map D K J (w ++ s) (more t) (rec k₂ j₂ r)
     (subst (λ z. RefusedS D K J z (rec k₂ j₂ r)) (append-assoc w u r ∙ ap (w ++_) (sym s-is))
     (ih (w ++ u) r (k₀ + treeNodes t) (j₀ + treeAttrs t) k₂ j₂ (Viable.node (subst (λ z. Viable z w d₀ k₀ j₀ p) s-is v) (n .0 .2))
-        (omega (arith, n .1)) (omega (arith, n .2)) (omega arith)))
+    (omega (arith, n .1)) (omega (arith, n .2)) (omega arith)))
 
 -- ---- content
 
@@ -504,7 +504,7 @@ close-refused D K J (suc d₀) k₀ j₀ k j w s v g h = go (past (other 62) s) 
     go : (z : Bytes) → past (other 62) s ≡ z → RefusedS D K J (w ++ s) (lift (afterClose (length s) z) (λ f r. lok f k j r))
     go [] e =
         let only : Only (other 62) s = subst (Only (other 62))
-            (sym (run-past (other 62) s ∙ ap (run (other 62) s ++_) e ∙ append-nil (run (other 62) s))) (run-only (other 62) s) in
+        (sym (run-past (other 62) s ∙ ap (run (other 62) s ++_) e ∙ append-nil (run (other 62) s))) (run-only (other 62) s) in
         let only-x = subst (Only (other 62)) (h .1) only in
         meets-at D K J (w ++ (`</` ++ x)) (w ++ s) 11 (length w) (length (w ++ s) - length s) (ap (w ++_) (sym (h .1))) (place w s)
         (open-close-tag (subst (λ z. Viable z w (suc d₀) k₀ j₀ no-comment) (h .1) v) (only-x .1 .1))
@@ -512,9 +512,9 @@ close-refused D K J (suc d₀) k₀ j₀ k j w s v g h = go (past (other 62) s) 
 
 pub content-as-refused : (D K J N : ℕ) (d₀ : ℕ) → 0 < d₀ → (rec : ℕ → Before → Counted Forest)
     → ((d : ℕ) (p : Before) → ContentEnds N (rec d p)) → (un : Before → Bytes → Res Forest) → ((p : Before) → InStep (un p) (λ d. rec d p))
-        → ((p : Before) (s : Bytes) → ContentS p s (un p s))
+    → ((p : Before) (s : Bytes) → ContentS p s (un p s))
     → ((d : ℕ) → suc d₀ + d ≡ D → ContentR D K J N (suc d₀) no-comment (rec d no-comment)) → (d : ℕ) → d₀ + d ≡ D
-        → ((q : Before) → ContentR D K J N d₀ q (rec d q))
+    → ((q : Before) → ContentR D K J N d₀ q (rec d q))
     → (p : Before) (w : Bytes) (k₀ j₀ k j a : ℕ) (s : Bytes) → Viable (a ∷ s) w d₀ k₀ j₀ p → k₀ + k ≡ K → j₀ + j ≡ J → length s < N
     → (i : Kind) → kind (a ∷ s) ≡ i → View (a ∷ s) i → RefusedS D K J (w ++ (a ∷ s)) (contentAsL rec d p i k j (a ∷ s))
 unfolding contentAsL
@@ -526,10 +526,10 @@ content-as-refused D K J N d₀ pos rec ends un sim so deeper d cd ih p w k₀ j
     let r : Bytes = beyond `-->` (a ∷ s) in
     subst (λ z. RefusedS D K J z (rec d a-comment k j r)) (append-assoc w (c .0) r ∙ ap (w ++_) (sym (c .1)))
     (ih a-comment (w ++ c .0) r k₀ j₀ k j (Viable.comment (subst (λ z. Viable z w d₀ k₀ j₀ p) (c .1) v) (c .2)) ck cj
-        (omega (arith, comment-ends a s h)))
+    (omega (arith, comment-ends a s h)))
 content-as-refused D K J N d₀ pos rec ends un sim so deeper d cd ih p w k₀ j₀ k j a s v ck cj g (as-node i) e h =
     node-then-refused D K J N d₀ k₀ j₀ p w (a ∷ s) (rec d no-comment) (ih no-comment) k j (length s) (nodeL (λ d. rec d no-comment) i d k j (a ∷ s))
-        v ck cj g
+    v ck cj g
     (node-end (λ d. rec d no-comment) N (λ d. ends d no-comment) a s i h d k j (omega arith))
     (node-l (a ∷ s) d k j (nodeAs (un no-comment) i (a ∷ s)) (nodeL (λ d. rec d no-comment) i d k j (a ∷ s))
     (node-sim (un no-comment) (λ d. rec d no-comment) (sim no-comment) i d k j (a ∷ s)) (node-sound (un no-comment) (so no-comment) a s i h))
@@ -541,10 +541,10 @@ content-refused D K J zero d₀ pos d cd p w s k₀ j₀ k j v ck cj g = absurd 
 content-refused D K J (suc n) d₀ pos d cd p w [] k₀ j₀ k j v ck cj g = tt
 content-refused D K J (suc n) d₀ pos d cd p w (a ∷ s) k₀ j₀ k j v ck cj g =
     content-as-refused D K J n d₀ pos (λ d p k j r. contentL n d p k j r) (λ d p k j r h. content-end n d p k j r h) (readContent n) (content-sim n)
-        (content-sound n)
+    (content-sound n)
     (λ d c w s k₀ j₀ k j v x y z. content-refused D K J n (suc d₀) (omega arith) d c no-comment w s k₀ j₀ k j v x y z) d cd
     (λ q w s k₀ j₀ k j v x y z. content-refused D K J n d₀ pos d cd q w s k₀ j₀ k j v x y z) p w k₀ j₀ k j a s v ck cj (omega arith) (kind (a ∷ s))
-        refl (view (a ∷ s))
+    refl (view (a ∷ s))
 
 -- ---- documents
 
@@ -564,7 +564,7 @@ nodes-as-refused D K J N content rec ends un sim so deeper ih p w k₀ j₀ k j 
     let r : Bytes = beyond `-->` (a ∷ s) in
     subst (λ z. RefusedS D K J z (rec D k j r)) (append-assoc w (c .0) r ∙ ap (w ++_) (sym (c .1)))
     (ih a-comment (w ++ c .0) r k₀ j₀ k j (Viable.comment (subst (λ z. Viable z w 0 k₀ j₀ p) (c .1) v) (c .2)) ck cj
-        (omega (arith, comment-ends a s h)))
+    (omega (arith, comment-ends a s h)))
 nodes-as-refused D K J N content rec ends un sim so deeper ih p w k₀ j₀ k j a s v ck cj g (as-node i) e h =
     node-then-refused D K J N 0 k₀ j₀ p w (a ∷ s) (rec D) (ih no-comment) k j (length s) (nodeL content i D k j (a ∷ s)) v ck cj g
     (node-end content N ends a s i h D k j (omega arith))
@@ -577,11 +577,11 @@ nodes-refused D K J zero p w s k₀ j₀ k j v ck cj g = absurd (omega (arith, g
 nodes-refused D K J (suc n) p w [] k₀ j₀ k j v ck cj g = tt
 nodes-refused D K J (suc n) p w (a ∷ s) k₀ j₀ k j v ck cj g =
     nodes-as-refused D K J n (λ d k j r. contentL n d no-comment k j r) (λ d k j r. nodesL n d k j r)
-        (λ d k j r h. content-end n d no-comment k j r h)
+    (λ d k j r h. content-end n d no-comment k j r h)
     (λ r. readContent n no-comment r) (content-sim n no-comment) (content-sound n no-comment)
     (λ d c w s k₀ j₀ k j v x y z. content-refused D K J n 1 (omega arith) d c no-comment w s k₀ j₀ k j v x y z)
     (λ q w s k₀ j₀ k j v x y z. nodes-refused D K J n q w s k₀ j₀ k j v x y z) p w k₀ j₀ k j a s v ck cj (omega arith) (kind (a ∷ s)) refl
-        (view (a ∷ s))
+    (view (a ∷ s))
 
 pub finish-refused : (D K J : ℕ) (x : Bytes) (v : LRes Forest) (m q : ℕ) → RefusedS D K J x v → finishL (length x) v ≡ refused m q → Meets D K J x m q
 finish-refused D K J x (lok f k j r) m q h e = let z : _≡_ {A = ℕ} 0 1 = cc in absurd (omega arith)

@@ -44,7 +44,7 @@ module _ (N : ℕ) (f g : Bytes → Res Forest) (same : (r : Bytes) → length r
   tag-same k (a ∷ n) m h =
       let r : Bytes = past blank m in
       next-same (a ∷ n) (length r) (readAttributes (suc (length r)) r) (attributes-ends (suc (length r)) r (past-stops blank m) (omega arith))
-          (omega (arith, past-length blank m))
+      (omega (arith, past-length blank m))
 
   element-same : (s : Bytes) → length s ≤ N → readElement f s ≡ readElement g s
   unfolding readElement
@@ -75,7 +75,7 @@ content-as-same N f g q e a-comment a s as-close v h = refl
 content-as-same N f g q e p a s as-comment (comments b) h = q a-comment (beyond `-->` (a ∷ s)) (omega (arith, comment-ends a s b))
 content-as-same N f g q e p a s (as-node i) v h =
     more-same N (f no-comment) (g no-comment) (q no-comment) (length s) (nodeAs (f no-comment) i (a ∷ s))
-        (node-ends (f no-comment) N (e no-comment) a s i v (omega arith)) h
+    (node-ends (f no-comment) N (e no-comment) a s i v (omega arith)) h
     ∙ ap (λ x. next x (λ t r. mapRes (more t) (g no-comment r))) (node-same N (f no-comment) (g no-comment) (q no-comment) i a s (omega arith))
 
 content-step-same : (N : ℕ) (f g : Before → Bytes → Res Forest) → Agree N f g → AllEnd N f → (p : Before) (s : Bytes) → length s ≤ N

@@ -104,8 +104,11 @@ found-step b a m s e (at-first r f l) = at-first r (rw e f) (rw e k)
   where
     k : (x y : Bytes) → (a ∷ before (b ∷ m) s) ++ (b ∷ m) ≡ x ++ ((b ∷ m) ++ y) → y ≡ []
     k [] y q =
-        absurd (prefix-not (b ∷ m) (a ∷ s) e (y ++ r, ap (a ∷_) (before-from (b ∷ m) s ∙ ap (before (b ∷ m) s ++_) f)
-        ∙ sym (append-assoc (a ∷ before (b ∷ m) s) (b ∷ m) r) ∙ ap (_++ r) q ∙ append-assoc (b ∷ m) y r))
+        absurd (prefix-not (b ∷ m) (a ∷ s) e (
+          y ++ r,
+          ap (a ∷_) (before-from (b ∷ m) s ∙ ap (before (b ∷ m) s ++_) f)
+              ∙ sym (append-assoc (a ∷ before (b ∷ m) s) (b ∷ m) r) ∙ ap (_++ r) q ∙ append-assoc (b ∷ m) y r,
+        ))
     k (c ∷ x) y q = l x y (tail-eq-of-cons-eq q)
 
 pub found : (b : ℕ) (m s : Bytes) → Found (b ∷ m) s

@@ -59,7 +59,7 @@ attr-none k l a (bad x y) = fails
 
 pub attr-next : (rec : Bytes → Res (List Attr)) (recL : Counted (List Attr)) → ((k j : ℕ) (r : Bytes) → SimA k j (rec r) (recL k j r))
     → (k j l : ℕ) (s : Bytes) (x : Res Attr) → SimA k (suc j) (next x (λ a r. mapRes (a ∷_) (rec (past blank r))))
-        (lift x (λ a r. lmap (a ∷_) (recL k j (past blank r))))
+    (lift x (λ a r. lmap (a ∷_) (recL k j (past blank r))))
 attr-next rec recL ih k j l s (ok a r) = attr-more k j a (rec (past blank r)) (recL k j (past blank r)) (ih k j (past blank r))
 attr-next rec recL ih k j l s (bad x y) = fails
 
@@ -109,7 +109,7 @@ unfolding afterOpening openedAs afterOpeningL openedAsL
 opened-sim d rec recL ih n l k j [] = fails
 opened-sim d rec recL ih n l k j (a ∷ s) =
     by-test (eqb a 62) (λ e. rw e (element-map n l d k j (rec s) (recL k j s) (ih k j s)))
-        (λ e. rw e (slash-sim n l d k j (suc (length s)) (past blank s)))
+    (λ e. rw e (slash-sim n l d k j (suc (length s)) (past blank s)))
 
 -- an element, with what is left for its attributes and its content
 pub data SimX (d k j : ℕ) : Res Tree → LRes Tree → Type 0 where
@@ -138,7 +138,7 @@ module _ (d : ℕ) (rec : Bytes → Res Forest) (recL : Counted Forest) (ih : (k
       element-paid l d k j k′ j′ (afterOpening rec n l r) (afterOpeningL recL n l k′ j′ r) (opened-sim d rec recL ih n l k′ j′ r) y z
   tag-next n k j u v (over l {r} h) =
       element-over l d k j 0 0 _ _ (afterOpening rec n l r) (afterOpeningL recL n l 0 0 r) (opened-sim d rec recL ih n l 0 0 r)
-          (λ q. h (omega arith, omega arith, q))
+      (λ q. h (omega arith, omega arith, q))
   tag-next n k j u v fails = fails
 
   pub tag-sim : (i : ℕ) (n : Bytes) (k j : ℕ) (r : Bytes) → SimX d k j (afterTagName rec i n r) (afterTagNameL recL i n k j r)
@@ -240,7 +240,7 @@ content-sim zero p d k j s = fails
 content-sim (suc n) p d k j [] = none-sim d k j []
 content-sim (suc n) p d k j (a ∷ s) =
     content-as-sim (λ q r. readContent n q r) (λ d p k j r. contentL n d p k j r) (λ q d k j r. content-sim n q d k j r) d p (kind (a ∷ s)) k j (a
-        ∷ s)
+    ∷ s)
 
 pub nodes-as-sim : (content rec : Bytes → Res Forest) (contentC recL : ℕ → Counted Forest) → InStep content contentC → InStep rec recL
     → (d : ℕ) (i : Kind) (k j : ℕ) (s : Bytes) → SimF d k j (nodesAs content rec i s) (nodesAsL contentC recL d i k j s)

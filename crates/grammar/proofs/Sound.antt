@@ -114,7 +114,7 @@ unfolding readAttribute afterName afterNameAs run past attrNameByte blank
 nameless-sound s =
     subst (λ z. AttributeS (61 ∷ z) (readAttribute (61 ∷ s))) (sym (run-past blank s))
     (value-attribute [] (past blank s) (61 ∷ run blank s) (readValue (suc (length s)) (past blank s))
-        (value-sound (suc (length s)) (past blank s) (past-stops blank s))
+    (value-sound (suc (length s)) (past blank s) (past-stops blank s))
     (λ r w v val e. nameless (all-blanks s) val))
 
 pub not-equals : (b t : Bytes) (c : ℕ) → Only blank b → blank c ≡ false → eqb c 61 ≡ false → (b′ r : Bytes) → Blanks b′
@@ -212,7 +212,7 @@ attributes-step rec ih (a ∷ s) h =
     by-test (tagEnd a)
     (λ e. subst (λ z. AttributesS (a ∷ s) (attributesAs rec z (a ∷ s))) (sym e) ((a, s, refl, e), ([], refl, no-attribute)))
     (λ e. subst (λ z. AttributesS (a ∷ s) (attributesAs rec z (a ∷ s))) (sym e)
-        (attributes-next rec ih (a ∷ s) (readAttribute (a ∷ s)) (attribute-sound a s h e)))
+    (attributes-next rec ih (a ∷ s) (readAttribute (a ∷ s)) (attribute-sound a s h e)))
 
 pub attributes-sound : (n : ℕ) (s : Bytes) → Stops blank s → AttributesS s (readAttributes n s)
 unfolding readAttributes
@@ -306,7 +306,7 @@ pub element-sound : (rec : Bytes → Res Forest) → ((s : Bytes) → ContentS n
 unfolding readElement
 element-sound rec ih s =
     tag-sound rec ih (suc (length s)) s (run nameByte s) (past nameByte s) (run-past nameByte s)
-        (record { only = run-only nameByte s; longest = past-stops nameByte s })
+    (record { only = run-only nameByte s; longest = past-stops nameByte s })
 
 -- ---- what begins here
 
@@ -356,8 +356,11 @@ section-sound rec x = go (found 93 (93 ∷ 62 ∷ []) x)
     go : Found `]]>` x → NodeS (`<![CDATA[` ++ x) (ok (section d) (drop 3 (from `]]>` x)))
     go (nowhere f l) =
         let d-is : d ≡ x = before-lacks `]]>` x l in
-        rw f (subst (λ z. NodeS (`<![CDATA[` ++ x) (ok (section z) [])) (sym d-is) (`<![CDATA[` ++ x, sym (append-nil (`<![CDATA[` ++ x)),
-            last-section l))
+        rw f (subst (λ z. NodeS (`<![CDATA[` ++ x) (ok (section z) [])) (sym d-is) (
+          `<![CDATA[` ++ x,
+          sym (append-nil (`<![CDATA[` ++ x)),
+          last-section l,
+        ))
     go (at-first r f l) =
         rw f (
           `<![CDATA[` then d then `]]>`,
@@ -398,9 +401,14 @@ close-sound k x = go (past (other 62) x) refl (past-stops (other 62) x)
 
 pub comment-sound : (s : Bytes) → Begins `<!--` s → (w : Bytes) × (s ≡ w ++ beyond `-->` s) × Comment (beyond `-->` s) w
 comment-sound s h =
-    let k = up-to 45 (45 ∷ 62 ∷ []) s in
-    (k .0, k .1, record { opens = begins-piece `<!--` (45 ∷ 45 ∷ []) (beyond `-->` s) (k .0) open-comment (k .2) (subst (Begins `<!--`) (k .1) h);
-        ends = k .2 })
+    let k = up-to 45 (45 ∷ 62 ∷ []) s in (
+      k .0,
+      k .1,
+      record {
+        opens = begins-piece `<!--` (45 ∷ 45 ∷ []) (beyond `-->` s) (k .0) open-comment (k .2) (subst (Begins `<!--`) (k .1) h);
+        ends = k .2;
+      },
+    )
 
 pub content-comment : (p : Before) (s u r : Bytes) → s ≡ u ++ r → Comment r u → (y : Res Forest) → ContentS a-comment r y → ContentS p s y
 content-comment p s u r e c (bad n l) h = tt
@@ -486,7 +494,7 @@ nodes-sound zero s = tt
 nodes-sound (suc n) [] = Nodes.end-of-text
 nodes-sound (suc n) (a ∷ s) =
     nodes-as (λ r. readContent n no-comment r) (λ r. readNodes n r) (content-sound n no-comment) (λ r. nodes-sound n r) a s (kind (a ∷ s))
-        (view (a ∷ s))
+    (view (a ∷ s))
 
 -- ---- the prolog
 
@@ -504,16 +512,16 @@ piece-view (a ∷ s) =
     by-test (prefix `<?` t)
     (λ q. let w = up-to 63 (62 ∷ []) t in
     rw (e, q) (piece-here 63 (62 ∷ []) (w .0) (w .1) (instruction
-        (begins-piece `<?` (63 ∷ []) _ (w .0) open-instruction (w .2) (subst (Begins `<?`) (w .1) (prefix-begins `<?` t q))) (w .2)))) (λ q₁.
+    (begins-piece `<?` (63 ∷ []) _ (w .0) open-instruction (w .2) (subst (Begins `<?`) (w .1) (prefix-begins `<?` t q))) (w .2)))) (λ q₁.
     by-test (prefix `<!--` t)
     (λ q. let w = up-to 45 (45 ∷ 62 ∷ []) t in
     rw (e, q₁, q) (piece-here 45 (45 ∷ 62 ∷ []) (w .0) (w .1)
-        (Piece.comment (begins-piece `<!--` (45 ∷ 45 ∷ []) _ (w .0) open-comment (w .2) (subst (Begins `<!--`) (w .1) (prefix-begins `<!--` t q)))
-        (w .2)))) (λ q₂.
+    (Piece.comment (begins-piece `<!--` (45 ∷ 45 ∷ []) _ (w .0) open-comment (w .2) (subst (Begins `<!--`) (w .1) (prefix-begins `<!--` t q)))
+    (w .2)))) (λ q₂.
     by-test (prefix `<!` t)
     (λ q. let w = up-to 62 [] t in
     rw (e, q₁, q₂, q) (piece-here 62 [] (w .0) (w .1) (declaration
-        (begins-piece `<!` [] _ (w .0) open-declaration (w .2) (subst (Begins `<!`) (w .1) (prefix-begins `<!` t q)))
+    (begins-piece `<!` [] _ (w .0) open-declaration (w .2) (subst (Begins `<!`) (w .1) (prefix-begins `<!` t q)))
     (λ z. prefix-not `<!--` t q₂ (subst (Begins `<!--`) (sym (w .1)) (begins-more `<!--` (w .0) _ z))) (w .2))))
     (λ q₃. rw (e, q₁, q₂, q₃) (none-here (rw (e, q₁, q₂, q₃)))))))
 

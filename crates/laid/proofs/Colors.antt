@@ -23,7 +23,7 @@ use Rattle.colors.specs.declared.read.Rgba.{Rgba}
 use Rattle.colors.specs.declared.read.Color.{Color}
 use Rattle.colors.specs.declared.read.Channel.{Channel}
 use Rattle.colors.specs.Named.{rgba, NamedColor, _means_, colorTable, namedIn}
-use Rattle.colors.specs.Colors.{Small, channelOf, hexChannel, after, once, twice, hexColor, decimalChannel, rgbOf, rgbParts, isRgb, color, colorIn}
+use Rattle.colors.specs.Colors.{Small, channelOf, hexChannel, after, once, twice, hexColor, decimalChannel, rgbParts, isRgb, color, colorIn}
 use Rattle.decimals.specs.declared.read.Digits.{Digits}
 use Rattle.decimals.specs.declared.read.Decimal.{Decimal}
 use Rattle.decimals.specs.Decimal.{decimalOf}

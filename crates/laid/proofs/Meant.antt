@@ -1,9 +1,8 @@
 -- What is known of the track that a tree means, to `parse` and to `bytes_to_cue`. Assumes nothing.
 --     Good                       its strings, its extras, its limits, its values
 --     good-whole, good-single    both are good
-use Prim.Native.Nat.{ℕ, _+_, _≤_}
+use Prim.Native.Nat.{ℕ, _≤_}
 use mathlib.Core.Path.{_≡_, refl}
-use mathlib.Core.List.{List, [], _∷_}
 use mathlib.Core.Option.{Option, none, some}
 use native.Mathlib.Omega.{arith}
 use lib.ListN.{length}

@@ -2,14 +2,14 @@
 --     Values                       what is asked of the values: no table is spoken of
 --     track-values, cue-values     a tree in which at most 64 elements stand one inside the other gives a track, or a cue, of such values
 --     depth-by                     the nesting of segments does not depend on their strings
-use Prim.Native.Nat.{ℕ, zero, suc, _+_, _-_, _*_, _≤_, _<_, max}
-use mathlib.Core.Path.{_≡_, refl, sym, ap, _∙_}
+use Prim.Native.Nat.{ℕ, _+_, _-_, _*_, _≤_, _<_}
+use mathlib.Core.Path.{_≡_, refl}
 use mathlib.Core.Bool.{Bool, true, false, cond, _&&_}
 use mathlib.Core.List.{List, [], _∷_, _++_}
 use mathlib.Core.Option.{Option, none, some}
 use native.Mathlib.Omega.{arith}
 use native.Mathlib.Nat.{max-le}
-use lib.ListN.{length, length-append}
+use lib.ListN.{length}
 use lib.IntN.{ℤ, pos}
 use Rattle.unicode.proofs.Utf8Laws.{by-test}
 use Rattle.times.specs.declared.offset.TimingCtx.{TimingCtx}
@@ -18,7 +18,7 @@ use Rattle.colors.specs.declared.read.Color.{Color}
 use Rattle.colors.specs.Colors.{colorIn}
 use Rattle.decimals.specs.declared.read.Decimal.{Decimal}
 use Rattle.decimals.specs.declared.size.Size.{Size}
-use Rattle.track.specs.Track.{Bytes, Style, Region, Wrapper, Segments, Cue, Track, noSegments, oneSegment, segmentRows, isBareFont}
+use Rattle.track.specs.Track.{Bytes, Style, Wrapper, Segments, Cue, Track, noSegments, oneSegment, segmentRows, isBareFont}
 use Rattle.track.specs.Track as track
 use Rattle.track.specs.Placing.{All, SizeFits, depth}
 use Rattle.track.proofs.ReadBack.{all-join}
@@ -26,7 +26,7 @@ use Rattle.records.specs.Find.{isEmpty}
 use Rattle.records.specs.Siblings.{joined, wrapped}
 use Rattle.grammar.specs.Scan.{run}
 use Rattle.meaning.specs.Words.{ascii, upToLast}
-use Rattle.meaning.specs.Answers.{Answer, is, refused, _>>=_, within}
+use Rattle.meaning.specs.Answers.{Answer, _>>=_, within}
 use Rattle.meaning.specs.Nodes.{Strings, Attr, Nodes, nil, text, element, Element, named, firstElement, attribute, valued, says, readFrom}
 use Rattle.meaning.specs.Nodes.{reading, idOf}
 use Rattle.meaning.specs.Tracks.{segmentsBy}
@@ -35,9 +35,9 @@ use Rattle.meaning.specs.Space.{textIn, seen, trimmedSpace, ended}
 use Rattle.meaning.specs.Timing.{timeOf, sum, orZero, endOf, lastingTo, isSeq}
 use Rattle.meaning.specs.Styling.{colorAnswer, sizeAnswer, sizeDecimal, numberByte, wrapIf, colorWrap, fontWrap, colorOf, styleOf, regionOf}
 use Rattle.meaning.specs.Styling.{isModelled, wrappersOf, isStrike, isUnderline, isItalic, isBold}
-use Rattle.meaning.specs.Inline.{bareFont, spanOf, dissolved, paragraphOf, stamped, textSegment, counted, segmentsIn, contentOf}
+use Rattle.meaning.specs.Inline.{spanOf, dissolved, paragraphOf, stamped, textSegment, counted, segmentsIn, contentOf}
 use Rattle.meaning.specs.Cues.{Timed, a-div, a-p, unknown, Line, later, timedOf, madeIn, styled, cueOfP, pOf, divOf, cuesIn}
-use Rattle.meaning.specs.Meaning.{paramsOf, langOf, rateOf, contentFrom, inside, listed, bodyOf, timing, trackIn, trackFrom, trackOf}
+use Rattle.meaning.specs.Meaning.{paramsOf, rateOf, inside, listed, bodyOf, timing, trackIn, trackFrom, trackOf}
 use Rattle.meaning.specs.Meaning.{stopOf, cueIn, cueFrom, cueOf}
 use Rattle.meaning.proofs.Within.{Holds, holds-is, holds-refused, bind, any, within-holds}
 use Rattle.laid.proofs.Colors.{Channels, color-bytes, size-read}

@@ -12,7 +12,8 @@ use Rattle.probe.specs.Answers.{Answered}
 pub refused : {A : Type 0} (will : Bool) (n : ℕ) (cells : List A) (k : ℕ) (t : List A) → will ≡ false → Answered will n cells k t t k
 refused will n cells k t e = record { is = rw e; laid = rw e }
 
-pub answers : {A : Type 0} (will : Bool) (n : ℕ) (cells : List A) (k : ℕ) (t t′ : List A) (r : ℕ) → will ≡ true → r ≡ n → t′ ≡ sets t 0 cells → Answered will n cells k t t′ r
+pub answers : {A : Type 0} (will : Bool) (n : ℕ) (cells : List A) (k : ℕ) (t t′ : List A) (r : ℕ) → will ≡ true → r ≡ n → t′ ≡ sets t 0 cells
+    → Answered will n cells k t t′ r
 answers will n cells k t t′ r e f g = record { is = rw e f; laid = rw e g }
 
 pub no-cell : (n : ℕ) → n ≡ 0 → ltb 0 n ≡ false

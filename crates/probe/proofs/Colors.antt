@@ -11,7 +11,8 @@ use Rattle.probe.specs.Answers.{Answered}
 use Rattle.probe.specs.Colors.{rgbaCells, colorCode, colorCells}
 use Rattle.probe.proofs.Cells.{answers}
 
-pub color-is : (x : Color) (c : Rgba) (will : Bool) (t t′ : List ℕ) → x ≡ Is c → will ≡ true → t′ ≡ sets t 0 (rgbaCells c) → Answered will (colorCode x) (colorCells x) 2 t t′ 1
+pub color-is : (x : Color) (c : Rgba) (will : Bool) (t t′ : List ℕ) → x ≡ Is c → will ≡ true → t′ ≡ sets t 0 (rgbaCells c)
+    → Answered will (colorCode x) (colorCells x) 2 t t′ 1
 color-is x c will t t′ e h p = answers _ _ _ _ _ _ _ h (rw e) (rw e p)
 
 pub color-none : (x : Color) (will : Bool) (t : List ℕ) → x ≡ Nothing → will ≡ true → Answered will (colorCode x) (colorCells x) 2 t t 0

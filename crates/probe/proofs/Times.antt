@@ -11,7 +11,8 @@ use Rattle.probe.specs.Answers.{Answered}
 use Rattle.probe.specs.Times.{timeCode, timeCells}
 use Rattle.probe.proofs.Cells.{answers}
 
-pub time-is : (x : Time) (z v : ℤ) (will : Bool) (t : List ℤ) → x ≡ Is z → will ≡ true → v ≡ z → Answered will (timeCode x) (timeCells x) 2 t (set t 0 v) 1
+pub time-is : (x : Time) (z v : ℤ) (will : Bool) (t : List ℤ) → x ≡ Is z → will ≡ true → v ≡ z
+    → Answered will (timeCode x) (timeCells x) 2 t (set t 0 v) 1
 time-is x z v will t e h f = answers _ _ _ _ _ _ _ h (rw e) (rw (e, f))
 
 pub time-none : (x : Time) (will : Bool) (t : List ℤ) → x ≡ Nothing → will ≡ true → Answered will (timeCode x) (timeCells x) 2 t t 0

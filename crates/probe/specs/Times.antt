@@ -10,7 +10,8 @@ use Rattle.times.specs.declared.offset.Time.the-variants.{Is, Nothing, Beyond, 
 use Rattle.times.specs.Expressions.{numberOf}
 
 abbrev pub timing : Float → Bool → Float → Bool → TimingCtx
-timing frames has-frames ticks has-ticks = record { «frame_rate» = frames; «has_frame_rate» = has-frames; «tick_rate» = ticks; «has_tick_rate» = has-ticks }
+timing frames has-frames ticks has-ticks =
+    record { «frame_rate» = frames; «has_frame_rate» = has-frames; «tick_rate» = ticks; «has_tick_rate» = has-ticks }
 
 -- 1 for a time, else document 01's number
 abbrev pub timeCode : Time → ℕ

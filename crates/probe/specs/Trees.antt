@@ -6,6 +6,7 @@ use mathlib.Core.List.{List, [], _∷_}
 use lib.ListN.{length}
 use lib.Seq.{sets}
 use lib.Dec.{leb}
+use Rattle.tree.specs.Answers.{numberOf}
 use Rattle.tree.specs.declared.answers.Answer.{Answer}
 use Rattle.tree.specs.declared.answers.Answer.the-variants.{Tree, Refused}
 use Rattle.xml.specs.Promise.{Tables, Parsed}
@@ -14,21 +15,16 @@ use Rattle.xml.specs.Promise.{Tables, Parsed}
 abbrev pub room : List ℕ → Bool
 room out = leb 3 (length out)
 
--- 0 for a tree, else document 01's number
-abbrev pub treeCode : Answer → ℕ
-treeCode (Tree n m) = 0
-treeCode (Refused r) = r .number
-
 -- the place of a refusal, and how many nodes and attributes a tree has
 abbrev pub treeCells : Answer → List ℕ
 treeCells (Tree n m) = 0 ∷ n ∷ m ∷ []
 treeCells (Refused r) = r .place ∷ 0 ∷ 0 ∷ []
 
--- the promise of `parse_xml`, its answer r told by a number and three cells
+-- the promise of `parse_xml`, its answer told by document 01's number, 0 for a tree, and three cells
 pub record Told (text : List ℕ) (lent left : Tables) (out out′ : List ℕ) (r : ℕ) : Type 0 where
   pub answer : Answer
   pub promised : Parsed text lent answer left
-  pub is : r ≡ treeCode answer
+  pub is : r ≡ numberOf answer
   pub laid : out′ ≡ sets out 0 (treeCells answer)
 
 -- nothing is touched

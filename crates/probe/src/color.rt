@@ -26,7 +26,8 @@ fn put_rgba(c: Rgba, out: &mut [u8])
 // bytes, or document 01's number 15. 2 if there are fewer.
 #[no_mangle]
 pub extern "C" fn probe_color(text: &[u8], out: &mut [u8]) -> u32
-    ensures { λ r. ⌜ Answered (leb 4 (length (now (out .entry)))) (colorCode (colorIn (now (text .entry)))) (colorCells (colorIn (now (text .entry)))) 2 (now (out .entry)) (now (out .exit)) r ⌝ }
+    ensures { λ r. ⌜ Answered (leb 4 (length (now (out .entry)))) (colorCode (colorIn (now (text .entry))))
+        (colorCells (colorIn (now (text .entry)))) 2 (now (out .entry)) (now (out .exit)) r ⌝ }
 {
     if out.len() < 4 {
         return 2;

@@ -38,7 +38,8 @@ fn put_digits(d: Digits, out: &mut [u64])
 // fewer, the limit of digits is above 18, or that behind the point is 2^32 or more.
 #[no_mangle]
 pub extern "C" fn probe_decimal(text: &[u8], digits: u64, decimals: u64, out: &mut [u64]) -> u32
-    ensures { λ r. ⌜ Answered (willRead digits decimals (now (out .entry))) (kindOf (decimalOf (now (text .entry)) digits decimals)) (decimalCells (decimalOf (now (text .entry)) digits decimals)) 3 (now (out .entry)) (now (out .exit)) r ⌝ }
+    ensures { λ r. ⌜ Answered (willRead digits decimals (now (out .entry))) (kindOf (decimalOf (now (text .entry)) digits decimals))
+        (decimalCells (decimalOf (now (text .entry)) digits decimals)) 3 (now (out .entry)) (now (out .exit)) r ⌝ }
 {
     if out.len() < 3 {
         return 3;
@@ -62,7 +63,8 @@ pub extern "C" fn probe_decimal(text: &[u8], digits: u64, decimals: u64, out: &m
 // The same as an f64, within the limits of times: 3 if there is no cell.
 #[no_mangle]
 pub extern "C" fn probe_decimal_f64(text: &[u8], out: &mut [f64]) -> u32
-    ensures { λ r. ⌜ Answered (ltb 0 (length (now (out .entry)))) (kindOf (decimalOf (now (text .entry)) 15 22)) (floatCells (decimalOf (now (text .entry)) 15 22)) 3 (now (out .entry)) (now (out .exit)) r ⌝ }
+    ensures { λ r. ⌜ Answered (ltb 0 (length (now (out .entry)))) (kindOf (decimalOf (now (text .entry)) 15 22))
+        (floatCells (decimalOf (now (text .entry)) 15 22)) 3 (now (out .entry)) (now (out .exit)) r ⌝ }
 {
     if out.len() == 0 {
         return 3;
@@ -106,7 +108,8 @@ fn put_size(d: Digits, spelling: &mut [u8], out: &mut [f32]) -> u32
 // does not fit.
 #[no_mangle]
 pub extern "C" fn probe_size(text: &[u8], spelling: &mut [u8], out: &mut [f32]) -> u32
-    ensures { λ r. ⌜ Sized (decimalOf (now (text .entry)) 6 10) (now (spelling .entry)) (now (spelling .exit)) (now (out .entry)) (now (out .exit)) r ⌝ }
+    ensures { λ r. ⌜ Sized (decimalOf (now (text .entry)) 6 10) (now (spelling .entry)) (now (spelling .exit)) (now (out .entry)) (now (out .exit))
+        r ⌝ }
 {
     if out.len() == 0 {
         return 3;

@@ -1,5 +1,5 @@
-// C names for the functions that the comparison with the Rust calls. None asks anything of its
-// caller: each tests what the function below it asks.
+// No public call: C names for the functions that the comparison with the Rust calls (`oracle/`), and no part
+// of the library. None asks anything of its caller: each tests what the function below it asks.
 mod color;
 mod decimal;
 mod parse;

@@ -20,7 +20,10 @@ pub extern "C" fn probe_time(
     has_tick_rate: bool,
     out: &mut [i64],
 ) -> u32
-    ensures { λ r. ⌜ Answered (ltb 0 (length (now (out .entry)))) (timeCode (timeIn (now (text .entry)) (timing «frame_rate» «has_frame_rate» «tick_rate» «has_tick_rate»))) (timeCells (timeIn (now (text .entry)) (timing «frame_rate» «has_frame_rate» «tick_rate» «has_tick_rate»))) 2 (now (out .entry)) (now (out .exit)) r ⌝ }
+    ensures { λ r. ⌜ Answered (ltb 0 (length (now (out .entry))))
+        (timeCode (timeIn (now (text .entry)) (timing «frame_rate» «has_frame_rate» «tick_rate» «has_tick_rate»)))
+        (timeCells (timeIn (now (text .entry)) (timing «frame_rate» «has_frame_rate» «tick_rate» «has_tick_rate»))) 2 (now (out .entry))
+        (now (out .exit)) r ⌝ }
 {
     if out.len() == 0 {
         return 2;

@@ -4,11 +4,12 @@
 --     Cleared, cleared-none, cleared-more, cleared-all a loop that clears
 --     Copied, copied-none, copied-more, copied-all     a loop that copies
 --     appended-kept, appended-on                       pieces written one after the other
+--     wrote-number   the number and the values of the answer
 --     begun-kept, begun-on, begun-first, begun-none, in-part, wrote-on, wrote-full   the same where there was no room for all
 use Prim.Native.Nat.{ℕ, zero, suc, _+_, _≤_, _<_}
 use mathlib.Core.Path.{_≡_, refl, sym, ap, _∙_}
 use mathlib.Core.List.{List, [], _∷_, _++_, append-nil, append-assoc}
-use mathlib.Core.Logic.{_⊎_, inl, inr}
+use mathlib.Core.Logic.{_⊎_, inl, inr, _↔_}
 use native.Mathlib.Omega.{arith}
 use native.Mathlib.Nat.{add-zero, add-suc, suc-add}
 use native.Mathlib.Numerals.{add-one}
@@ -17,7 +18,7 @@ use lib.Seq.{sets, set-comm, sets-eq, length-sets, length-take-le, take-suc, tak
 use lib.Seq.{getD-set-other}
 use Rattle.scan.specs.declared.table.Written.{Written}
 use Rattle.scan.specs.declared.table.Written.the-variants.{At, Full}
-use Rattle.scan.specs.Posts.{Appended, Wrote, Begun, WroteInPart}
+use Rattle.scan.specs.Posts.{writtenNumber, writtenValues, Appended, Wrote, Begun, WroteInPart}
 
 -- what is stored after a run
 pub sets-append : (a b t : List ℕ) (i : ℕ) → sets (sets t i a) (i + length a) b ≡ sets t i (a ++ b)
@@ -150,6 +151,18 @@ pub begun-none : (w : List ℕ) (a : ℕ) (t t′ : List ℕ) → a ≤ length t
 begun-none w a t t′ h e = record { many = 0; some = omega arith; room = omega arith; laid = e }
 
 -- what is written at once, as what is written part by part
+-- it is refused with 18 exactly if there is no room, and else answers the place behind it
+pub wrote-number : (w : List ℕ) (a : ℕ) (t t′ : List ℕ) (r : Written) → WroteInPart w a t t′ r
+    → ((writtenNumber r ≡ 18) ↔ (length t < a + length w)) × ((writtenValues r ≡ (a + length w) ∷ []) ↔ (a + length w ≤ length t))
+wrote-number w a t t′ (At n) v = (
+  (λ e. absurd (omega arith), λ h. absurd (omega (arith, v .next, v .within))),
+  (λ e. omega (arith, v .next, v .within), λ h. ap (λ (k : ℕ). k ∷ []) (v .next)),
+)
+wrote-number w a t t′ Full v = (
+  (λ e. v .0, λ h. refl),
+  (λ e. let z : _≡_ {A = ℕ} 0 1 = ap length e in absurd (omega arith), λ h. absurd (omega (arith, v .0))),
+)
+
 pub in-part : (w : List ℕ) (a : ℕ) (t t′ : List ℕ) (r : Written) → a ≤ length t → Wrote w a t t′ r → WroteInPart w a t t′ r
 in-part w a t t′ (At n) h v = v
 in-part w a t t′ Full h v = (v .0, begun-none w a t t′ h (v .1))

@@ -2,7 +2,7 @@
 use Prim.Native.Nat.{ℕ, _+_, _≤_, _<_}
 use mathlib.Core.Path.{_≡_}
 use mathlib.Core.Bool.{Bool, true, false}
-use mathlib.Core.List.{List}
+use mathlib.Core.List.{List, [], _∷_}
 use lib.ListN.{length, getD, take}
 use lib.Seq.{sets}
 use Rattle.scan.specs.declared.table.Written.{Written}
@@ -45,6 +45,16 @@ pub record Passed (m s : List ℕ) (p r : ℕ) : Type 0 where
   pub after : p ≤ r
   pub within : r ≤ length s
   pub beyond : p < length s → 0 < length m → p < r
+
+-- ---- what is written
+-- document 01's number of an answer, 0 where none is met ("18. Output exceeds the lent length"), and its values
+abbrev pub writtenNumber : Written → ℕ
+writtenNumber (At n) = 0
+writtenNumber Full = 18
+
+abbrev pub writtenValues : Written → List ℕ
+writtenValues (At n) = n ∷ []
+writtenValues Full = []
 
 -- the piece w stands in the table t′ from a place on, up to n, and all other cells are as in t
 pub record Appended (w : List ℕ) (at : ℕ) (t t′ : List ℕ) (n : ℕ) : Type 0 where

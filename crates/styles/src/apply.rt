@@ -311,12 +311,32 @@ pub fn resolve_over(
         (bytesAt (now (own .entry)) first) (bytesAt (now (strings .entry)) second) (now (ids .entry)) (now (ids .exit)) look r ⌝ }
 {
     let none = Span { place: 0, len: 0 };
-    match resolve_pair(text, styles, sizes, strings, n, strings, 1, second, none, ids) {
+    match resolve_pair(
+        text,
+        styles,
+        sizes,
+        strings,
+        n,
+        strings,
+        1,
+        second,
+        none,
+        ids,
+    ) {
         Applied::Full => Applied::Full,
         Applied::Done(b) => {
             scan::clear(ids);
             match resolve_pair(
-                text, styles, sizes, strings, n, own, source, first, second, ids,
+                text,
+                styles,
+                sizes,
+                strings,
+                n,
+                own,
+                source,
+                first,
+                second,
+                ids,
             ) {
                 Applied::Full => Applied::Full,
                 Applied::Done(a) => {

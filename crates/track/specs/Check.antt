@@ -10,6 +10,9 @@ use Rattle.track.specs.Track as track
 use Rattle.track.specs.Tables.{Tables, lengths, LongEnough}
 use Rattle.track.specs.Meaning.{trackIn}
 
+-- the same as a test of the lengths, and as the answer that the tests give (`proofs/Exactly`: it keeps the promise, and nothing else does)
+unfoldable pub use Rattle.track.specs.Steps.{rowsFull, restFull, isFull, refusedAs, checkOf}
+
 -- ---- the answer: a track has no number, here 0
 unfoldable pub numberOf : Check → ℕ
 numberOf Track = 0

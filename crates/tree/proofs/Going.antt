@@ -87,77 +87,77 @@ start s turn t u from k₀ a₀ r = record {
 }
 
 module _ {s : List ℕ} {turn : Turn} {t u : List ℕ} {from k₀ a₀ : ℕ} {t′ u′ : List ℕ} {pos k a : ℕ} (g : Going s turn t u from k₀ a₀ t′ u′ pos k a)
-    where
-  abbrev pub now-at : State
-  now-at = record { forest = g .forest; nodes = k; attrs = a }
+  where
+    abbrev pub now-at : State
+    now-at = record { forest = g .forest; nodes = k; attrs = a }
 
-  -- a turn that ends the loop
-  pub fail : (n q : ℕ) → pos < length s → turn pos now-at ≡ halt (bad n q) → rowOf s turn from (fresh k₀ a₀) ≡ bad n q
-  unfolding rowOf
-  fail n q h e = g .is ∙ loop-halt (length s) turn _ pos now-at (bad n q) h e
+    -- a turn that ends the loop
+    pub fail : (n q : ℕ) → pos < length s → turn pos now-at ≡ halt (bad n q) → rowOf s turn from (fresh k₀ a₀) ≡ bad n q
+    unfolding rowOf
+    fail n q h e = g .is ∙ loop-halt (length s) turn _ pos now-at (bad n q) h e
 
-  pub done : (q : ℕ) → pos < length s → turn pos now-at ≡ halt (got (g .forest) q k a) → pos ≤ q → q ≤ length s
-      → Laid (rowOf s turn from (fresh k₀ a₀)) s t t′ u u′ from k₀ a₀ (record { pos = q; nodes = k; attrs = a })
-  unfolding rowOf
-  done q h e l m = record {
-    forest = g .forest;
-    is = g .is ∙ loop-halt (length s) turn _ pos now-at _ h e;
-    after = omega arith;
-    within = m;
-    counted = g .counted;
-    tallied = g .tallied;
-    most = g .most;
-    least = g .least;
-    laid = g .laid;
-    listed = g .listed;
-  }
+    pub done : (q : ℕ) → pos < length s → turn pos now-at ≡ halt (got (g .forest) q k a) → pos ≤ q → q ≤ length s
+        → Laid (rowOf s turn from (fresh k₀ a₀)) s t t′ u u′ from k₀ a₀ (record { pos = q; nodes = k; attrs = a })
+    unfolding rowOf
+    done q h e l m = record {
+      forest = g .forest;
+      is = g .is ∙ loop-halt (length s) turn _ pos now-at _ h e;
+      after = omega arith;
+      within = m;
+      counted = g .counted;
+      tallied = g .tallied;
+      most = g .most;
+      least = g .least;
+      laid = g .laid;
+      listed = g .listed;
+    }
 
-  pub out : length s ≤ pos → Laid (rowOf s turn from (fresh k₀ a₀)) s t t′ u u′ from k₀ a₀ (record { pos = pos; nodes = k; attrs = a })
-  unfolding rowOf
-  out h = record {
-    forest = g .forest;
-    is = g .is ∙ loop-out (length s) turn _ pos now-at h;
-    after = g .after;
-    within = g .within;
-    counted = g .counted;
-    tallied = g .tallied;
-    most = g .most;
-    least = g .least;
-    laid = g .laid;
-    listed = g .listed;
-  }
+    pub out : length s ≤ pos → Laid (rowOf s turn from (fresh k₀ a₀)) s t t′ u u′ from k₀ a₀ (record { pos = pos; nodes = k; attrs = a })
+    unfolding rowOf
+    out h = record {
+      forest = g .forest;
+      is = g .is ∙ loop-out (length s) turn _ pos now-at h;
+      after = g .after;
+      within = g .within;
+      counted = g .counted;
+      tallied = g .tallied;
+      most = g .most;
+      least = g .least;
+      laid = g .laid;
+      listed = g .listed;
+    }
 
-  -- a turn that reads a node, whose outcome is o
-  module _ (o : Out) (h : pos < length s) (w : turn pos now-at ≡ nodeNext now-at o) where
-    pub fail-node : (n q : ℕ) → o ≡ bad n q → rowOf s turn from (fresh k₀ a₀) ≡ bad n q
-    unfolding nodeNext
-    fail-node n q e = fail n q h (w ∙ rw e)
+    -- a turn that reads a node, whose outcome is o
+    module _ (o : Out) (h : pos < length s) (w : turn pos now-at ≡ nodeNext now-at o) where
+      pub fail-node : (n q : ℕ) → o ≡ bad n q → rowOf s turn from (fresh k₀ a₀) ≡ bad n q
+      unfolding nodeNext
+      fail-node n q e = fail n q h (w ∙ rw e)
 
-    pub idle : {t″ u″ : List ℕ} (q : ℕ) → Idle o s t′ t″ u′ u″ pos q
-        → Laid (rowOf s turn from (fresh k₀ a₀)) s t t″ u u″ from k₀ a₀ (record { pos = q; nodes = k; attrs = a })
-    unfolding nodeNext
-    idle q i = rw (i .same, i .alike) (done q h (w ∙ rw (i .is)) (i .after) (i .within))
+      pub idle : {t″ u″ : List ℕ} (q : ℕ) → Idle o s t′ t″ u′ u″ pos q
+          → Laid (rowOf s turn from (fresh k₀ a₀)) s t t″ u u″ from k₀ a₀ (record { pos = q; nodes = k; attrs = a })
+      unfolding nodeNext
+      idle q i = rw (i .same, i .alike) (done q h (w ∙ rw (i .is)) (i .after) (i .within))
 
-    pub step : {t″ u″ : List ℕ} (c : Cursor) → Laid o s t′ t″ u′ u″ (pos + 1) k a c
-        → Going s turn t u from k₀ a₀ t″ u″ (c .pos) (c .nodes) (c .attrs)
-    unfolding rowOf nodeNext
-    step {t″ = t″} {u″ = u″} c l =
-        let f : Forest = g .forest in
-        let n : Forest = l .forest in
-        record {
-          within = l .within;
-          after = omega arith;
-          most = l .most;
-          least = l .least;
-          kept = ap length (l .laid) ∙ (length-sets t′ (k * 6) (rows k a n) ∙ g .kept);
-          held = ap length (l .listed) ∙ (length-sets u′ (a * 4) (attrRows (attrsOf n)) ∙ g .held);
-          forest = join f n;
-          counted = omega (arith, size-join f n);
-          tallied = rw (attrs-join f n, length-append (attrsOf f) (attrsOf n)) (omega arith);
-          laid = rows-on f n t t′ t″ k₀ a₀ k a (g .counted) (g .tallied) (g .laid) (l .laid);
-          listed = attrs-on (attrsOf f) (attrsOf n) u u′ u″ a₀ a (g .tallied) (g .listed) (l .listed) ∙ rw (attrs-join f n);
-          is = g .is ∙ loop-more (length s) turn _ pos now-at (c .pos) _ h (w ∙ rw (l .is)) (omega (arith, l .after));
-        }
+      pub step : {t″ u″ : List ℕ} (c : Cursor) → Laid o s t′ t″ u′ u″ (pos + 1) k a c
+          → Going s turn t u from k₀ a₀ t″ u″ (c .pos) (c .nodes) (c .attrs)
+      unfolding rowOf nodeNext
+      step {t″ = t″} {u″ = u″} c l =
+          let f : Forest = g .forest in
+          let n : Forest = l .forest in
+          record {
+            within = l .within;
+            after = omega arith;
+            most = l .most;
+            least = l .least;
+            kept = ap length (l .laid) ∙ (length-sets t′ (k * 6) (rows k a n) ∙ g .kept);
+            held = ap length (l .listed) ∙ (length-sets u′ (a * 4) (attrRows (attrsOf n)) ∙ g .held);
+            forest = join f n;
+            counted = omega (arith, size-join f n);
+            tallied = rw (attrs-join f n, length-append (attrsOf f) (attrsOf n)) (omega arith);
+            laid = rows-on f n t t′ t″ k₀ a₀ k a (g .counted) (g .tallied) (g .laid) (l .laid);
+            listed = attrs-on (attrsOf f) (attrsOf n) u u′ u″ a₀ a (g .tallied) (g .listed) (l .listed) ∙ rw (attrs-join f n);
+            is = g .is ∙ loop-more (length s) turn _ pos now-at (c .pos) _ h (w ∙ rw (l .is)) (omega (arith, l .after));
+          }
 
 -- a turn at a close tag
 pub closed : {s : List ℕ} (el : Reader) {t u : List ℕ} {from k₀ a₀ : ℕ} {t′ u′ : List ℕ} {pos k a : ℕ}

@@ -44,7 +44,7 @@ within (elem p n l c f) lo hi i =
     let r : InOrder (p + 1 + n) (spans c ++ spans f) hi = in-rest (attrSpans l) (spans c ++ spans f) (p + 1 + n) hi (i .1) in
     within-append hi l (attrsOf c ++ attrsOf f) (within-tag l (p + 1 + n) hi (in-first (attrSpans l) (spans c ++ spans f) (p + 1 + n) hi (i .1)))
     (within-append hi (attrsOf c) (attrsOf f) (within c (p + 1 + n) hi (in-first (spans c) (spans f) (p + 1 + n) hi r))
-        (within f (p + 1 + n) hi (in-rest (spans c) (spans f) (p + 1 + n) hi r)))
+    (within f (p + 1 + n) hi (in-rest (spans c) (spans f) (p + 1 + n) hi r)))
 
 within-at : (none : Attr) (hi : ℕ) (l : List Attr) (j : ℕ) → Within hi l → j < length l → (getD l j none .name + getD l j none .nameLen ≤ hi)
     × (getD l j none .value + getD l j none .valueLen ≤ hi)
@@ -54,7 +54,7 @@ within-at none hi (x ∷ l) (suc j) h g = within-at none hi l j (h .2) (omega ar
 
 pub attr-fits : (none : Attr) (f : Forest) (lo hi j : ℕ) → InOrder lo (spans f) hi → j < length (attrsOf f)
     → (getD (attrsOf f) j none .name + getD (attrsOf f) j none .nameLen ≤ hi)
-        × (getD (attrsOf f) j none .value + getD (attrsOf f) j none .valueLen ≤ hi)
+    × (getD (attrsOf f) j none .value + getD (attrsOf f) j none .valueLen ≤ hi)
 attr-fits none f lo hi j i h = within-at none hi (attrsOf f) j (within f lo hi i) h
 
 -- ---- the table of nodes that the reader leaves
@@ -133,19 +133,21 @@ row-is t i kind end place len first many l e = record {
 module _ (t : List ℕ) (i a p n : ℕ) where
   pub on-text : (f : Forest) → Stands t i a (text p n f) → RowIs t i 1 (i + 1) p n 0 0 × Stands t (i + 1) a f
   unfolding rows row
-  on-text f x =
-      (row-is t i 1 (i + 1) p n 0 0 (rows (i + 1) a f ++ x .tail) (x .is),
-      record { tail = x .tail; is = past-cells t _ i (i + 1) 6 (x .is) (omega arith) })
+  on-text f x = (
+    row-is t i 1 (i + 1) p n 0 0 (rows (i + 1) a f ++ x .tail) (x .is),
+    record { tail = x .tail; is = past-cells t _ i (i + 1) 6 (x .is) (omega arith) },
+  )
 
   pub on-section : (f : Forest) → Stands t i a (section p n f) → RowIs t i 3 (i + 1) p n 0 0 × Stands t (i + 1) a f
   unfolding rows row
-  on-section f x =
-      (row-is t i 3 (i + 1) p n 0 0 (rows (i + 1) a f ++ x .tail) (x .is),
-      record { tail = x .tail; is = past-cells t _ i (i + 1) 6 (x .is) (omega arith) })
+  on-section f x = (
+    row-is t i 3 (i + 1) p n 0 0 (rows (i + 1) a f ++ x .tail) (x .is),
+    record { tail = x .tail; is = past-cells t _ i (i + 1) 6 (x .is) (omega arith) },
+  )
 
   pub on-elem : (l : List Attr) (c f : Forest) → Stands t i a (elem p n l c f)
       → RowIs t i 2 (i + 1 + size c) p n a (length l) × Stands t (i + 1) (a + length l) c
-          × Stands t (i + 1 + size c) (a + length l + length (attrsOf c)) f
+      × Stands t (i + 1 + size c) (a + length l + length (attrsOf c)) f
   unfolding rows row
   on-elem l c f x =
       let b : ℕ = a + length l in
@@ -155,8 +157,11 @@ module _ (t : List ℕ) (i a p n : ℕ) where
       let j : length q ≡ size c * 6 = length-rows c (i + 1) b in (
         row-is t i 2 (i + 1 + size c) p n a (length l) ((q ++ r) ++ x .tail) (x .is),
         record { tail = r ++ x .tail; is = past-cells t _ i (i + 1) 6 (x .is) (omega arith) ∙ append-assoc q r (x .tail) },
-        record { tail = x .tail; is = past-cells t _ i (i + 1 + size c) (6 + size c * 6) (x .is) (omega arith)
-            ∙ (sym (drop-drop (size c * 6) 6 _) ∙ rw (append-assoc q r (x .tail)) (drop-at q (r ++ x .tail) (size c * 6) j)) },
+        record {
+          tail = x .tail;
+          is = past-cells t _ i (i + 1 + size c) (6 + size c * 6) (x .is) (omega arith)
+              ∙ (sym (drop-drop (size c * 6) 6 _) ∙ rw (append-assoc q r (x .tail)) (drop-at q (r ++ x .tail) (size c * 6) j));
+        },
       )
 
 -- the rows of a forest that has some are within the table
@@ -194,11 +199,17 @@ attr-at none u j (suc i) (x ∷ l) y h =
 pub on-attrs : (u : List ℕ) (j : ℕ) (a b : List Attr) → Listed u j (a ++ b) → Listed u j a × Listed u (j + length a) b
 on-attrs u j a b y =
     let e : drop (j * 4) u ≡ attrRows a ++ (attrRows b ++ y .tail) = y .is
-        ∙ rw (attrRows-append a b) (append-assoc (attrRows a) (attrRows b) (y .tail)) in
+    ∙ rw (attrRows-append a b) (append-assoc (attrRows a) (attrRows b) (y .tail)) in
     let z : (j + length a) * 4 ≡ j * 4 + length a * 4 = omega arith in (
       record { tail = attrRows b ++ y .tail; is = e },
-      record { tail = y .tail; is = rw (z, ← (drop-drop (length a * 4) (j * 4) u),
-          e) (drop-at (attrRows a) (attrRows b ++ y .tail) (length a * 4) (length-attrRows a)) },
+      record {
+        tail = y .tail;
+        is = rw (
+          z,
+          ← (drop-drop (length a * 4) (j * 4) u),
+          e,
+        ) (drop-at (attrRows a) (attrRows b ++ y .tail) (length a * 4) (length-attrRows a));
+      },
     )
 
 -- ---- the order of strings, node by node

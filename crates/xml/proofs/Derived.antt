@@ -167,8 +167,11 @@ section-read s p k a d after f h =
     let first : (u v : Bytes) → d ++ `]]>` ≡ u ++ (`]]>` ++ v) → v ≡ [] = f .first in
     let i : At s (p + 9) ((d ++ `]]>`) ++ after) = at-on s `<![CDATA[` ((d ++ `]]>`) ++ after) h in
     let j : At s (seek cdataEnd s (p + 9)) (`]]>` ++ after) =
-    record { is = sym (from-at cdataEnd s (p + 9)) ∙ ap (from cdataEnd) (i .is) ∙ from-first 93 (93 ∷ 62 ∷ []) d after first; within =
-        sought cdataEnd s (p + 9) (i .within) .within } in
+    record {
+      is = sym (from-at cdataEnd s (p + 9)) ∙ ap (from cdataEnd) (i .is) ∙ from-first 93 (93 ∷ 62 ∷ []) d after first;
+      within =
+          sought cdataEnd s (p + 9) (i .within) .within;
+    } in
     let e : seek cdataEnd s (p + 9) ≡ p + 9 + length d = at-one s j (at-on s d (`]]>` ++ after) (at-same s refl (append-assoc d `]]>` after) i)) in
     section-as s p k a (length d) (p + 9 + length (d ++ `]]>`)) _ e (beyond-to s 93 (93 ∷ 62 ∷ []) (d ++ `]]>`) after i (closed f)) (omega arith)
 
@@ -177,8 +180,11 @@ last-read : (s : List ℕ) (p k a : ℕ) (d : Bytes) → Lacks `]]>` d → At s 
 last-read s p k a d f h =
     let i : At s (p + 9) (d ++ []) = at-on s `<![CDATA[` (d ++ []) h in
     let j : At s (seek cdataEnd s (p + 9)) [] =
-    record { is = sym (from-at cdataEnd s (p + 9)) ∙ ap (from cdataEnd) (i .is ∙ append-nil d) ∙ from-lacks cdataEnd d f; within =
-        sought cdataEnd s (p + 9) (i .within) .within } in
+    record {
+      is = sym (from-at cdataEnd s (p + 9)) ∙ ap (from cdataEnd) (i .is ∙ append-nil d) ∙ from-lacks cdataEnd d f;
+      within =
+          sought cdataEnd s (p + 9) (i .within) .within;
+    } in
     let e : seek cdataEnd s (p + 9) ≡ p + 9 + length d = at-one s j (at-on s d [] i) in
     section-as s p k a (length d) (p + 9 + length d) _ e (beyond-to s 93 (93 ∷ 62 ∷ []) d [] i (unclosed f)) (omega arith)
 
@@ -200,7 +206,7 @@ module _ (s : List ℕ) where
   element-by : {p : ℕ} {after o n : Bytes} {l : List Attr} (x : Opening after o n l) → Stops blank after → At s p (o ++ after)
       → (inner : Reader) (k a : ℕ)
       (g : placed.Forest) (P : ℕ → Type 0) → ((j : ℕ) → Right g P
-          (tagged inner p (length n) k (tagFrom s (p + length o) (record { list = openingPlaced length x p; count = j }))))
+      (tagged inner p (length n) k (tagFrom s (p + length o) (record { list = openingPlaced length x p; count = j }))))
       → Right g P (elementBy s inner p k a)
   unfolding elementBy tagged
   element-by {p} {o = o} {n = n} x t h inner k a g P r =
@@ -222,7 +228,7 @@ module _ (s : List ℕ) where
   without-read : (p : ℕ) (after o b n : Bytes) {l : List Attr} (x : Opening (`/` then b then `>` then after) o n l) → Blanks b
       → At s p ((o then `/` then b then `>`) ++ after) → (D k a : ℕ)
       → Right (placed.elem p (length n) (openingPlaced length x p) placed.nil placed.nil) (λ q. q ≡ p + length (o then `/` then b then `>`))
-          (elementOf D s p k a)
+      (elementOf D s p k a)
   unfolding elementOf tagged
   without-read p after o b n x y h zero k a = tt
   without-read p after o b n x y h (suc D) k a =
@@ -237,7 +243,7 @@ module _ (s : List ℕ) where
       → ((q D j b : ℕ) → At s q (c ++ after) → Right (g q) (λ r. r ≡ q + length c) (contentOf D s q j b))
       → At s p ((o then `>` then c) ++ after) → (D k a : ℕ)
       → Right (placed.elem p (length n) (openingPlaced length x p) (g (p + length o + 1)) placed.nil) (λ q. q ≡ p + length (o then `>` then c))
-          (elementOf D s p k a)
+      (elementOf D s p k a)
   unfolding elementOf tagged
   with-read p after o c n x g r h zero k a = tt
   with-read p after o c n x g r h (suc D) k a =
@@ -248,7 +254,7 @@ module _ (s : List ℕ) where
       element-by x (tag-end-stops (62, c ++ after, refl, refl)) i (contentOf D s) k a _ _
       (λ j. rw (open-tag (p + length o) (record { list = openingPlaced length x p; count = j }) (c ++ after) q, ← m)
       (enclosed p (length n) (openingPlaced length x p) (g (p + length o + 1)) _ _
-          (r (p + length o + 1) D (k + 1) j (at-on s (62 ∷ []) (c ++ after) q))))
+      (r (p + length o + 1) D (k + 1) j (at-on s (62 ∷ []) (c ++ after) q))))
 
 -- ---- nodes in a row
 module _ (s : List ℕ) (el : Reader) (turn : ℕ → State → Next State Out) where
@@ -298,10 +304,12 @@ module _ (s : List ℕ) (el : Reader) (turn : ℕ → State → Next State Out) 
   node-open p r x f g P h d rest = go (here-out p x) d
     where
       go : (o : Out) → Right f (λ q. q ≡ r) o → Ahead p o × Right (join (x .forest) (join f g)) P (finish (nodeNext x o))
-      go (got f′ q k a) e =
-          (omega (arith, e .1), rw (e .0, e .1) (subst (λ z.
-              Right z P (rowOf s turn r (record { forest = join (x .forest) f; nodes = k; attrs = a }))) (join-assoc (x .forest) f g)
-              (rest (record { forest = join (x .forest) f; nodes = k; attrs = a }))))
+      go (got f′ q k a) e = (
+        omega (arith, e .1),
+        rw (e .0, e .1) (subst (λ z.
+            Right z P (rowOf s turn r (record { forest = join (x .forest) f; nodes = k; attrs = a }))) (join-assoc (x .forest) f g)
+            (rest (record { forest = join (x .forest) f; nodes = k; attrs = a }))),
+      )
       go (nothing q) e = absurd e
       go (bad n q) e = (tt, tt)
 
@@ -342,8 +350,11 @@ module _ (s : List ℕ) (D p : ℕ) (x : State) where
       let l : p + length (`</` ++ d) < length s = at-some s 62 after (at-on s (`</` ++ d) (62 ∷ after) i) in
       let t : startsAt s p closeMark ≡ true = at-starts s closeMark ((`</` ++ d) ++ (62 ∷ after)) i in
       let m : p + length (`</` ++ d) + 1 ≡ p + length (`</` then d then `>`) = omega (arith, length-append d (62 ∷ [])) in
-      rw (loop-halt (length s) (innerTurn s (elementOf D s)) _ p x (closeAt s p x) (omega arith) (rw t), g,
-          lt-ltb (p + length (`</` ++ d)) (length s) l)
+      rw (
+        loop-halt (length s) (innerTurn s (elementOf D s)) _ p x (closeAt s p x) (omega arith) (rw t),
+        g,
+        lt-ltb (p + length (`</` ++ d)) (length s) l,
+      )
       (sym (join-nil (x .forest)), m)
 
   end-here : (el : Reader) → length s ≤ p → nodeAt s el p (x .nodes) (x .attrs) ≡ nothing p
@@ -353,7 +364,7 @@ module _ (s : List ℕ) (D p : ℕ) (x : State) where
   close-here : (el : Reader) (z : Bytes) → Begins `</` z → At s p z → nodeAt s el p (x .nodes) (x .attrs) ≡ nothing p
   close-here el z b h =
       stands-here s el p (x .nodes) (x .attrs) z h (rw (b .1) (omega arith)) (rw (b .1) refl)
-          ∙ ap (picked s el p (x .nodes) (x .attrs)) (kind-close z b)
+      ∙ ap (picked s el p (x .nodes) (x .attrs)) (kind-close z b)
 
   comment-here-out : (el : Reader) (u after : Bytes) → Comment after u → At s p (u ++ after)
       → nodeAt s el p (x .nodes) (x .attrs) ≡ nodeAt s el (p + length u) (x .nodes) (x .attrs)
@@ -362,7 +373,7 @@ module _ (s : List ℕ) (D p : ℕ) (x : State) where
       let e : marks.past commentEnd s p ≡ p + length u = beyond-to s 45 (45 ∷ 62 ∷ []) u after h (c .ends) in
       let w : Passed commentEnd s p (p + length u) = subst (Passed commentEnd s p) e (passed commentEnd s p (h .within)) in
       let t : startsAt s p commentMark ≡ true = at-starts s commentMark (u ++ after) h
-          ∙ begins-prefix `<!--` (u ++ after) (begins-more `<!--` u after (c .opens)) in
+      ∙ begins-prefix `<!--` (u ++ after) (begins-more `<!--` u after (c .opens)) in
       rw (comment-on s p (p + length u) (omega (arith, at-length s h, length-append u after, comment-length c)) t w)
 
   comment-starts : (u after : Bytes) → Comment after u → At s p (u ++ after) → (p < length s) × (startsAt s p closeMark ≡ false)
@@ -405,7 +416,7 @@ unfolding nodePlaced
 text-r after [] h s p at D k a = absurd (h .some-byte refl)
 text-r after (c ∷ w) h s p at D k a =
     node-as s p D k a (c ∷ (w ++ after)) as-text _ _ at (omega arith) (kind-text c (w ++ after) (h .run .only .0))
-        (text-read s p k a (c ∷ w) after h at)
+    (text-read s p k a (c ∷ w) after h at)
 
 section-r : (after d : Bytes) (e : EndsAtFirst `]]>` (d then `]]>`)) → NodeR after (`<![CDATA[` then d then `]]>`) _ (a-section {d = d} e)
 unfolding nodePlaced
@@ -420,7 +431,7 @@ element-r : (after w : Bytes) {t : Tree} (h : ¬ Begins `<!--` w) (k : ¬ Begins
 unfolding nodePlaced elementPlaced
 element-r after w h k e ih s p at D i a =
     node-as s p D i a (w ++ after) as-element _ _ at (rw (tagged-append w after (element-tagged e) .is) (omega arith)) (element-kind h k e)
-        (ih s p at D i a)
+    (ih s p at D i a)
 
 without-r : (after o b n : Bytes) {l : List Attr} (x : Opening (`/` then b then `>` then after) o n l) (y : Blanks b)
     → ElementR after (o then `/` then b then `>`) _ (without-content x y)
@@ -459,7 +470,7 @@ comment-r b after u w c d ih s p at D x =
     let m : p + length u + length w ≡ p + length (u then w) = omega (arith, length-append u w) in
     rests s D p x b _ _ (z .0) (z .1)
     (comment-open s (elementOf D s) (innerTurn s (elementOf D s)) p (p + length u) x _ _
-        (comment-here-out s D p x (elementOf D s) u (w ++ after) c i) (omega arith)
+    (comment-here-out s D p x (elementOf D s) u (w ++ after) c i) (omega arith)
     (rw (← m) (ih s (p + length u) (at-on s u (w ++ after) i) D x)))
 
 node-r : (b : Before) (after u w : Bytes) {t : Tree} {f : Forest} (n : Node (w then after) u t) → NodeR (w then after) u t n
@@ -472,9 +483,9 @@ node-r b after u w n hn d ih s p at D x =
     let m : p + length u + length w ≡ p + length (u then w) = omega (arith, length-append u w) in
     rests s D p x b _ _ (z .1) (z .2)
     (rw (← m) (subst⁻¹ (λ g. Open s (elementOf D s) (innerTurn s (elementOf D s)) p x g (λ q. q ≡ p + length u + length w))
-        (node-joined n p (contentPlaced length d (p + length u)))
+    (node-joined n p (contentPlaced length d (p + length u)))
     (node-open s (elementOf D s) (innerTurn s (elementOf D s)) p (p + length u) x (nodePlaced length n p placed.nil)
-        (contentPlaced length d (p + length u)) _ (z .0) (hn s p i D (x .nodes) (x .attrs))
+    (contentPlaced length d (p + length u)) _ (z .0) (hn s p i D (x .nodes) (x .attrs))
     (λ y. ih s (p + length u) (at-on s u (w ++ after) i) D y))))
 
 pub node-read : {after w : Bytes} {t : Tree} (d : Node after w t) → NodeR after w t d
@@ -522,9 +533,9 @@ module _ (s : List ℕ) (D : ℕ) where
       let k : At s (p + length u) z = at-on s u z at in
       subst⁻¹ (λ g. Open s (elementOf D s) outer p x g anywhere) (node-joined n p (nodesPlaced length d (p + length u)))
       (node-open s (elementOf D s) outer p (p + length u) x (nodePlaced length n p placed.nil) (nodesPlaced length d (p + length u)) _
-          (node-starts s D p x u z n at .0)
+      (node-starts s D p x u z n at .0)
       (node-read n s p at D (x .nodes) (x .attrs)) (λ y. row-of (p + length u) y (nodesPlaced length d (p + length u)) (k .within)
-          (nodes-open d (p + length u) k y)))
+      (nodes-open d (p + length u) k y)))
 
 -- ---- the whole text
 right-got : (g : placed.Forest) (P : ℕ → Type 0) (o : Out) (f : placed.Forest) (q k a : ℕ) → o ≡ got f q k a → Right g P o → f ≡ g

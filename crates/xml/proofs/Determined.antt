@@ -106,14 +106,16 @@ determined {s} {lent} {x} {y} {a} {b} p q = by (decided s lent)
     by : ((f : Forest) × Takes s lent f) ⊎ ((n : ℕ) × (k : ℕ) × TurnsAway s lent n k) → (x ≡ y) × (a ≡ b)
     by (inl t) =
         let h = p .tree (t .0) (t .1) in
-        let k = q .tree (t .0) (t .1) in
-        (p .counts (t .0) (t .1) ∙ sym (q .counts (t .0) (t .1)),
-            tables-same (h .node-rows ∙ sym (k .node-rows)) (h .attr-rows ∙ sym (k .attr-rows)) (strings-same h k))
+        let k = q .tree (t .0) (t .1) in (
+          p .counts (t .0) (t .1) ∙ sym (q .counts (t .0) (t .1)),
+          tables-same (h .node-rows ∙ sym (k .node-rows)) (h .attr-rows ∙ sym (k .attr-rows)) (strings-same h k),
+        )
     by (inr t) =
         let l : 0 < t .0 = away-some (t .2) in
         let u = p .refused (t .0) (t .1) l .1 (t .2) in
         let v = q .refused (t .0) (t .1) l .1 (t .2) in
         let h = p .cleared (omega (arith, u .0, l)) in
-        let k = q .cleared (omega (arith, v .0, l)) in
-        (refused-as x (t .0) (t .1) l u ∙ sym (refused-as y (t .0) (t .1) l v),
-            tables-same (h .of-nodes ∙ sym (k .of-nodes)) (h .of-attrs ∙ sym (k .of-attrs)) (h .of-strings ∙ sym (k .of-strings)))
+        let k = q .cleared (omega (arith, v .0, l)) in (
+          refused-as x (t .0) (t .1) l u ∙ sym (refused-as y (t .0) (t .1) l v),
+          tables-same (h .of-nodes ∙ sym (k .of-nodes)) (h .of-attrs ∙ sym (k .of-attrs)) (h .of-strings ∙ sym (k .of-strings)),
+        )

@@ -1,8 +1,9 @@
--- Worked cases of what is asked of a tree, computed from the definitions. Bytes are written as numbers: `p` is 112, `P` 80, `:` 58.
+-- Worked cases of what is asked of a tree, computed from the definitions.
 use mathlib.Core.Path.{_≡_, refl}
 use mathlib.Core.Bool.{true, false}
-use mathlib.Core.List.{List, [], _∷_, _++_}
+use mathlib.Core.List.{List, [], _∷_}
 use Prim.Native.Nat.{ℕ}
+use Rattle.scan.specs.Text.{ascii}
 use Rattle.scan.specs.Names.{lower, sameFolded, hasColon, afterLastColon}
 use Rattle.tree.specs.Trees as placed
 use Rattle.scan.specs.Part.{stringAt}
@@ -11,46 +12,40 @@ use Rattle.xml.specs.declared.find.Found.the-variants.{Row}
 use Rattle.xml.specs.declared.find.Value.the-variants.{At}
 use Rattle.xml.specs.Find.{named, findElement, found, absent, value, no-value, attrValue, findRow, findValue, isElement}
 
--- `body`
 abbrev body : List ℕ
-body = 98 ∷ 111 ∷ 100 ∷ 121 ∷ []
+body = ascii "body"
 
--- `tt:BODY`
-abbrev tt-body : List ℕ
-tt-body = 116 ∷ 116 ∷ 58 ∷ 66 ∷ 79 ∷ 68 ∷ 89 ∷ []
-
--- `id`
 abbrev id : List ℕ
-id = 105 ∷ 100 ∷ []
+id = ascii "id"
 
 -- ---- elements
 -- `x<tt:BODY>y</tt:BODY><body/>`: texts are passed, the prefix and the case do not count, and the first is taken
-pub first-body : findElement body (more (text (120 ∷ [])) (more (element tt-body [] (more (text (121 ∷ [])) none))
+pub first-body : findElement body (more (text (ascii "x")) (more (element (ascii "tt:BODY") [] (more (text (ascii "y")) none))
     (more (element body [] none) none)))
-    ≡ found tt-body [] (more (text (121 ∷ [])) none)
+    ≡ found (ascii "tt:BODY") [] (more (text (ascii "y")) none)
 unfolding findElement named sameFolded lower hasColon afterLastColon
 first-body = refl
 
 -- `<![CDATA[body]]><a:b:body/>`: a section is passed, and a local name follows the last colon
-pub last-colon : findElement body (more (section body) (more (element (97 ∷ 58 ∷ 98 ∷ 58 ∷ body) [] none) none))
-    ≡ found (97 ∷ 58 ∷ 98 ∷ 58 ∷ body) [] none
+pub last-colon : findElement body (more (section body) (more (element (ascii "a:b:body") [] none) none))
+    ≡ found (ascii "a:b:body") [] none
 unfolding findElement named sameFolded lower hasColon afterLastColon
 last-colon = refl
 
 -- `<p><body/></p><bodys/>`: content is not searched, and a longer name is another
-pub not-inside : findElement body (more (element (112 ∷ []) [] (more (element body [] none) none)) (more (element (body ++ 115 ∷ []) [] none) none))
+pub not-inside : findElement body (more (element (ascii "p") [] (more (element body [] none) none)) (more (element (ascii "bodys") [] none) none))
     ≡ absent
 unfolding findElement named sameFolded lower hasColon afterLastColon
 not-inside = refl
 
 -- ---- attributes
 -- `ID="1" id="2"`: the first of those that differ in case only
-pub first-id : attrValue id (attr (73 ∷ 68 ∷ []) (49 ∷ []) ∷ attr id (50 ∷ []) ∷ []) ≡ value (49 ∷ [])
+pub first-id : attrValue id (attr (ascii "ID") (ascii "1") ∷ attr id (ascii "2") ∷ []) ≡ value (ascii "1")
 unfolding attrValue sameFolded lower
 first-id = refl
 
 -- `x:id="1"`: an attribute's prefix is part of its name
-pub whole-name : attrValue id (attr (120 ∷ 58 ∷ id) (49 ∷ []) ∷ []) ≡ no-value
+pub whole-name : attrValue id (attr (ascii "x:id") (ascii "1") ∷ []) ≡ no-value
 unfolding attrValue sameFolded lower
 whole-name = refl
 
@@ -64,18 +59,18 @@ nodes = 1 ∷ 1 ∷ 0 ∷ 1 ∷ 0 ∷ 0 ∷ 2 ∷ 2 ∷ 1 ∷ 1 ∷ 0 ∷ 1 ∷ 
 abbrev owned : List placed.Attr
 owned = record { name = 4; nameLen = 1; value = 7; valueLen = 1 } ∷ []
 
-pub row-1 : findRow strings (112 ∷ []) 0 (placed.text 0 1 (placed.elem 1 1 owned placed.nil placed.nil)) ≡ Row 1
+pub row-1 : findRow strings (ascii "p") 0 (placed.text 0 1 (placed.elem 1 1 owned placed.nil placed.nil)) ≡ Row 1
 unfolding findRow named stringAt sameFolded lower hasColon afterLastColon
 row-1 = refl
 
-pub no-element : isElement nodes strings (112 ∷ []) 0 ≡ false
+pub no-element : isElement nodes strings (ascii "p") 0 ≡ false
 unfolding isElement
 no-element = refl
 
-pub an-element : isElement nodes strings (112 ∷ []) 1 ≡ true
+pub an-element : isElement nodes strings (ascii "p") 1 ≡ true
 unfolding isElement named stringAt sameFolded lower hasColon afterLastColon
 an-element = refl
 
-pub value-7 : findValue strings (65 ∷ []) owned ≡ At (record { at = 4; place = 7; len = 1 })
+pub value-7 : findValue strings (ascii "A") owned ≡ At (record { at = 4; place = 7; len = 1 })
 unfolding findValue stringAt sameFolded lower
 value-7 = refl

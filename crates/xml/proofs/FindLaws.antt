@@ -82,16 +82,21 @@ module _ {t u z : List ℕ} {i a p n : ℕ} where
     unfolding attrsOf size
     holds-elem h =
         let s : RowIs t i 2 (i + 1 + size c) p n a (length l) × Stands t (i + 1) (a + length l) c
-            × Stands t (i + 1 + size c) (a + length l + length (attrsOf c)) f
+        × Stands t (i + 1 + size c) (a + length l + length (attrsOf c)) f
         = on-elem t i a p n l c f (h .stands) in
         let g : Listed u (a + length l) (attrsOf c ++ attrsOf f) = on-attrs u a l (attrsOf c ++ attrsOf f) (h .listed) .1 in
         let d : Listed u (a + length l) (attrsOf c) × Listed u (a + length l + length (attrsOf c)) (attrsOf f) =
-            on-attrs u (a + length l) (attrsOf c) (attrsOf f) g in
+        on-attrs u (a + length l) (attrsOf c) (attrsOf f) g in
         let lo : ℕ = p + 1 + n in
         let o : InOrder lo (attrSpans l ++ (spans c ++ spans f)) (length z) = placed-elem (h .lo) (length z) p n l c f (h .placed) .1 in
         let r : InOrder lo (spans c ++ spans f) (length z) = in-rest (attrSpans l) (spans c ++ spans f) lo (length z) o in
-        let x : Holds t u z (i + 1) (a + length l) c = record { stands = s .1; listed = d .0; lo = lo; placed =
-            in-first (spans c) (spans f) lo (length z) r } in
+        let x : Holds t u z (i + 1) (a + length l) c = record {
+          stands = s .1;
+          listed = d .0;
+          lo = lo;
+          placed =
+              in-first (spans c) (spans f) lo (length z) r;
+        } in
         record {
           row = s .0;
           cells = element-cells (s .0);
@@ -114,9 +119,11 @@ module _ {t u z : List ℕ} {i a p n : ℕ} where
           stands = record { tail = r ++ h .stands .tail; is = h .stands .is ∙ simp append-assoc };
           listed = record { tail = attrRows (attrsOf f) ++ h .listed .tail; is = h .listed .is ∙ simp (attrRows-append, append-assoc) };
           lo = h .lo;
-          placed =
-              (h .placed .0, in-first (attrSpans l ++ (spans c ++ [])) (spans f) lo (length z)
-              (rw (← (regroup (attrSpans l) (spans c) (spans f))) (h .placed .1)));
+          placed = (
+            h .placed .0,
+            in-first (attrSpans l ++ (spans c ++ [])) (spans f) lo (length z)
+                (rw (← (regroup (attrSpans l) (spans c) (spans f))) (h .placed .1)),
+          );
         }
 
 -- ---- what the searches require
@@ -167,7 +174,7 @@ find-nothing z name i (elem p n l c f) e =
 -- what is found among the later siblings
 found-later : {t u z name : List ℕ} {i j : ℕ} {f g : Forest} {k : ℕ}
     → i ≤ j → j + size g ≤ i + size f → findElement name (treeIn z f) ≡ findElement name (treeIn z g) → FoundAt t u z name j g k
-        → FoundAt t u z name i f k
+    → FoundAt t u z name i f k
 found-later h w e x = record {
   place = x .place;
   len = x .len;

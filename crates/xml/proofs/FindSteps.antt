@@ -61,7 +61,7 @@ module _ (t z name : List ℕ) (k b : ℕ) where
       let d : ℕ = b + length l + length (attrsOf c) in
       let lo : ℕ = p + 1 + n in
       let r : RowIs t k 2 (k + 1 + size c) p n b (length l) × Stands t (k + 1) (b + length l) c × Stands t (k + 1 + size c) d g =
-          on-elem t k b p n l c g s in
+      on-elem t k b p n l c g s in
       let e : getD t (k * 6 + 1) 0 ≡ k + 1 + size c = r .0 .end-is in
       let j : isElement t z name k ≡ named name (stringAt z (p + 1) n) = is-element-elem z name s in
       record {

@@ -65,7 +65,7 @@ module _ {s : List ℕ} {lent left : Tables} {r : Answer} (p : Parsed s lent r l
           lo = 0;
           placed =
               in-higher (spans given-forest) 0 (length s) (length (left .strings)) (omega (arith, h .as-long, d .short, d .long-enough .of-strings))
-                  (h .in-order);
+              (h .in-order);
         }
 
     pub given-count : 0 + size given-forest ≡ i

@@ -80,7 +80,7 @@ module _ (s : List ℕ) where
       ordered-one (p + 1) n lo hi (stringAt s (p + 1) n) (attrStrings s l ++ (strings s c ++ strings s f)) (i .0) (string-short s (p + 1) n)
       (ordered-append (attrStrings s l) (strings s c ++ strings s f) (p + 1 + n) (a .mid) hi (attrs-ordered l (p + 1 + n) (a .mid) (a .first))
       (ordered-append (strings s c) (strings s f) (a .mid) (b .mid) hi (strings-ordered c (a .mid) (b .mid) (b .first))
-          (strings-ordered f (b .mid) hi (b .rest))))
+      (strings-ordered f (b .mid) hi (b .rest))))
 
 -- ---- one before the other
 pub lay-length : (l : List Placed) (z : List ℕ) → length (lay z l) ≡ length z
@@ -137,8 +137,8 @@ module _ (s : List ℕ) where
       let b : Split (a .mid) (spans c) (spans f) hi = in-split (spans c) (spans f) (a .mid) hi (a .rest) in
       let r : Ordered (a .mid) (nodeStrings s c ++ nodeStrings s f) hi
       =
-          ordered-append (nodeStrings s c) (nodeStrings s f) (a .mid) (b .mid) hi (nodes-ordered c (a .mid) (b .mid) (b .first))
-          (nodes-ordered f (b .mid) hi (b .rest)) in
+      ordered-append (nodeStrings s c) (nodeStrings s f) (a .mid) (b .mid) hi (nodes-ordered c (a .mid) (b .mid) (b .first))
+      (nodes-ordered f (b .mid) hi (b .rest)) in
       ordered-one (p + 1) n lo hi (stringAt s (p + 1) n) (nodeStrings s c ++ nodeStrings s f) (i .0) (string-short s (p + 1) n)
       (ordered-lower (nodeStrings s c ++ nodeStrings s f) (p + 1 + n) (a .mid) hi (in-whole (attrSpans l) (p + 1 + n) (a .mid) (a .first)) r)
 
@@ -184,7 +184,7 @@ module _ (s : List ℕ) where
       let b : Split (a .mid) (spans c) (spans f) hi = in-split (spans c) (spans f) (a .mid) hi (a .rest) in
       rw (attr-strings-append l (attrsOf c ++ attrsOf f), attr-strings-append (attrsOf c) (attrsOf f))
       (regroup (sets z (p + 1) (stringAt s (p + 1) n)) (nodeStrings s c) (nodeStrings s f) (attrStrings s l) (attrStrings s (attrsOf c))
-          (attrStrings s (attrsOf f))
+      (attrStrings s (attrsOf f))
       (strings s c) (strings s f) (p + 1 + n) (a .mid) (b .mid) hi
       (nodes-ordered c (a .mid) (b .mid) (b .first)) (nodes-ordered f (b .mid) hi (b .rest))
       (attrs-ordered s l (p + 1 + n) (a .mid) (a .first)) (own-ordered c (a .mid) (b .mid) (b .first))

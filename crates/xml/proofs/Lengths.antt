@@ -58,7 +58,7 @@ module _ (s : List ℕ) where
       let j : At s (p + length n + length b) (`=` then c then w then z) = at-on s b (`=` then c then w then z) (at-on s n y i) in
       let k : At s (p + length n + length b + 1 + length c) (w ++ z) = at-on s c (w ++ z) (at-on s `=` (c ++ (w ++ z)) j) in
       ap (λ (y : Bytes). made p (length n) (valuePlace x (p + length n + length b + 1 + length c)) (length (decoded y)))
-          (value-read x (p + length n + length b + 1 + length c) k)
+      (value-read x (p + length n + length b + 1 + length c) k)
   attr-read {z} (nameless {c = c} {w = w} {v = v} cc x) p at =
       let i : At s p (`=` then c then w then z) = at-same s refl (simp append-assoc) at in
       let k : At s (p + 1 + length c) (w ++ z) = at-on s c (w ++ z) (at-on s `=` (c ++ (w ++ z)) i) in
@@ -115,7 +115,7 @@ without-l : (after o b n : Bytes) {l : List Attr} (x : Opening (`/` then b then 
 unfolding elementPlaced readForest
 without-l after o b n x y s p at later =
     ap (λ (l : List placed.Attr). placed.elem p (length n) l placed.nil (readForest s later))
-        (opening-read s x p (at-same s refl (simp append-assoc) at))
+    (opening-read s x p (at-same s refl (simp append-assoc) at))
 
 with-l : (after o c n : Bytes) {l : List Attr} {f : Forest} (x : Opening (`>` then c then after) o n l) (d : Content no-comment after c f)
     → ContentL no-comment after c f d
@@ -125,7 +125,7 @@ with-l after o c n x d ih s p at later =
     let i : At s p (o ++ (62 ∷ (c ++ after))) = at-same s refl (simp append-assoc) at in
     let j : At s (p + length o + 1) (c ++ after) = at-on s (62 ∷ []) (c ++ after) (at-on s o (62 ∷ (c ++ after)) i) in
     ap₂ (λ (l : List placed.Attr) (f : placed.Forest). placed.elem p (length n) l f (readForest s later)) (opening-read s x p i)
-        (ih s (p + length o + 1) j)
+    (ih s (p + length o + 1) j)
 
 none-l : (s : List ℕ) → readForest s placed.nil ≡ placed.nil
 unfolding readForest

@@ -21,7 +21,7 @@ use Rattle.tree.proofs.Whole.{no-nodes, no-attrs, too-long}
 use Rattle.tree.proofs.Places.{in-whole, in-first, in-rest, meaning-placed}
 use Rattle.tree.proofs.Walks.{on-text, on-section, on-elem, root, root-placed, root-room, root-attrs, attrs-room, attr-at, attr-fits}
 use Rattle.xml.specs.Reading.{raw, readOut, stringsOf}
-use Rattle.xml.specs.Passes.{nodePlace, nodesRead, nodeStringsRead, NodeReady, attrsRead, attrStringsRead, AttrReady}
+use Rattle.xml.specs.Steps.{nodePlace, nodesRead, nodeStringsRead, NodeReady, attrsRead, attrStringsRead, AttrReady}
 use Rattle.xml.proofs.PassForests.{text-bytes, section-bytes, element-bytes, size-read, attrs-read, length-attrs-read, nodes-pass}
 use Rattle.xml.proofs.PassForests.{attrs-pass, strings-pass}
 
@@ -88,15 +88,18 @@ module _ (t : List ℕ) (hi : ℕ) where
   node-fits (elem p n l c f) k a lo st o zero h =
       let r = on-elem t k a p n l c f st .0 in
       let z : k + 0 ≡ k = omega arith in
-      rw (z, element-bytes [] t k (k + 1 + size c) p n a (length l) r .0,
-          r .len-is) (in-whole (attrSpans l ++ (spans c ++ spans f)) (p + 1 + n) hi (o .1))
+      rw (
+        z,
+        element-bytes [] t k (k + 1 + size c) p n a (length l) r .0,
+        r .len-is,
+      ) (in-whole (attrSpans l ++ (spans c ++ spans f)) (p + 1 + n) hi (o .1))
   node-fits (elem p n l c f) k a lo st o (suc i) h =
       let x = on-elem t k a p n l c f st in
       let g : InOrder (p + 1 + n) (spans c ++ spans f) hi = in-rest (attrSpans l) (spans c ++ spans f) (p + 1 + n) hi (o .1) in
       inner (ltb i (size c)) refl
       (λ b. node-fits c (k + 1) (a + length l) (p + 1 + n) (x .1) (in-first (spans c) (spans f) (p + 1 + n) hi g) i b)
       (λ b. node-fits f (k + 1 + size c) (a + length l + length (attrsOf c)) (p + 1 + n) (x .2) (in-rest (spans c) (spans f) (p + 1 + n) hi g)
-          (i - size c) (omega arith))
+      (i - size c) (omega arith))
     where
       inner : (b : Bool) → ltb i (size c) ≡ b → (i < size c → Fitted (k + 1 + i)) → (size c ≤ i → Fitted (k + 1 + size c + (i - size c)))
           → Fitted (k + suc i)
@@ -163,7 +166,7 @@ module _ (s : List ℕ) (n m z : ℕ) where
     tree-out : (o : Out) → ((f : Forest) (q k a : ℕ) → o ≡ got f q k a → InOrder 0 (spans f) (length s)) → Tree i j ≡ answerOf o → t ≡ nodesOf n o
         → u ≡ attrCells m o
         → t′ ≡ nodesRead s t i → y ≡ nodeStringsRead s t (replicate z 0) i → u′ ≡ attrsRead s u j → w ≡ attrStringsRead s u y j
-            → Left s n m z o (Tree i j) t′ u′ w
+        → Left s n m z o (Tree i j) t′ u′ w
     unfolding answerOf nodesOf attrCells readOut stringsOf nodesRead nodeStringsRead attrsRead attrStringsRead
     tree-out (got f q k a) placed e et eu et′ ey eu′ ew =
         let ei : i ≡ size f = cc in
@@ -187,6 +190,6 @@ module _ (s : List ℕ) (n m z : ℕ) where
     pub left-tree : (b : List ℕ) → 65536 ≤ z → Tree i j ≡ answerOf (meaning s n m) → t ≡ nodesOf n (meaning s n m) → u ≡ attrCells m (meaning s n m)
         → b ≡ replicate z 0
         → t′ ≡ nodesRead s t i → y ≡ nodeStringsRead s t b i → u′ ≡ attrsRead s u j → w ≡ attrStringsRead s u y j
-            → Left s n m z (raw s n m z) (Tree i j) t′ u′ w
+        → Left s n m z (raw s n m z) (Tree i j) t′ u′ w
     left-tree b h e et eu eb et′ ey eu′ ew =
         rw (raw-enough s n m z h) (tree-out (meaning s n m) (λ f q k a. meaning-placed s n m f q k a) e et eu et′ (ey ∙ rw eb) eu′ ew)

@@ -22,7 +22,7 @@ use Rattle.tree.proofs.Places.{in-whole, in-first, in-rest}
 use Rattle.tree.proofs.Walks.{on-text, on-section, on-elem, on-attr}
 use Rattle.scan.specs.Part.{stringAt}
 use Rattle.xml.specs.Reading.{attrStrings, strings, lay, readAttrs, readForest}
-use Rattle.xml.specs.Passes.{nodePlace, nodeBytes, nodesRead, nodeStringsRead, valueBytes, attrsRead, attrWritten, attrStringsRead}
+use Rattle.xml.specs.Steps.{nodePlace, nodeBytes, nodesRead, nodeStringsRead, valueBytes, attrsRead, attrWritten, attrStringsRead}
 use Rattle.xml.proofs.PassLaws.{nodes-after, attrs-after}
 use Rattle.xml.proofs.Lays.{lay-append, nodeStrings, gathered}
 
@@ -116,7 +116,7 @@ module _ (s t : List ℕ) where
         let old : (i : ℕ) → k * 6 ≤ i → getD (nodesRead s t k) i 0 ≡ getD t i 0 = nodes-after s t k in
         rw (add-one k, e)
         (row-set (nodesRead s t k) (k * 6) kind end p (length w) first many (old (k * 6) (omega arith) ∙ r .kind-is) (old (k * 6 + 1) (omega arith)
-            ∙ r .end-is)
+        ∙ r .end-is)
         (old (k * 6 + 2) (omega arith) ∙ r .place-is) (old (k * 6 + 4) (omega arith) ∙ r .first-is) (old (k * 6 + 5) (omega arith) ∙ r .many-is))
 
     string-read : (z : List ℕ) (q : ℕ) (w : List ℕ) → (nodePlace t k ≡ q) × (nodeBytes s t k ≡ w) → nodeStringsRead s t z (k + 1)
@@ -141,14 +141,14 @@ module _ (s t : List ℕ) where
       let z : k + (1 + size f) ≡ k + 1 + size f = omega arith in
       rw z (rows-on k (k + 1 + size f) 1 (k + 1) p (length (decoded (stringAt s p n))) 0 0 (rows (k + 1) a (readForest s f))
       (row-read k (k + 1) p n 0 0 1 (decoded (stringAt s p n)) (o .0) (text-bytes k (k + 1) p n 0 0 (o .0) .1))
-          (pass-forest f (k + 1) a (p + n) (o .1) (i .1)))
+      (pass-forest f (k + 1) a (p + n) (o .1) (i .1)))
   pass-forest (section p n f) k a lo st i =
       let o = on-section t k a p n f st in
       let z : k + (1 + size f) ≡ k + 1 + size f = omega arith in
       let l : length (stringAt s p n) ≡ n = string-long s p n (in-whole (spans f) (p + n) (length s) (i .1)) in
       rw z (rows-on k (k + 1 + size f) 3 (k + 1) p n 0 0 (rows (k + 1) a (readForest s f))
       (rw l at (row-read k (k + 1) p n 0 0 3 (stringAt s p n) (o .0) (section-bytes k (k + 1) p n 0 0 (o .0) .1)))
-          (pass-forest f (k + 1) a (p + n) (o .1) (i .1)))
+      (pass-forest f (k + 1) a (p + n) (o .1) (i .1)))
   pass-forest (elem p n l c f) k a lo st i =
       let b : ℕ = a + length l in
       let d : ℕ = a + length l + length (attrsOf c) in
@@ -160,9 +160,9 @@ module _ (s t : List ℕ) where
       let q : List ℕ = rows (k + 1) b (readForest s c) in
       let r : List ℕ = rows e d (readForest s f) in
       let x : nodesRead s t e ≡ sets (nodesRead s t (k + 1)) ((k + 1) * 6) q =
-          pass-forest c (k + 1) b (p + 1 + n) (o .1) (in-first (spans c) (spans f) (p + 1 + n) (length s) g) in
+      pass-forest c (k + 1) b (p + 1 + n) (o .1) (in-first (spans c) (spans f) (p + 1 + n) (length s) g) in
       let y : nodesRead s t (e + size f) ≡ sets (nodesRead s t e) (e * 6) r =
-          pass-forest f e d (p + 1 + n) (o .2) (in-rest (spans c) (spans f) (p + 1 + n) (length s) g) in
+      pass-forest f e d (p + 1 + n) (o .2) (in-rest (spans c) (spans f) (p + 1 + n) (length s) g) in
       let v : nodesRead s t (e + size f) ≡ sets (nodesRead s t (k + 1)) ((k + 1) * 6) (q ++ r)
       = sets-on q r (nodesRead s t (k + 1)) (nodesRead s t e) (nodesRead s t (e + size f)) ((k + 1) * 6) (e * 6) x y
       (omega (arith, length-rows (readForest s c) (k + 1) b, size-read s c)) in
@@ -177,7 +177,7 @@ module _ (s t : List ℕ) where
       let o = on-text t k a p n f st in
       let e : k + (1 + size f) ≡ k + 1 + size f = omega arith in
       rw e (pass-strings z f (k + 1) a (o .1) ∙ rw (string-read k (k + 1) p n 0 0 z p (decoded (stringAt s p n))
-          (text-bytes k (k + 1) p n 0 0 (o .0))))
+      (text-bytes k (k + 1) p n 0 0 (o .0))))
   pass-strings z (section p n f) k a st =
       let o = on-section t k a p n f st in
       let e : k + (1 + size f) ≡ k + 1 + size f = omega arith in
@@ -190,7 +190,7 @@ module _ (s t : List ℕ) where
       = string-read k (k + 1 + size c) p n a (length l) z (p + 1) (stringAt s (p + 1) n) (element-bytes k (k + 1 + size c) p n a (length l) (o .0)) in
       rw e (pass-strings z f (k + 1 + size c) (a + length l + length (attrsOf c)) (o .2)
       ∙ (ap (λ (x : List ℕ). lay x (nodeStrings s f)) (pass-strings z c (k + 1) (a + length l) (o .1)
-          ∙ ap (λ (x : List ℕ). lay x (nodeStrings s c)) w)
+      ∙ ap (λ (x : List ℕ). lay x (nodeStrings s c)) w)
       ∙ sym (lay-append (nodeStrings s c) (nodeStrings s f) y)))
 
 -- ---- attributes
@@ -201,13 +201,13 @@ module _ (s u : List ℕ) where
 
   attr-read : (j : ℕ) (x : Attr) → AttrIs u j x
       → attrsRead s u (j + 1) ≡ sets (attrsRead s u j) (j * 4) (x .name ∷ x .nameLen ∷ x .value
-          ∷ length (decoded (stringAt s (x .value) (x .valueLen))) ∷ [])
+      ∷ length (decoded (stringAt s (x .value) (x .valueLen))) ∷ [])
   unfolding attrsRead
   attr-read j x r =
       let old : (i : ℕ) → j * 4 ≤ i → getD (attrsRead s u j) i 0 ≡ getD u i 0 = attrs-after s u j in
       rw (add-one j, value-of j x r)
       (attr-row-set (attrsRead s u j) (j * 4) (x .name) (x .nameLen) (x .value) (length (decoded (stringAt s (x .value) (x .valueLen))))
-          (old (j * 4) (omega arith) ∙ r .name-is)
+      (old (j * 4) (omega arith) ∙ r .name-is)
       (old (j * 4 + 1) (omega arith) ∙ r .name-len-is) (old (j * 4 + 2) (omega arith) ∙ r .value-is))
 
   pub pass-attrs : (l : List Attr) (j : ℕ) → Listed u j l → attrsRead s u (j + length l) ≡ sets (attrsRead s u j) (j * 4) (attrRows (readAttrs s l))
@@ -222,7 +222,7 @@ module _ (s u : List ℕ) where
 
   attr-string-read : (z : List ℕ) (j : ℕ) (x : Attr) → AttrIs u j x
       → attrStringsRead s u z (j + 1) ≡ sets (sets (attrStringsRead s u z j) (x .name) (stringAt s (x .name) (x .nameLen))) (x .value)
-          (decoded (stringAt s (x .value) (x .valueLen)))
+      (decoded (stringAt s (x .value) (x .valueLen)))
   unfolding attrStringsRead attrWritten
   attr-string-read z j x r = rw (add-one j, value-of j x r, r .name-is, r .name-len-is, r .value-is)
 

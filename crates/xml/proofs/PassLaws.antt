@@ -20,8 +20,8 @@ use Rattle.scan.proofs.Stores.{sets-other}
 use Rattle.entities.specs.Decode.{decoded}
 use Rattle.entities.proofs.Decoding.{decoded-short}
 use Rattle.scan.specs.Part.{stringAt}
-use Rattle.xml.specs.Passes.{nodePlace, nodeBytes, nodesRead, nodeStringsRead, NodeReady, valueBytes, attrsRead, attrWritten}
-use Rattle.xml.specs.Passes.{attrStringsRead, AttrReady}
+use Rattle.xml.specs.Steps.{nodePlace, nodeBytes, nodesRead, nodeStringsRead, NodeReady, valueBytes, attrsRead, attrWritten}
+use Rattle.xml.specs.Steps.{attrStringsRead, AttrReady}
 
 -- ---- one row
 module _ (t : List ℕ) (k : ℕ) where
@@ -175,5 +175,12 @@ module _ (s u : List ℕ) where
         ≡ attrStringsRead s u z (k + 1)
     unfolding attrStringsRead attrWritten
     attr-strings-next k u′ z′ z″ e w x =
-        x ∙ rw (e, w, value-bytes-after k, attrs-after k (k * 4) (omega arith), attrs-after k (k * 4 + 1) (omega arith),
-            attrs-after k (k * 4 + 2) (omega arith), add-one k)
+        x ∙ rw (
+          e,
+          w,
+          value-bytes-after k,
+          attrs-after k (k * 4) (omega arith),
+          attrs-after k (k * 4 + 1) (omega arith),
+          attrs-after k (k * 4 + 2) (omega arith),
+          add-one k,
+        )

@@ -11,9 +11,10 @@ use Rattle.scan.specs.Loop.{go, loop}
 use Rattle.scan.specs.Bytes.{blank, textByte, nameByte, attrNameByte, runEnd}
 use Rattle.scan.specs.Marks.{startsAt, seek, past}
 use Rattle.scan.specs.Names.{sameBytes}
-use Rattle.unicode.specs.Utf8.{fitsAt, firstFit, sequenceAt, utf8End, encode}
+use Rattle.unicode.specs.Utf8.{fitsAt, firstFit, sequenceAt, utf8End, encode, charAt}
+use Rattle.unicode.specs.White.{isWhite}
 use Rattle.entities.specs.Reference as entities
-use Rattle.entities.specs.Reference.{nameLength, lookup, reference}
+use Rattle.entities.specs.Reference.{startsWhite, endsName, nameLength, lookup, reference}
 use Rattle.entities.specs.Decode.{decodedFrom, decoded}
 use Rattle.grammar.specs.Tree.{Forest}
 use Rattle.grammar.specs.Demand.{tree}
@@ -92,7 +93,7 @@ pub worked : map (λ (c : Case). readIn (c .of)) cases ≡ map (λ (c : Case). s
 unfolding cases forestOf readIn readOut readForest readAttrs stringAt go loop blank textByte nameByte attrNameByte runEnd startsAt seek past
     fitsAt firstFit sequenceAt utf8End encode join quoteByte quoted bare valueAt attrAt slash attrNext tagTurn tagFrom startAt
     pastComments textAt sectionAt nodeHere nodeAt nodeNext closeAt innerTurn outerTurn rowOf enclose tagged elementBy elementOf
-    prologTurn prologEnd meaning decoded decodedFrom reference entities.nameByte nameLength lookup entities.named sameBytes
+    prologTurn prologEnd meaning decoded decodedFrom reference startsWhite endsName isWhite charAt nameLength lookup entities.named sameBytes
 worked = refl
 
 -- ---- so they stand

@@ -112,9 +112,10 @@ module _ (s : List ℕ) (i : ℕ) where
   attrs-apart : (l : List Attr) → Outside i (attrSpans (readAttrs s l)) → Apart i (attrStrings s l)
   unfolding attrSpans attrStrings readAttrs
   attrs-apart [] h = tt
-  attrs-apart (x ∷ l) h =
-      (shorter i (x .name) (length (stringAt s (x .name) (x .nameLen))) (x .nameLen) (string-short s (x .name) (x .nameLen)) (h .0),
-          (h .1 .0, attrs-apart l (h .1 .1)))
+  attrs-apart (x ∷ l) h = (
+    shorter i (x .name) (length (stringAt s (x .name) (x .nameLen))) (x .nameLen) (string-short s (x .name) (x .nameLen)) (h .0),
+    (h .1 .0, attrs-apart l (h .1 .1)),
+  )
 
   forest-apart : (f : placed.Forest) → Outside i (spans (readForest s f)) → Apart i (strings s f)
   unfolding spans strings readForest
@@ -176,7 +177,7 @@ module _ (s T U Z : List ℕ) where
   pub is-away : (i p : ℕ) → result ≡ refused i p → TurnsAway s (tables T U Z) i p
   is-away i p e =
       by (ltb (length Z) 65536) (ltb (length T) 49152) (ltb (length U) 32768) (ltb 65536 (length s)) (ltb (utf8End s) (length s)) refl refl refl
-          refl refl
+      refl refl
     where
       answered : (a b : ℕ) → result ≡ refused a b → TurnsAway s (tables T U Z) a b → TurnsAway s (tables T U Z) i p
       answered a b x = moved a b i p (sym x ∙ e)
@@ -192,7 +193,7 @@ module _ (s T U Z : List ℕ) where
       by false true c d k v w x y g =
           let h = ltb-true (length T) 49152 w in
           answered 1 0 (theorem.small-nodes s (length T) (length U) (length Z) (ltb-false (length Z) 65536 v) h)
-              (short-table (λ l. omega (arith, l .of-nodes)))
+          (short-table (λ l. omega (arith, l .of-nodes)))
       by false false true d k v w x y g =
           let h = ltb-true (length U) 32768 x in
           answered 1 0 (theorem.small-attrs s (length T) (length U) (length Z) (ltb-false (length Z) 65536 v) (ltb-false (length T) 49152 w) h)
@@ -225,15 +226,19 @@ module _ (s T U Z : List ℕ) where
       by false true c v w x = theorem.small-nodes s (length T) (length U) (length Z) (ltb-false (length Z) 65536 v) (ltb-true (length T) 49152 w)
       by false false true v w x =
           theorem.small-attrs s (length T) (length U) (length Z) (ltb-false (length Z) 65536 v) (ltb-false (length T) 49152 w)
-              (ltb-true (length U) 32768 x)
+          (ltb-true (length U) 32768 x)
       by false false false v w x =
-          absurd (h (record { of-nodes = ltb-false (length T) 49152 w; of-attrs = ltb-false (length U) 32768 x; of-strings =
-              ltb-false (length Z) 65536 v }))
+          absurd (h (record {
+            of-nodes = ltb-false (length T) 49152 w;
+            of-attrs = ltb-false (length U) 32768 x;
+            of-strings =
+                ltb-false (length Z) 65536 v;
+          }))
   away-is (long-text l h) = theorem.too-long s (length T) (length U) (length Z) (l .of-strings) (l .of-nodes) (l .of-attrs) h
   away-is (not-utf8 {p} l h bad-text v) =
       let e : p ≡ utf8End s = omega (arith, end-longest s p (v .within) (v .valid), v .longest (utf8End s) (end-within s) (end-valid s)) in
       rw e (theorem.not-utf8 s (length T) (length U) (length Z) (l .of-strings) (l .of-nodes) (l .of-attrs) h
-          (broken (ltb (utf8End s) (length s)) refl))
+      (broken (ltb (utf8End s) (length s)) refl))
     where
       broken : (k : Bool) → ltb (utf8End s) (length s) ≡ k → utf8End s < length s
       broken true g = ltb-true (utf8End s) (length s) g

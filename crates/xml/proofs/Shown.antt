@@ -37,9 +37,11 @@ module _ (s : List ℕ) where
   pub order-read : (f : Forest) (lo hi : ℕ) → InOrder lo (spans f) hi → InOrder lo (spans (readForest s f)) hi
   unfolding spans readForest
   order-read nil lo hi i = i
-  order-read (text p n f) lo hi i =
-      (i .0, in-lower (spans (readForest s f)) (p + length (decoded (stringAt s p n))) (p + n) hi (omega (arith, read-short s p n))
-          (order-read f (p + n) hi (i .1)))
+  order-read (text p n f) lo hi i = (
+    i .0,
+    in-lower (spans (readForest s f)) (p + length (decoded (stringAt s p n))) (p + n) hi (omega (arith, read-short s p n))
+        (order-read f (p + n) hi (i .1)),
+  )
   order-read (section p n f) lo hi i = (i .0, order-read f (p + n) hi (i .1))
   order-read (elem p n l c f) lo hi i =
       let a : Split (p + 1 + n) (attrSpans l) (spans c ++ spans f) hi = in-split (attrSpans l) (spans c ++ spans f) (p + 1 + n) hi (i .1) in
@@ -48,7 +50,7 @@ module _ (s : List ℕ) where
         in-append (attrSpans (readAttrs s l)) (spans (readForest s c) ++ spans (readForest s f)) (p + 1 + n) (a .mid) hi
             (order-attrs l (p + 1 + n) (a .mid) (a .first))
             (in-append (spans (readForest s c)) (spans (readForest s f)) (a .mid) (b .mid) hi (order-read c (a .mid) (b .mid) (b .first))
-                (order-read f (b .mid) hi (b .rest))),
+            (order-read f (b .mid) hi (b .rest))),
       )
 
 -- ---- every string stands at its place
@@ -73,7 +75,7 @@ lay-below [] z p n lo hi o h g = refl
 lay-below (x ∷ l) z p n lo hi o h g =
     let k : p ≤ length (sets z (x .place) (x .bytes)) = rw (length-sets z (x .place) (x .bytes)) g in
     lay-below l (sets z (x .place) (x .bytes)) p n (x .place + length (x .bytes)) hi (o .1) (omega (arith, o .0)) k
-        ∙ string-below z (x .bytes) p n (x .place) (omega (arith, o .0)) g
+    ∙ string-below z (x .bytes) p n (x .place) (omega (arith, o .0)) g
 
 string-laid : (z w : List ℕ) (p : ℕ) → p + length w ≤ length z → stringAt (sets z p w) p (length w) ≡ w
 unfolding stringAt

@@ -107,9 +107,15 @@ spread-long (x ∷ l) lo hi o =
     let w = x .bytes in
     let z : List ℕ = replicate (x .place - lo) 0 in
     let s = spread (x .place + length w) hi l in
-    omega (arith, length-append z (w ++ s), length-append w s, length-replicate {A = ℕ} (x .place - lo) 0,
-    spread-long l (x .place + length w) hi (o .1),
-    o .0, ordered-whole l (x .place + length w) hi (o .1))
+    omega (
+      arith,
+      length-append z (w ++ s),
+      length-append w s,
+      length-replicate {A = ℕ} (x .place - lo) 0,
+      spread-long l (x .place + length w) hi (o .1),
+      o .0,
+      ordered-whole l (x .place + length w) hi (o .1),
+    )
 
 pub laid-spread : (l : List Placed) (hi m : ℕ) → Ordered 0 l hi → hi ≤ m → lay (replicate m 0) l ≡ spread 0 m l
 laid-spread l hi m o h = rw (zero-add m) at (lay-spread l [] m (rw (zero-add m) (ordered-higher l 0 hi m h o)))
@@ -150,5 +156,9 @@ starts-clean a v (sequence {w} {s} f u) = by-test (ltb 0 (length a))
         (λ t. boundary-below (a ++ (w ++ s)) (length a) (λ e. omega (arith, h, e)) (omega (arith, long, f .some-byte)) (rw byte (ltb-true _ _ t)))
         (λ t. by-test (ltb 0xBF (getD w 0 0))
         (λ r. boundary-above (a ++ (w ++ s)) (length a) (λ e. omega (arith, h, e)) (omega (arith, long, f .some-byte)) (rw byte (ltb-true _ _ r)))
-        (λ r. absurd (omega (arith, f .some-byte, f .whole,
-        no-row w 0 (0x80 to 0xBF) refl (in-range (getD w 0 0) 0x80 0xBF (ltb-false (getD w 0 0) 0x80 t) (ltb-false 0xBF (getD w 0 0) r))))))
+        (λ r. absurd (omega (
+          arith,
+          f .some-byte,
+          f .whole,
+          no-row w 0 (0x80 to 0xBF) refl (in-range (getD w 0 0) 0x80 0xBF (ltb-false (getD w 0 0) 0x80 t) (ltb-false 0xBF (getD w 0 0) r)),
+        ))))

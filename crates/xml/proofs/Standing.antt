@@ -70,12 +70,15 @@ module _ (s : List ℕ) where
   pub run-to : (c : ℕ → Bool) {p : ℕ} (w after : Bytes) → At s p (w ++ after) → Only c w → Stops c after → runEnd c s p ≡ p + length w
   run-to c {p} w after h o t =
       at-one (record { is = sym (past-drop c s p) ∙ ap (past c) (h .is) ∙ past-is c w after o t; within = run-high c s p (h .within) })
-          (at-on w after h)
+      (at-on w after h)
 
   pub beyond-to : (b : ℕ) (m : Bytes) {p : ℕ} (w after : Bytes) → At s p (w ++ after) → UpTo (b ∷ m) after w → marks.past (b ∷ m) s p ≡ p + length w
   beyond-to b m {p} w after h t =
-      at-one (record { is = sym (beyond-at (b ∷ m) s p) ∙ ap (beyond (b ∷ m)) (h .is) ∙ beyond-is b m after w t; within =
-          passed (b ∷ m) s p (h .within) .within }) (at-on w after h)
+      at-one (record {
+        is = sym (beyond-at (b ∷ m) s p) ∙ ap (beyond (b ∷ m)) (h .is) ∙ beyond-is b m after w t;
+        within =
+            passed (b ∷ m) s p (h .within) .within;
+      }) (at-on w after h)
 
   -- ---- a value at v, after the `=` at q
   abbrev valued : ℕ → ℕ → ℕ → ℕ → ℕ → AttrOut
@@ -165,8 +168,13 @@ module _ (s : List ℕ) where
       let l : p + length n - p ≡ length n = omega arith in
       let m : p + length n + length b + 1 + length c + length w ≡ p + length (n then b then `=` then c then w) = simp length-append (omega arith) in
       with-equals (p + length n) c w after v x e k (at-on b (`=` then c then w then after) d) (cc .all)
-      ∙ ap₂ (λ i j. places.attr (record { name = p; nameLen = i; value = valuePlace x (p + length n + length b + 1 + length c); valueLen =
-          length v }) (skip s j)) l m
+      ∙ ap₂ (λ i j. places.attr (record {
+        name = p;
+        nameLen = i;
+        value = valuePlace x (p + length n + length b + 1 + length c);
+        valueLen =
+            length v;
+      }) (skip s j)) l m
   attr-at {p} {after} (nameless {c} {w} {v} cc x) h =
       let z : Bytes = `=` then c then w then after in
       let assoc : (`=` then c then w) ++ after ≡ z = simp append-assoc in
@@ -229,10 +237,10 @@ module _ (s : List ℕ) where
       let y : TagState = record { list = x .list ++ (attrPlaced length a p ∷ []); count = x .count + 1 } in
       by-test (ltb (x .count) 8192)
       (λ g. then-more p x (p + length u + length b) y (attrsPlaced length d (p + length u + length b)) (attrPlaced length a p)
-          (p + length (u then b then w)) refl
+      (p + length (u then b then w)) refl
       (loop-more (length s) (tagTurn s) _ p x (p + length u + length b) y (at-some (f .byte) (f .rest ++ (b ++ z)) c)
       (tag-turn x (f .byte) (f .rest ++ (b ++ z)) c (f .inside) (attrPlaced length a p) (p + length u + length b) (e
-          ∙ ap (places.attr (attrPlaced length a p)) v) g)
+      ∙ ap (places.attr (attrPlaced length a p)) v) g)
       (omega (arith, front-length u f)))
       (subst (λ r. AttrsAt (p + length u + length b) y r (attrsPlaced length d (p + length u + length b))) m (attrs-at d t q y)))
       (λ g. inl (
@@ -262,7 +270,7 @@ module _ (s : List ℕ) where
       let v : skip s (p + 1 + length n) ≡ p + 1 + length n + length b = run-to blank b (w ++ after) k (bb .all) (attributes-stops t d) in
       let z : eqb (p + 1 + length n) (p + 1) ≡ false = ne-eqb (p + 1 + length n) (p + 1) (λ e. some n (f .some-byte) (omega arith)) in
       let m : p + 1 + length n + length b + length w ≡ p + length (60 ∷ (n ++ (b ++ w))) =
-          omega (arith, length-append n (b ++ w), length-append b w) in
+      omega (arith, length-append n (b ++ w), length-append b w) in
       rw (z, v, ← m) (attrs-at d t (at-on b (w ++ after) k) (record { list = []; count = a }))
     where
       some : (n : Bytes) → ¬ (n ≡ []) → length n ≡ 0 → ⊥

@@ -87,7 +87,7 @@ module _ (s : List ℕ) (n m z : ℕ) where
     parsed-is =
         rw (raw-enough s n m z enough)
         (shows s z (omega (arith, fits .short)) (meaning s n m) (λ f q k a. meaning-placed s n m f q k a)
-            ∙ ap (decodeResult decoded) (agree s n m fits))
+        ∙ ap (decodeResult decoded) (agree s n m fits))
 
     -- it is taken exactly when the grammar derives a tree for it within the limits
     pub takes-exactly : ((g : Forest) × (parsed s n m z ≡ tree g)) ↔ ((f : Forest) × Derives s f)
@@ -145,7 +145,7 @@ module _ (s : List ℕ) (n m z : ℕ) where
           no 2 0 (too-long (ltb-false z 65536 v) (ltb-false n 49152 w) (ltb-false m 32768 x) (ltb-true 65536 (length s) y))
       by false false false false true v w x y u =
           no 3 (utf8End s) (not-utf8 (ltb-false z 65536 v) (ltb-false n 49152 w) (ltb-false m 32768 x) (ltb-false 65536 (length s) y)
-              (ltb-true (utf8End s) (length s) u))
+          (ltb-true (utf8End s) (length s) u))
       by false false false false false v w x y u = (
         record {
           long = ltb-false n 49152 w;

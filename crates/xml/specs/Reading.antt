@@ -44,7 +44,7 @@ unfoldable pub readAttrs : List ℕ → List Attr → List Attr
 readAttrs s [] = []
 readAttrs s (x ∷ l) =
     record { name = x .name; nameLen = x .nameLen; value = x .value; valueLen = length (decoded (stringAt s (x .value) (x .valueLen))) }
-        ∷ readAttrs s l
+    ∷ readAttrs s l
 
 unfoldable pub readForest : List ℕ → Forest → Forest
 readForest s nil = nil

@@ -5,8 +5,8 @@ ghost use mathlib.Core.List.{[], _∷_};
 ghost use Prim.Native.Nat.{ℕ, _+_, _*_, _<_};
 ghost use lib.ListN.{length};
 ghost use lib.Seq.{sets};
-ghost use Rattle.xml.specs.Passes.{NodeReady, nodePlace, nodeBytes, nodesRead, nodeStringsRead, AttrReady, valueBytes, attrsRead};
-ghost use Rattle.xml.specs.Passes.{attrWritten, attrStringsRead};
+ghost use Rattle.xml.specs.Steps.{NodeReady, nodePlace, nodeBytes, nodesRead, nodeStringsRead, AttrReady, valueBytes, attrsRead};
+ghost use Rattle.xml.specs.Steps.{attrWritten, attrStringsRead};
 
 const TEXT: u32 = 1;
 

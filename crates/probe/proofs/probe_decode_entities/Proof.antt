@@ -15,7 +15,7 @@ same-length : tie.Need-same-length
 same-length c = search needs
 
 returns-2 : tie.Need-returns-2
-returns-2 c = search needs
+returns-2 c = record { whole = λ h. search needs; short = λ h. absurd (omega arith) }
 
 pub probe-decode-entities-spec : {M : Type 1} → statement M
 probe-decode-entities-spec =

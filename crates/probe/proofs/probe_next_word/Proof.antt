@@ -27,7 +27,10 @@ same-length : tie.Need-same-length
 same-length c = search needs
 
 returns-3 : tie.Need-returns-3
-returns-3 c = record { start = _; end = _; is = rw (c .before .before .before .before .before .span .given .1) at (c .before .before .before .before .before .before .before .next-word .ensures); laid = c .before .before .put-span .ensures }
+returns-3 c =
+    let c5 = c .before .before .before .before .before in
+    let c7 = c5 .before .before in
+    record { start = _; end = _; is = rw (c5 .span .given .1) at (c7 .next-word .ensures); laid = c .before .before .put-span .ensures }
 
 returns-4 : tie.Need-returns-4
 returns-4 c = (inr (inr (rw (c .enum-told .given .1) at (c .before .before .next-word .ensures))), refl)

@@ -21,8 +21,15 @@ returns-3 c =
 
 returns-4 : tie.Need-returns-4
 returns-4 c =
-    let h : length (c .before .before .before .before .before .before .args .out .now) ≤ 0 = omega arith in
-    numbered-none _ _ (rw (le-leb _ _ (c .before .before .before .if1 .left), le-leb _ _ (c .before .before .if2 .left), lt-ltb (c .before .before .before .before .before .before .args .max) (2 ^ 63) (omega arith), le-ltb _ _ h))
+    let c3 = c .before .before .before in
+    let c6 = c3 .before .before .before in
+    let h : length (c6 .args .out .now) ≤ 0 = omega arith in
+    numbered-none _ _ (rw (
+      le-leb _ _ (c3 .if1 .left),
+      le-leb _ _ (c .before .before .if2 .left),
+      lt-ltb (c6 .args .max) (2 ^ 63) (omega arith),
+      le-ltb _ _ h,
+    ))
 
 read-numeral-requires : tie.Need-read-numeral-requires
 read-numeral-requires c κs = search needs
@@ -34,7 +41,15 @@ same-length : tie.Need-same-length
 same-length c = search needs
 
 returns-5 : tie.Need-returns-5
-returns-5 c = rw (asked-on (c .before .before .before .before .before .before .before .before .before .before .before .args .text .now) _ (c .before .before .before .before .before .before .before .before .before .before .before .args .max) _ (c .before .before .before .before .before .before .before .before .before .before .before .args .out .now) (c .before .before .before .before .before .before .before .before .if1 .left) (c .before .before .before .before .before .before .before .if2 .left) (omega arith) (omega arith), ← (c .before .before .before .before .read-numeral .ensures)) (c .before .before .put-number .ensures)
+returns-5 c =
+    let c4 = c .before .before .before .before in
+    let c7 = c4 .before .before .before in
+    let c8 = c7 .before in
+    let c11 = c8 .before .before .before in
+    rw (
+      asked-on (c11 .args .text .now) _ (c11 .args .max) _ (c11 .args .out .now) (c8 .if1 .left) (c7 .if2 .left) (omega arith) (omega arith),
+      ← (c4 .read-numeral .ensures),
+    ) (c .before .before .put-number .ensures)
 
 pub probe-numeral-spec : {M : Type 1} → statement M
 probe-numeral-spec =

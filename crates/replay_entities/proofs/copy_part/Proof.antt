@@ -1,6 +1,6 @@
 -- `copy_part` meets its contract: what is written fits.
 use borrow.Author.Needs.{needs}
-use Rattle.replay_entities.proofs.Lengths.{written-within}
+use Rattle.replay_entities.proofs.Lengths.{copied-within}
 use Rattle.replay_entities.proofs.copy_part.Statement.{statement}
 use Rattle.replay_entities.proofs.copy_part.Tie as tie
 
@@ -23,7 +23,7 @@ same-length : tie.Need-same-length
 same-length c = search needs
 
 returns : tie.Need-returns
-returns c = rw (c .length-of .ensures) (written-within _ _ (c .before .before .before .append .last .0) (c .before .before .before .append .result) (c .before .before .before .append .ensures))
+returns c = rw (c .length-of .ensures) (copied-within _ _ (c .before .before .before .append .last .0) (c .before .before .before .append .result) (c .before .before .before .append .ensures))
 
 pub copy-part-spec : {M : Type 1} → statement M
 copy-part-spec =

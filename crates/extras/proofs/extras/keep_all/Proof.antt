@@ -1,68 +1,120 @@
+-- `keep_all` meets its contract. The extras of the names before the i-th stand in n rows; the measure is what is left of the names.
+use Prim.Native.Nat.{_+_, _-_, _*_, _<_, _≤_}
+use mathlib.Core.Path.{_≡_, refl}
+use mathlib.Core.List.{List}
+use native.Mathlib.Omega.{arith}
+use borrow.Author.Needs.{needs}
+use lib.ListN.{length}
+use Rattle.names.specs.Lists.{names}
+use Rattle.xml.specs.Reading.{Placed}
+use Rattle.meaning.specs.Nodes.{Attr}
+use Rattle.extras.specs.Kept.{FirstRows, extrasOf, keptCells, keptCount}
+use Rattle.extras.proofs.Keeping.{Kept, kept-start, kept-on, kept-all, kept-room, room-for, long-after, entry-extra}
 use Rattle.extras.proofs.extras.keep_all.Statement.{statement}
 use Rattle.extras.proofs.extras.keep_all.Tie as tie
-use Rattle.extras.proofs.extras.keep_all.Reads as reads
-use Rattle.extras.proofs.extras.keep_all.Lts as lts
-use Rattle.names.proofs.count.Reads as count-reads
-use Rattle.extras.proofs.extras.keep.Reads as keep-reads
-use Rattle.extras.proofs.extras.kept_attr.Reads as kept-attr-reads
 
 abbrev Inv-loop : tie.InvT-loop
-Inv-loop attrs strings list rows extras₀ at end n₀ i₀ extras n i = ?
+Inv-loop attrs strings list rows extras₀ at end n₀ i₀ extras n i =
+    (length extras ≡ length extras₀)
+    × ((l : List (Attr Placed)) → FirstRows attrs strings list rows l → Kept list l i n at extras₀ extras)
 
 abbrev μ-loop : tie.MeasureT-loop
-μ-loop attrs strings list rows extras₀ at end n₀ i₀ extras n i = ?
+μ-loop attrs strings list rows extras₀ at end n₀ i₀ extras n i = end - i
 
--- src/extras.rt:150:9
 count-requires : tie.Need-count-requires Inv-loop μ-loop
-count-requires c κs = ?
+count-requires c κs = tt
 
--- src/extras.rt:153:5
 loop-holds : tie.Need-loop-holds Inv-loop μ-loop
-loop-holds c = ?
+loop-holds c = (refl, λ l w. kept-start _ _ _ _)
 
--- src/extras.rt:154:56
 mul-kept-attr : tie.Need-mul-kept-attr Inv-loop μ-loop
-mul-kept-attr c = ?
+mul-kept-attr c =
+    let c7 = c .before .before .before .before .before .before .before in
+    let h : c .before .loop .i < length (c7 .args .rows .now) = omega (arith, c .before .before .count .ensures, c .loop-test .taken, c7 .pre .1) in
+    search (needs, h)
 
--- src/extras.rt:154:56
 shared-slice-read-kept-attr : tie.Need-shared-slice-read-kept-attr Inv-loop μ-loop
-shared-slice-read-kept-attr c = ?
+shared-slice-read-kept-attr c =
+    let c3 = c .before .before .before in
+    let c8 = c3 .before .before .before .before .before in
+    let h : c .before .before .loop .i < length (c8 .args .rows .now) = omega (arith, c3 .count .ensures, c .before .loop-test .taken, c8 .pre .1) in
+    search (needs, h)
 
--- src/extras.rt:154:13
 kept-attr-requires : tie.Need-kept-attr-requires Inv-loop μ-loop
-kept-attr-requires c κs = ?
+kept-attr-requires c κs =
+    let c3 = c .before .before .before in
+    let c8 = c3 .before .before .before .before .before in
+    (omega (arith, c3 .count .ensures, c .before .loop-test .taken), c8 .pre .0 (c .before .before .loop .i))
 
--- src/extras.rt:155:37
 add-keep : tie.Need-add-keep Inv-loop μ-loop
-add-keep c = ?
+add-keep c =
+    let c3 = c .before .before .before in
+    let c4 = c3 .before in
+    let c5 = c4 .before in
+    let c10 = c5 .before .before .before .before .before in
+    let own = c10 .pre .3 in
+    let here : c4 .loop .i < length (names (c10 .args .list)) = omega (arith, c5 .count .ensures, c3 .loop-test .taken) in
+    let e = entry-extra (c10 .args .attrs .now) (c10 .args .strings .now) (c10 .args .rows .now) (c10 .args .list) (own .0) (c4 .loop .i)
+    (own .1) here (c .before .kept-attr .ensures .1) in
+    let few = kept-room (c4 .loop .inv .1 (own .0) (own .1)) here (c10 .args .strings .now) (c .before .kept-attr .result) e in
+    omega (arith, few, own .2, c4 .loop .inv .0)
 
--- src/extras.rt:155:14
 keep-requires : tie.Need-keep-requires Inv-loop μ-loop
-keep-requires c κs = ?
+keep-requires c κs =
+    let c3 = c .before .before .before in
+    let c4 = c3 .before in
+    let c5 = c4 .before in
+    let c10 = c5 .before .before .before .before .before in
+    let own = c10 .pre .3 in
+    let here : c4 .loop .i < length (names (c10 .args .list)) = omega (arith, c5 .count .ensures, c3 .loop-test .taken) in
+    let e = entry-extra (c10 .args .attrs .now) (c10 .args .strings .now) (c10 .args .rows .now) (c10 .args .list) (own .0) (c4 .loop .i)
+    (own .1) here (c .before .kept-attr .ensures .1) in
+    let few = kept-room (c4 .loop .inv .1 (own .0) (own .1)) here (c10 .args .strings .now) (c .before .kept-attr .result) e in
+    room-for (c10 .args .list) (c10 .args .strings .now) (c4 .loop .extras) (c10 .args .at) (length (extrasOf (c10 .args .list) (own .0)))
+    (c4 .loop .n) (c4 .loop .i) (c .before .kept-attr .result) (c .before .kept-attr .ensures .0) (c10 .pre .2) here (omega
+    (arith, c4 .loop .inv .0, own .2)) few
 
--- src/extras.rt:155:9
 add-n : tie.Need-add-n Inv-loop μ-loop
-add-n c = ?
+add-n c =
+    let c4 = c .before .before .before .before in
+    let c6 = c4 .before .before in
+    let c7 = c6 .before in
+    let c8 = c7 .before in
+    let c13 = c8 .before .before .before .before .before in
+    let own = c13 .pre .3 in
+    let here : c7 .loop .i < length (names (c13 .args .list)) = omega (arith, c8 .count .ensures, c6 .loop-test .taken) in
+    let e = entry-extra (c13 .args .attrs .now) (c13 .args .strings .now) (c13 .args .rows .now) (c13 .args .list) (own .0) (c7 .loop .i)
+    (own .1) here (c4 .kept-attr .ensures .1) in
+    let few = kept-room (c7 .loop .inv .1 (own .0) (own .1)) here (c13 .args .strings .now) (c4 .kept-attr .result) e in
+    omega (arith, few, c .before .before .keep .ensures .0, own .2, c7 .loop .inv .0)
 
--- src/extras.rt:156:9
 add-i : tie.Need-add-i Inv-loop μ-loop
-add-i c = ?
+add-i c = omega arith
 
--- src/extras.rt:153:5
 loop-less : tie.Need-loop-less Inv-loop μ-loop
-loop-less c = ?
+loop-less c = omega arith
 
--- src/extras.rt:153:5
 loop-again : tie.Need-loop-again Inv-loop μ-loop
-loop-again c = ?
+loop-again c =
+    let c4 = c .before .before .before .before in
+    let c6 = c4 .before .before in
+    let c7 = c6 .before in
+    let c8 = c7 .before in
+    let c13 = c8 .before .before .before .before .before in
+    let here : c7 .loop .i < length (names (c13 .args .list)) = omega (arith, c8 .count .ensures, c6 .loop-test .taken) in
+    let row = (c13 .args .at + c7 .loop .n) * 3 in (
+      long-after (c7 .loop .extras) _ row _ (keptCells (c7 .loop .i) (c4 .kept-attr .result)) (c .before .before .keep .ensures .1)
+    (c7 .loop .inv .0),
+      λ l w. kept-on (c7 .loop .inv .1 l w) here (c13 .args .strings .now) (c4 .kept-attr .result) (c4 .kept-attr .ensures .0)
+          (entry-extra (c13 .args .attrs .now) (c13 .args .strings .now) (c13 .args .rows .now) (c13 .args .list) l (c7 .loop .i) w here
+    (c4 .kept-attr .ensures .1)) _ (c .before .before .keep .ensures .0) _ (c .before .before .keep .ensures .1),
+    )
 
--- src/extras.rt:137:1
 same-length : tie.Need-same-length Inv-loop μ-loop
-same-length c = ?
+same-length c = c .before .loop .inv .0
 
--- src/extras.rt:137:1
 returns : tie.Need-returns Inv-loop μ-loop
-returns c = ?
+returns c = λ l w. kept-all (c .before .loop .inv .1 l w) (omega (arith, c .before .before .count .ensures, c .loop-test .left))
 
 pub keep-all-spec : {M : Type 1} → statement M
 keep-all-spec =

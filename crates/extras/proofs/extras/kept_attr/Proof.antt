@@ -1,49 +1,63 @@
+-- `kept_attr`, by the entry and by whether it is kept.
+use mathlib.Core.Path.{sym, _∙_}
+use mathlib.Core.Bool.{true, false}
+use native.Mathlib.Omega.{arith}
+use Rattle.scan.specs.Part.{stringAt}
+use Rattle.extras.proofs.Keeping.{entry-none, entry-kept}
 use borrow.Author.Needs.{needs}
 use Rattle.extras.proofs.extras.kept_attr.Statement.{statement}
 use Rattle.extras.proofs.extras.kept_attr.Tie as tie
-use Rattle.extras.proofs.extras.kept_attr.Reads as reads
-use Rattle.extras.proofs.extras.kept_attr.Lts as lts
-use Rattle.extras.proofs.extras.is_kept.Reads as is-kept-reads
 
--- src/extras.rt:106:9
 returns : tie.Need-returns
-returns c = search needs
+returns c =
+    let c3 = c .before .before .before in
+    (tt, entry-none (c3 .args .attrs .now) (c3 .args .strings .now) (c3 .args .list) (c3 .args .i) (c3 .args .entry) (c .if1 .taken))
 
--- src/extras.rt:108:39
 sub-cells : tie.Need-sub-cells
 sub-cells c = search needs
 
--- src/extras.rt:108:9
 cells-requires : tie.Need-cells-requires
-cells-requires c κs = ?
+cells-requires c κs = c .before .before .before .pre .1 (c .if1 .left) .0
 
--- src/extras.rt:110:15
 add-end : tie.Need-add-end
-add-end c = ?
+add-end c =
+    let c5 = c .before .before .before .before .before in
+    omega (arith, c5 .pre .1 (c .before .before .if1 .left) .1, c .before .cells .ensures .1, c .before .cells .ensures .2)
 
--- src/extras.rt:111:25
 sub-is-kept : tie.Need-sub-is-kept
 sub-is-kept c = search needs
 
--- src/extras.rt:111:25
 part-is-kept-start : tie.Need-part-is-kept-start
 part-is-kept-start c = search needs
 
--- src/extras.rt:111:25
 part-is-kept-end : tie.Need-part-is-kept-end
-part-is-kept-end c = ?
+part-is-kept-end c =
+    let c5 = c .before .before .before .before .before in
+    omega (arith, c5 .pre .1 (c .before .before .if1 .left) .1, c .before .cells .ensures .1, c .before .cells .ensures .2)
 
--- src/extras.rt:111:8
 is-kept-requires : tie.Need-is-kept-requires
 is-kept-requires c κs = search needs
 
--- src/extras.rt:112:9
 returns-2 : tie.Need-returns-2
-returns-2 c = ?
+unfolding stringAt
+returns-2 c =
+    let c4 = c .before .before .before .before in
+    let c5 = c4 .before in
+    let c8 = c5 .before .before .before in
+    (
+      omega (arith, c8 .pre .1 (c5 .if1 .left) .1, c4 .cells .ensures .1, c4 .cells .ensures .2),
+      entry-kept (c8 .args .attrs .now) (c8 .args .strings .now) (c8 .args .list) (c8 .args .i) (c8 .args .entry) (c5 .if1 .left) _
+    (c4 .cells .ensures) true (sym (c .before .is-kept .ensures) ∙ c .if2 .taken),
+    )
 
--- src/extras.rt:100:1
 returns-3 : tie.Need-returns-3
-returns-3 c = ?
+unfolding stringAt
+returns-3 c =
+    let c4 = c .before .before .before .before in
+    let c5 = c4 .before in
+    let c8 = c5 .before .before .before in
+    (tt, entry-kept (c8 .args .attrs .now) (c8 .args .strings .now) (c8 .args .list) (c8 .args .i) (c8 .args .entry) (c5 .if1 .left) _
+    (c4 .cells .ensures) false (sym (c .before .is-kept .ensures) ∙ c .if2 .left))
 
 pub kept-attr-spec : {M : Type 1} → statement M
 kept-attr-spec =

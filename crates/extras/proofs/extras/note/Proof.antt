@@ -1,45 +1,36 @@
+-- `note` writes an entry where there is none.
+use borrow.Author.Tests.{eq-eqb, ne-eqb}
 use borrow.Author.Needs.{needs}
 use Rattle.extras.proofs.extras.note.Statement.{statement}
 use Rattle.extras.proofs.extras.note.Tie as tie
-use Rattle.extras.proofs.extras.note.Reads as reads
-use Rattle.extras.proofs.extras.note.Lts as lts
 
--- src/extras.rt:67:20
 enum-known-number : tie.Need-enum-known-number
 enum-known-number c = search needs
 
--- src/extras.rt:68:16
 mul-if1 : tie.Need-mul-if1
-mul-if1 c = ?
+mul-if1 c = let h = rw (c .before .number .given .1) at (c .before .before .before .pre) in search (needs, h)
 
--- src/extras.rt:68:16
 slice-read-if1 : tie.Need-slice-read-if1
-slice-read-if1 c = ?
+slice-read-if1 c = let h = rw (c .before .before .number .given .1) at (c .before .before .before .before .pre) in search (needs, h)
 
--- src/extras.rt:69:17
 mul-rows : tie.Need-mul-rows
-mul-rows c = ?
+mul-rows c = let h = rw (c .before .before .before .number .given .1) at (c .before .before .before .before .before .pre) in search (needs, h)
 
--- src/extras.rt:69:17
 slice-write-rows : tie.Need-slice-write-rows
-slice-write-rows c = ?
+slice-write-rows c = let h = rw (c .before .before .before .number .given .1) at (c .before .before .before .before .before .pre) in search (needs, h)
 
 enum-told : tie.Need-enum-told
 enum-told c = search needs
 
--- src/extras.rt:62:1
 same-length : tie.Need-same-length
 same-length c = search needs
 
--- src/extras.rt:62:1
 returns : tie.Need-returns
-returns c = ?
+returns c = rw (c .before .before .before .number .given .1, eq-eqb _ _ (c .if1 .taken))
 
--- src/extras.rt:62:1
 returns-2 : tie.Need-returns-2
-returns-2 c = ?
+returns-2 c = rw (c .before .before .before .number .given .1, ne-eqb _ _ (c .if1 .left))
 
--- src/extras.rt:62:1
 returns-3 : tie.Need-returns-3
 returns-3 c = search needs
 

@@ -29,13 +29,22 @@ same-length : tie.Need-same-length
 same-length c = search needs
 
 returns-2 : tie.Need-returns-2
-returns-2 c = color-is _ _ _ _ _ (sym (c .before .before .before .before .before .before .before .parse-ttml-color-rgba .ensures .is) ∙ c .before .before .before .before .before .c .given .1) (le-leb _ _ (c .before .before .before .before .before .before .before .before .if1 .left)) (c .before .before .put-rgba .ensures)
+returns-2 c =
+    let c5 = c .before .before .before .before .before in
+    let c7 = c5 .before .before in
+    let c8 = c7 .before in
+    color-is _ _ _ _ _ (sym (c7 .parse-ttml-color-rgba .ensures .is) ∙ c5 .c .given .1) (le-leb _ _ (c8 .if1 .left))
+    (c .before .before .put-rgba .ensures)
 
 returns-3 : tie.Need-returns-3
-returns-3 c = color-none _ _ _ (sym (c .before .before .parse-ttml-color-rgba .ensures .is) ∙ c .enum-told .given .1) (le-leb _ _ (c .before .before .before .if1 .left))
+returns-3 c =
+    let c3 = c .before .before .before in
+    color-none _ _ _ (sym (c .before .before .parse-ttml-color-rgba .ensures .is) ∙ c .enum-told .given .1) (le-leb _ _ (c3 .if1 .left))
 
 returns-4 : tie.Need-returns-4
-returns-4 c = color-cut _ _ _ (sym (c .before .before .parse-ttml-color-rgba .ensures .is) ∙ c .enum-told2 .given .1) (le-leb _ _ (c .before .before .before .if1 .left))
+returns-4 c =
+    let c3 = c .before .before .before in
+    color-cut _ _ _ (sym (c .before .before .parse-ttml-color-rgba .ensures .is) ∙ c .enum-told2 .given .1) (le-leb _ _ (c3 .if1 .left))
 
 pub probe-color-spec : {M : Type 1} → statement M
 probe-color-spec =

@@ -20,13 +20,19 @@ same-length : tie.Need-same-length
 same-length c = search needs
 
 returns : tie.Need-returns
-returns c = rw (c .before .before .before .before .before .if1 .taken, c .place-of .ensures) (filled _ _ (c .before .before .before .append-rgba .last .0) (c .before .before .before .append-rgba .result) (c .before .before .before .append-rgba .ensures))
+returns c =
+    let c3 = c .before .before .before in
+    let c5 = c3 .before .before in
+    rw (c5 .if1 .taken, c .place-of .ensures) (filled _ _ (c3 .append-rgba .last .0) (c3 .append-rgba .result) (c3 .append-rgba .ensures))
 
 same-length-2 : tie.Need-same-length-2
 same-length-2 c = search needs
 
 returns-2 : tie.Need-returns-2
-returns-2 c = rw (c .before .before .before .before .before .if1 .left, c .place-of2 .ensures) (filled _ _ (c .before .before .before .append-rgb .last .0) (c .before .before .before .append-rgb .result) (c .before .before .before .append-rgb .ensures))
+returns-2 c =
+    let c3 = c .before .before .before in
+    let c5 = c3 .before .before in
+    rw (c5 .if1 .left, c .place-of2 .ensures) (filled _ _ (c3 .append-rgb .last .0) (c3 .append-rgb .result) (c3 .append-rgb .ensures))
 
 pub probe-color-text-spec : {M : Type 1} → statement M
 probe-color-text-spec =

@@ -35,13 +35,30 @@ same-length : tie.Need-same-length
 same-length c = search needs
 
 returns-4 : tie.Need-returns-4
-returns-4 c = decimal-is _ _ _ _ _ (sym (c .before .before .before .before .before .before .before .read-decimal .ensures .is) ∙ c .before .before .before .before .before .d .given .1) (will-read _ _ _ (c .before .before .before .before .before .before .before .before .before .before .if1 .left) (c .before .before .before .before .before .before .before .before .before .if2 .left) (c .before .before .before .before .before .before .before .before .if3 .left)) (c .before .before .put-digits .ensures)
+returns-4 c =
+    let c5 = c .before .before .before .before .before in
+    let c7 = c5 .before .before in
+    let c8 = c7 .before in
+    let c9 = c8 .before in
+    let c10 = c9 .before in
+    decimal-is _ _ _ _ _ (sym (c7 .read-decimal .ensures .is) ∙ c5 .d .given .1) (will-read _ _ _ (c10 .if1 .left) (c9 .if2 .left) (c8 .if3 .left))
+    (c .before .before .put-digits .ensures)
 
 returns-5 : tie.Need-returns-5
-returns-5 c = decimal-none _ _ _ (sym (c .before .before .read-decimal .ensures .is) ∙ c .enum-told .given .1) (will-read _ _ _ (c .before .before .before .before .before .if1 .left) (c .before .before .before .before .if2 .left) (c .before .before .before .if3 .left))
+returns-5 c =
+    let c3 = c .before .before .before in
+    let c4 = c3 .before in
+    let c5 = c4 .before in
+    decimal-none _ _ _ (sym (c .before .before .read-decimal .ensures .is) ∙ c .enum-told .given .1)
+    (will-read _ _ _ (c5 .if1 .left) (c4 .if2 .left) (c3 .if3 .left))
 
 returns-6 : tie.Need-returns-6
-returns-6 c = decimal-beyond _ _ _ (sym (c .before .before .read-decimal .ensures .is) ∙ c .enum-told2 .given .1) (will-read _ _ _ (c .before .before .before .before .before .if1 .left) (c .before .before .before .before .if2 .left) (c .before .before .before .if3 .left))
+returns-6 c =
+    let c3 = c .before .before .before in
+    let c4 = c3 .before in
+    let c5 = c4 .before in
+    decimal-beyond _ _ _ (sym (c .before .before .read-decimal .ensures .is) ∙ c .enum-told2 .given .1)
+    (will-read _ _ _ (c5 .if1 .left) (c4 .if2 .left) (c3 .if3 .left))
 
 pub probe-decimal-spec : {M : Type 1} → statement M
 probe-decimal-spec =

@@ -17,7 +17,10 @@ enum-known-d : tie.Need-enum-known-d
 enum-known-d c = search needs
 
 put-size-requires : tie.Need-put-size-requires
-put-size-requires c κs = let w = decimal-limits 6 10 _ (sym (c .before .before .before .before .before .read-decimal .ensures .is) ∙ c .before .before .before .d .given .1) in (omega arith, w .small, w .near)
+put-size-requires c κs =
+    let c3 = c .before .before .before in
+    let c5 = c3 .before .before in
+    let w = decimal-limits 6 10 _ (sym (c5 .read-decimal .ensures .is) ∙ c3 .d .given .1) in (omega arith, w .small, w .near)
 
 enum-told : tie.Need-enum-told
 enum-told c = search needs
@@ -32,7 +35,11 @@ same-length-2 : tie.Need-same-length-2
 same-length-2 c = search needs
 
 returns-2 : tie.Need-returns-2
-returns-2 c = sized-is _ _ _ _ _ _ _ (sym (c .before .before .before .before .before .before .before .before .before .before .read-decimal .ensures .is) ∙ c .before .before .before .before .before .before .before .before .d .given .1) (omega arith) (c .before .before .before .before .put-size .ensures)
+returns-2 c =
+    let c4 = c .before .before .before .before in
+    let c8 = c4 .before .before .before .before in
+    let c10 = c8 .before .before in
+    sized-is _ _ _ _ _ _ _ (sym (c10 .read-decimal .ensures .is) ∙ c8 .d .given .1) (omega arith) (c4 .put-size .ensures)
 
 returns-3 : tie.Need-returns-3
 returns-3 c = sized-none _ _ _ (sym (c .before .before .read-decimal .ensures .is) ∙ c .enum-told .given .1) (omega arith)

@@ -39,10 +39,22 @@ enum-told-3 : tie.Need-enum-told-3
 enum-told-3 c = search needs
 
 returns : tie.Need-returns
-returns c = width-at _ _ _ _ (c .before .before .before .before .spell .last .0) (c .before .before .before .before .spell .result) _ (sym (c .before .before .before .before .before .before .before .before .before .before .read-decimal .ensures .is) ∙ c .before .before .before .before .before .before .before .before .d .given .1) (c .before .before .before .before .before .size-of .ensures) (c .before .n .given .1) refl (c .before .before .before .before .spell .ensures)
+returns c =
+    let c4 = c .before .before .before .before in
+    let c5 = c4 .before in
+    let c8 = c5 .before .before .before in
+    let c10 = c8 .before .before in
+    width-at _ _ _ _ (c4 .spell .last .0) (c4 .spell .result) _ (sym (c10 .read-decimal .ensures .is) ∙ c8 .d .given .1) (c5 .size-of .ensures)
+    (c .before .n .given .1) refl (c4 .spell .ensures)
 
 returns-2 : tie.Need-returns-2
-returns-2 c = width-full _ _ _ _ (c .before .before .before .spell .last .0) (c .before .before .before .spell .result) (sym (c .before .before .before .before .before .before .before .before .before .read-decimal .ensures .is) ∙ c .before .before .before .before .before .before .before .d .given .1) (c .before .before .before .before .size-of .ensures) (c .enum-told .given .1) refl (c .before .before .before .spell .ensures)
+returns-2 c =
+    let c3 = c .before .before .before in
+    let c4 = c3 .before in
+    let c7 = c4 .before .before .before in
+    let c9 = c7 .before .before in
+    width-full _ _ _ _ (c3 .spell .last .0) (c3 .spell .result) (sym (c9 .read-decimal .ensures .is) ∙ c7 .d .given .1) (c4 .size-of .ensures)
+    (c .enum-told .given .1) refl (c3 .spell .ensures)
 
 returns-3 : tie.Need-returns-3
 returns-3 c = rw (sym (c .before .before .read-decimal .ensures .is) ∙ c .enum-told2 .given .1)

@@ -27,13 +27,19 @@ same-length-2 : tie.Need-same-length-2
 same-length-2 c = search needs
 
 returns : tie.Need-returns
-returns c = put-at _ _ _ _ _ (c .before .before .before .before .spell .result) _ (c .before .before .before .before .before .before .size-of .ensures) (c .enum-told .given .1) (c .before .before .before .before .spell .ensures)
+returns c =
+    let c4 = c .before .before .before .before in
+    let c6 = c4 .before .before in
+    put-at _ _ _ _ _ (c4 .spell .result) _ (c6 .size-of .ensures) (c .enum-told .given .1) (c4 .spell .ensures)
 
 same-length-3 : tie.Need-same-length-3
 same-length-3 c = search needs
 
 returns-2 : tie.Need-returns-2
-returns-2 c = put-full _ _ _ _ _ (c .before .before .before .before .spell .result) (c .before .before .before .before .before .before .size-of .ensures) (c .enum-told2 .given .1) (c .before .before .before .before .spell .ensures)
+returns-2 c =
+    let c4 = c .before .before .before .before in
+    let c6 = c4 .before .before in
+    put-full _ _ _ _ _ (c4 .spell .result) (c6 .size-of .ensures) (c .enum-told2 .given .1) (c4 .spell .ensures)
 
 pub put-size-spec : {M : Type 1} → statement M
 put-size-spec =

@@ -36,19 +36,31 @@ same-length : tie.Need-same-length
 same-length c = search needs
 
 returns-2 : tie.Need-returns-2
-returns-2 c = time-is _ _ _ _ _ (sym (c .before .before .before .parse-ttml-time .ensures .is) ∙ c .before .us .given .1) (a-cell _ (c .before .before .before .before .if1 .left)) (toZ-ofZ w64 _ (record { sfits = c .known-told .given .0 .1 }))
+returns-2 c =
+    let c3 = c .before .before .before in
+    let c4 = c3 .before in
+    time-is _ _ _ _ _ (sym (c3 .parse-ttml-time .ensures .is) ∙ c .before .us .given .1) (a-cell _ (c4 .if1 .left))
+    (toZ-ofZ w64 _ (record { sfits = c .known-told .given .0 .1 }))
 
 returns-3 : tie.Need-returns-3
-returns-3 c = time-none _ _ _ (sym (c .before .before .parse-ttml-time .ensures .is) ∙ c .enum-told .given .1) (a-cell _ (c .before .before .before .if1 .left))
+returns-3 c =
+    let c3 = c .before .before .before in
+    time-none _ _ _ (sym (c .before .before .parse-ttml-time .ensures .is) ∙ c .enum-told .given .1) (a-cell _ (c3 .if1 .left))
 
 returns-4 : tie.Need-returns-4
-returns-4 c = time-digits _ _ _ (sym (c .before .before .parse-ttml-time .ensures .is) ∙ c .enum-told2 .given .1) (a-cell _ (c .before .before .before .if1 .left))
+returns-4 c =
+    let c3 = c .before .before .before in
+    time-digits _ _ _ (sym (c .before .before .parse-ttml-time .ensures .is) ∙ c .enum-told2 .given .1) (a-cell _ (c3 .if1 .left))
 
 returns-5 : tie.Need-returns-5
-returns-5 c = time-cut _ _ _ (sym (c .before .before .parse-ttml-time .ensures .is) ∙ c .enum-told3 .given .1) (a-cell _ (c .before .before .before .if1 .left))
+returns-5 c =
+    let c3 = c .before .before .before in
+    time-cut _ _ _ (sym (c .before .before .parse-ttml-time .ensures .is) ∙ c .enum-told3 .given .1) (a-cell _ (c3 .if1 .left))
 
 returns-6 : tie.Need-returns-6
-returns-6 c = time-overflow _ _ _ (sym (c .before .before .parse-ttml-time .ensures .is) ∙ c .enum-told4 .given .1) (a-cell _ (c .before .before .before .if1 .left))
+returns-6 c =
+    let c3 = c .before .before .before in
+    time-overflow _ _ _ (sym (c .before .before .parse-ttml-time .ensures .is) ∙ c .enum-told4 .given .1) (a-cell _ (c3 .if1 .left))
 
 pub probe-time-spec : {M : Type 1} → statement M
 probe-time-spec =

@@ -42,7 +42,12 @@ returns c =
 
 returns-2 : tie.Need-returns-2
 returns-2 c =
-    record { count = refl; tidy = λ d. d; is = λ e x t. own-none _ _ e _ _ _ (sym (c .before .before .find-style .ensures) ∙ c .enum-told .given .1) _ }
+    record {
+      count = refl;
+      tidy = λ d. d;
+      is = λ e x t. own-none _ _ e _ _ _ (sym (c .before .before .find-style .ensures)
+          ∙ c .enum-told .given .1) _;
+    }
 
 pub own-style-spec : {M : Type 1} → statement M
 own-style-spec =

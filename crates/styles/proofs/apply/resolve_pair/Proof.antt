@@ -1,77 +1,82 @@
+-- `resolve_pair` meets its contract. Assumes nothing.
 use mathlib.Core.Path.{refl}
 use Rattle.styles.proofs.Answering.{held-none, pairs-over-first, pairs-over, pairs}
 use borrow.Author.Needs.{needs}
 use Rattle.styles.proofs.apply.resolve_pair.Statement.{statement}
 use Rattle.styles.proofs.apply.resolve_pair.Tie as tie
-use Rattle.styles.proofs.apply.resolve_pair.Reads as reads
-use Rattle.styles.proofs.apply.resolve_pair.Lts as lts
-use Rattle.styles.proofs.apply.apply_refs.Reads as apply-refs-reads
-use Rattle.styles.proofs.ids.clear_links.Reads as clear-links-reads
-use Rattle.styles.proofs.values.blank.Reads as blank-reads
 
--- src/apply.rt:220:9
 blank-requires : tie.Need-blank-requires
 blank-requires c κs = search needs
 
--- src/apply.rt:237:9
 slice-aggregate-apply-refs : tie.Need-slice-aggregate-apply-refs
 slice-aggregate-apply-refs c = search needs
 
--- src/apply.rt:226:11
 apply-refs-requires : tie.Need-apply-refs-requires
-apply-refs-requires c κs = (c .before .before .before .before .before .before .before .before .before .pre .0, c .before .before .before .before .before .before .before .before .before .pre .1, held-none _ _ _)
+apply-refs-requires c κs =
+    let c9 = c .before .before .before .before .before .before .before .before .before in
+    (c9 .pre .0, c9 .pre .1, held-none _ _ _)
 
--- src/apply.rt:240:26
 enum-told : tie.Need-enum-told
 enum-told c = search needs
 
--- src/apply.rt:241:23
 enum-known-a : tie.Need-enum-known-a
 enum-known-a c = search needs
 
--- src/apply.rt:252:13
 slice-aggregate-apply-refs-2 : tie.Need-slice-aggregate-apply-refs-2
 slice-aggregate-apply-refs-2 c = search needs
 
--- src/apply.rt:241:35
 apply-refs-requires-2 : tie.Need-apply-refs-requires-2
-apply-refs-requires-2 c κs = (c .before .before .before .before .before .before .before .before .before .before .before .before .before .before .before .before .before .before .pre .0, c .before .before .before .before .before .before .before .before .before .before .before .before .before .before .before .before .before .before .pre .2, (rw (c .before .before .before .a .given .1) at (c .before .before .before .before .before .before .before .before .apply-refs .ensures)) .grown .held)
+apply-refs-requires-2 c κs =
+    let c3 = c .before .before .before in
+    let c8 = c3 .before .before .before .before .before in
+    let c18 = c8 .before .before .before .before .before .before .before .before .before .before in
+    (c18 .pre .0, c18 .pre .2, (rw (c3 .a .given .1) at (c8 .apply-refs .ensures)) .grown .held)
 
--- src/apply.rt:255:30
 enum-told-2 : tie.Need-enum-told-2
 enum-told-2 c = search needs
 
--- src/apply.rt:256:27
 enum-known-b : tie.Need-enum-known-b
 enum-known-b c = search needs
 
--- src/apply.rt:257:17
 clear-links-requires : tie.Need-clear-links-requires
-clear-links-requires c κs = (rw (c .before .before .b .given .1) at (c .before .before .before .before .before .before .before .apply-refs2 .ensures)) .grown .held .rows
+clear-links-requires c κs =
+    let c7 = c .before .before .before .before .before .before .before in
+    (rw (c .before .before .b .given .1) at (c7 .apply-refs2 .ensures)) .grown .held .rows
 
--- src/apply.rt:202:1
 same-length : tie.Need-same-length
 same-length c = search needs
 
--- src/apply.rt:202:1
 returns : tie.Need-returns
-returns c = pairs-over-first _ _ _ _ _ _ _ _ _ refl refl (c .before .before .before .before .before .before .before .before .blank .ensures) _ _ (rw (c .enum-told .given .1) at (c .before .before .before .before .before .apply-refs .ensures))
+returns c =
+    let c5 = c .before .before .before .before .before in
+    let c8 = c5 .before .before .before in
+    pairs-over-first _ _ _ _ _ _ _ _ _ refl refl (c8 .blank .ensures) _ _ (rw (c .enum-told .given .1) at (c5 .apply-refs .ensures))
 
--- src/apply.rt:202:1
 same-length-2 : tie.Need-same-length-2
 same-length-2 c = search needs
 
--- src/apply.rt:202:1
 returns-2 : tie.Need-returns-2
-returns-2 c = pairs-over _ _ _ _ _ _ _ _ _ refl refl (c .before .before .before .before .before .before .before .before .before .before .before .before .before .before .before .before .before .blank .ensures) _ _ _ (rw (c .before .before .before .before .before .before .before .before .before .a .given .1) at (c .before .before .before .before .before .before .before .before .before .before .before .before .before .before .apply-refs .ensures)) _ _ (rw (c .enum-told2 .given .1) at (c .before .before .before .before .before .apply-refs2 .ensures))
+returns-2 c =
+    let c5 = c .before .before .before .before .before in
+    let c9 = c5 .before .before .before .before in
+    let c14 = c9 .before .before .before .before .before in
+    let c17 = c14 .before .before .before in
+    pairs-over _ _ _ _ _ _ _ _ _ refl refl (c17 .blank .ensures) _ _ _ (rw (c9 .a .given .1) at (c14 .apply-refs .ensures)) _ _ (rw
+    (c .enum-told2 .given .1) at (c5 .apply-refs2 .ensures))
 
--- src/apply.rt:202:1
 same-length-3 : tie.Need-same-length-3
 same-length-3 c = search needs
 
--- src/apply.rt:202:1
 returns-3 : tie.Need-returns-3
-returns-3 c = pairs _ _ _ _ _ _ _ _ _ refl refl (c .before .before .before .before .before .before .before .before .before .before .before .before .before .before .before .before .before .before .before .before .before .before .before .blank .ensures) _ _ _ (rw (c .before .before .before .before .before .before .before .before .before .before .before .before .before .before .before .a .given .1) at (c .before .before .before .before .before .before .before .before .before .before .before .before .before .before .before .before .before .before .before .before .apply-refs .ensures)) _ _ _ (rw (c .before .before .before .before .before .before .b .given .1) at (c .before .before .before .before .before .before .before .before .before .before .before .apply-refs2 .ensures)) _ (c .before .before .before .clear-links .ensures) _ refl refl refl
+returns-3 c =
+    let c3 = c .before .before .before in
+    let c6 = c3 .before .before .before in
+    let c11 = c6 .before .before .before .before .before in
+    let c15 = c11 .before .before .before .before in
+    let c20 = c15 .before .before .before .before .before in
+    let c23 = c20 .before .before .before in
+    pairs _ _ _ _ _ _ _ _ _ refl refl (c23 .blank .ensures) _ _ _ (rw (c15 .a .given .1) at (c20 .apply-refs .ensures)) _ _ _ (rw
+    (c6 .b .given .1) at (c11 .apply-refs2 .ensures)) _ (c3 .clear-links .ensures) _ refl refl refl
 
 pub resolve-pair-spec : {M : Type 1} → statement M
 resolve-pair-spec =

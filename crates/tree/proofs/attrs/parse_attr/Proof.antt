@@ -37,7 +37,7 @@ returns c =
     let c11 = c8 .before .before .before in
     let a = c11 .args in
     rw (attr-value (a .src .now) (a .pos) (c8 .over .result) (c7 .over2 .result) (c8 .over .ensures) (c7 .over2 .ensures)
-        (sym (c5 .starts-with .ensures .is) ∙ c4 .if1 .taken)) (c .before .before .parse-value .ensures)
+    (sym (c5 .starts-with .ensures .is) ∙ c4 .if1 .taken)) (c .before .before .parse-value .ensures)
 
 sub-put-attr : tie.Need-sub-put-attr
 sub-put-attr c = search needs

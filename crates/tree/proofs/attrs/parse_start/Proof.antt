@@ -32,7 +32,7 @@ returns-2 c =
     let a = c8 .args in
     rw (start-tag (a .src .now) (a .pos) (a .e) (a .count) (c4 .over .result) (c5 .if1 .left) (c4 .over .ensures))
     (lower-tag _ (a .src .now) (a .attrs .now) _ (a .e) (c4 .over .result) (a .count) (c .before .before .parse-tag .result)
-        (c4 .over .ensures .after) (c .before .before .parse-tag .ensures))
+    (c4 .over .ensures .after) (c .before .before .parse-tag .ensures))
 
 pub parse-start-spec : {M : Type 1} → statement M
 parse-start-spec =

@@ -33,7 +33,7 @@ returns c =
     let c3 = c .before .before .before in
     let c6 = c3 .before .before .before in
     tag-done (c3 .loop .inv) (c3 .loop .at + 1) (tag-open (c6 .args .src .now) (c3 .loop .at) _ (c .before .before .loop-test .taken)
-        (c .if1 .taken)) (omega arith) (omega arith)
+    (c .if1 .taken)) (omega arith) (omega arith)
 
 parse-shut-requires : tie.Need-parse-shut-requires Inv-loop μ-loop
 parse-shut-requires c κs = search needs
@@ -56,16 +56,21 @@ returns-3 c =
     let c5 = c4 .before in
     let c8 = c5 .before .before .before in
     c5 .loop .inv .is ∙ tag-full (c8 .args .src .now) (c5 .loop .at) _ (c4 .loop-test .taken) (c .before .before .if1 .left) (c .before .if2 .left)
-        (c .if3 .taken)
+    (c .if3 .taken)
 
 parse-attr-requires : tie.Need-parse-attr-requires Inv-loop μ-loop
 parse-attr-requires c κs =
     let c3 = c .before .before .before in
     let c5 = c3 .before .before in
     let c6 = c5 .before in
-    let c9 = c6 .before .before .before in
-    (c9 .pre .0, omega arith, c5 .loop-test .taken, name-yes _ (c6 .loop .inv .solid (c5 .loop-test .taken)) (c .before .before .if2 .left)
-        (c3 .if1 .left), c .before .if3 .left)
+    let c9 = c6 .before .before .before in (
+      c9 .pre .0,
+      omega arith,
+      c5 .loop-test .taken,
+      name-yes _ (c6 .loop .inv .solid (c5 .loop-test .taken)) (c .before .before .if2 .left)
+          (c3 .if1 .left),
+      c .before .if3 .left,
+    )
 
 enum-known-q : tie.Need-enum-known-q Inv-loop μ-loop
 enum-known-q c = search needs
@@ -87,7 +92,7 @@ loop-again c =
     let c11 = c9 .before .before in
     let c12 = c11 .before in
     tag-step (c12 .loop .inv) (c11 .loop-test .taken) (c9 .if1 .left) (c8 .if2 .left) (c7 .if3 .left)
-        (rw (c .before .q .given .1) at (c5 .parse-attr .ensures))
+    (rw (c .before .q .given .1) at (c5 .parse-attr .ensures))
 
 enum-known-r : tie.Need-enum-known-r Inv-loop μ-loop
 enum-known-r c = search needs
@@ -105,7 +110,7 @@ returns-4 c =
     let c12 = c11 .before in
     let c15 = c12 .before .before .before in
     c12 .loop .inv .is ∙ tag-flaw (c15 .args .src .now) (c12 .loop .at) _ (c11 .loop-test .taken) (c9 .if1 .left) (c8 .if2 .left) _ _
-        (c7 .if3 .left) (rw (c .before .r .given .1) at (c5 .parse-attr .ensures))
+    (c7 .if3 .left) (rw (c .before .r .given .1) at (c5 .parse-attr .ensures))
 
 same-length-5 : tie.Need-same-length-5 Inv-loop μ-loop
 same-length-5 c = search needs

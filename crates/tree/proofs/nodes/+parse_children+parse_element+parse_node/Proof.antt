@@ -81,14 +81,30 @@ abbrev kids : ℕ → parse-children-lts.Claims
 kids t = (starts-with-reads.Asked, starts-with-reads.Learnt, parse-close-reads.Asked, parse-close-reads.Learnt, parse-node-below t, parse-node.Post)
 
 abbrev elems : ℕ → parse-element-lts.Claims
-elems t =
-    (over-reads.Asked, over-reads.Learnt, parse-start-reads.Asked, parse-start-reads.Learnt, put-node-reads.Asked, put-node-reads.Learnt,
-    parse-children-below t, parse-children.Post)
+elems t = (
+  over-reads.Asked,
+  over-reads.Learnt,
+  parse-start-reads.Asked,
+  parse-start-reads.Learnt,
+  put-node-reads.Asked,
+  put-node-reads.Learnt,
+  parse-children-below t,
+  parse-children.Post,
+)
 
 abbrev nods : ℕ → parse-node-lts.Claims
-nods t =
-    (skip-comments-reads.Asked, skip-comments-reads.Learnt, parse-text-reads.Asked, parse-text-reads.Learnt, starts-with-reads.Asked,
-    starts-with-reads.Learnt, parse-section-reads.Asked, parse-section-reads.Learnt, parse-element-below t, parse-element.Post)
+nods t = (
+  skip-comments-reads.Asked,
+  skip-comments-reads.Learnt,
+  parse-text-reads.Asked,
+  parse-text-reads.Learnt,
+  starts-with-reads.Asked,
+  starts-with-reads.Learnt,
+  parse-section-reads.Asked,
+  parse-section-reads.Learnt,
+  parse-element-below t,
+  parse-element.Post,
+)
 
 abbrev parse-children-Inv-loop : parse-children-lts.InvT-loop
 parse-children-Inv-loop src nodes₀ attrs₀ from k0 a0 room pos₀ k₀ a₀ t14 nodes attrs pos k a =
@@ -137,7 +153,7 @@ parse-children-returns t c =
     let c5 = c4 .before in
     let c9 = c5 .before .before .before .before in
     rw (c .parse-close .ensures) (closed (elementOf (c9 .args .room) (c9 .args .src .now)) (c5 .loop .inv) (c4 .loop-test .taken)
-        (sym (c .before .before .starts-with .ensures .is) ∙ c .before .if1 .taken))
+    (sym (c .before .before .starts-with .ensures .is) ∙ c .before .if1 .taken))
 
 parse-children-parse-node-requires : (t : ℕ) → parse-children-lts.Need-parse-node-requires (kids t) (parse-children-at t) parse-children.Post
     parse-children-Inv-loop parse-children-μ-loop
@@ -165,7 +181,7 @@ parse-children-loop-again t c =
     let c14 = c13 .before in
     let c18 = c14 .before .before .before .before in
     step (c14 .loop .inv) _ (c13 .loop-test .taken) (inner-node (c18 .args .src .now) _ (c14 .loop .pos) _ (sym (c11 .starts-with .ensures .is)
-        ∙ c10 .if1 .left)) _ (rw (c .before .c .given .1) at (c7 .parse-node .ensures))
+    ∙ c10 .if1 .left)) _ (rw (c .before .c .given .1) at (c7 .parse-node .ensures))
 
 parse-children-enum-known-q : (t : ℕ) → parse-children-lts.Need-enum-known-q (kids t) (parse-children-at t) parse-children.Post
     parse-children-Inv-loop parse-children-μ-loop
@@ -189,7 +205,7 @@ parse-children-returns-2 t c =
     let c14 = c13 .before in
     let c18 = c14 .before .before .before .before in
     idle (c14 .loop .inv) _ (c13 .loop-test .taken) (inner-node (c18 .args .src .now) _ (c14 .loop .pos) _ (sym (c11 .starts-with .ensures .is)
-        ∙ c10 .if1 .left)) _ (rw (c .before .q .given .1) at (c7 .parse-node .ensures))
+    ∙ c10 .if1 .left)) _ (rw (c .before .q .given .1) at (c7 .parse-node .ensures))
 
 parse-children-enum-known-r : (t : ℕ) → parse-children-lts.Need-enum-known-r (kids t) (parse-children-at t) parse-children.Post
     parse-children-Inv-loop parse-children-μ-loop
@@ -213,7 +229,7 @@ parse-children-returns-3 t c =
     let c14 = c13 .before in
     let c18 = c14 .before .before .before .before in
     fail-node (c14 .loop .inv) _ (c13 .loop-test .taken) (inner-node (c18 .args .src .now) _ (c14 .loop .pos) _ (sym (c11 .starts-with .ensures .is)
-        ∙ c10 .if1 .left)) _ _ (rw (c .before .r .given .1) at (c7 .parse-node .ensures))
+    ∙ c10 .if1 .left)) _ _ (rw (c .before .r .given .1) at (c7 .parse-node .ensures))
 
 parse-children-same-length-7 : (t : ℕ) → parse-children-lts.Need-same-length-7 (kids t) (parse-children-at t) parse-children.Post
     parse-children-Inv-loop parse-children-μ-loop
@@ -290,8 +306,18 @@ parse-element-parse-children-requires t c κs =
     let c10 = c9 .before in
     let c15 = c10 .before .before .before .before .before in
     let l = rw (c3 .t2 .given .1) at (c7 .parse-start .ensures) in
-    omega (arith, l .most, l .within, l .after, c7 .parse-start .kept, c9 .over .ensures .after, c10 .if2 .left, c15 .pre .0, c15 .pre .1 .0,
-        c15 .pre .1 .1)
+    omega (
+      arith,
+      l .most,
+      l .within,
+      l .after,
+      c7 .parse-start .kept,
+      c9 .over .ensures .after,
+      c10 .if2 .left,
+      c15 .pre .0,
+      c15 .pre .1 .0,
+      c15 .pre .1 .1,
+    )
 
 parse-element-enum-known-r-2 : (t : ℕ) → parse-element-lts.Need-enum-known-r-2 (elems t) (parse-element-at t) parse-element.Post
 parse-element-enum-known-r-2 t c = search needs
@@ -333,7 +359,7 @@ parse-element-returns-3 t c =
     let c13 = c9 .before .before .before .before in
     let a = c13 .args in
     el-tag (a .room) (a .src .now) (a .pos) (a .k) (a .a) (c9 .if1 .left) (c7 .over .result) _ (c8 .if2 .left) (c7 .over .ensures)
-        (rw (c .before .r .given .1) at (c5 .parse-start .ensures)) ∙ tagged-torn _ _ _ _ _ _
+    (rw (c .before .r .given .1) at (c5 .parse-start .ensures)) ∙ tagged-torn _ _ _ _ _ _
 
 parse-element-same-length-2 : (t : ℕ) → parse-element-lts.Need-same-length-2 (elems t) (parse-element-at t) parse-element.Post
 parse-element-same-length-2 t c = search needs
@@ -354,7 +380,7 @@ parse-element-returns-4 t c =
     built-shut _ _ (a .src .now) (a .nodes .now) _ (a .attrs .now) _ (a .pos) _ (a .k) (a .a) (l .list) _
     (el-tag (a .room) (a .src .now) (a .pos) (a .k) (a .a) (c13 .if1 .left) (c11 .over .result) _ (c12 .if2 .left) (c11 .over .ensures) (l .is))
     (omega (arith, l .after, c11 .over .ensures .after)) (l .within) (l .counted) (l .most) (c12 .if2 .left) (c .before .before .put-node .ensures)
-        (l .laid)
+    (l .laid)
 
 parse-element-same-length-4 : (t : ℕ) → parse-element-lts.Need-same-length-4 (elems t) (parse-element-at t) parse-element.Post
 parse-element-same-length-4 t c = search needs
@@ -396,9 +422,9 @@ parse-element-returns-6 t c =
     let l = rw (c15 .t2 .given .1) at (c19 .parse-start .ensures) in
     built-elem _ _ (a .src .now) (a .nodes .now) _ _ (a .attrs .now) _ _ (a .pos) _ (a .k) (a .a) _ _ (l .list) _
     (el-tag (a .room) (a .src .now) (a .pos) (a .k) (a .a) (c23 .if1 .left) (c21 .over .result) _ (c22 .if2 .left) (c21 .over .ensures) (l .is)
-        ∙ tagged-open _ _ _ _ _ _ _)
+    ∙ tagged-open _ _ _ _ _ _ _)
     (rw (c5 .c .given .1) at (c11 .parse-children .ensures)) (omega (arith, l .after, c21 .over .ensures .after)) (l .counted)
-        (c .before .before .put-node2 .ensures) (l .laid)
+    (c .before .before .put-node2 .ensures) (l .laid)
 
 parse-node-skip-comments-requires : (t : ℕ) → parse-node-lts.Need-skip-comments-requires (nods t) (parse-node-at t) parse-node.Post
 parse-node-skip-comments-requires t c κs = search needs
@@ -407,9 +433,15 @@ parse-node-returns : (t : ℕ) → parse-node-lts.Need-returns (nods t) (parse-n
 parse-node-returns t c =
     let c5 = c .before .before .before .before .before in
     let a = c5 .args in
-    record { is = node-end (a .src .now) _ (a .pos) (a .k) (a .a) (c .before .skip-comments .result) (c .before .skip-comments .ensures)
-        (c .if1 .taken); after = c .before .skip-comments .ensures .after; within = c .before .skip-comments .ensures .within; same = refl; alike =
-        refl }
+    record {
+      is = node-end (a .src .now) _ (a .pos) (a .k) (a .a) (c .before .skip-comments .result) (c .before .skip-comments .ensures)
+          (c .if1 .taken);
+      after = c .before .skip-comments .ensures .after;
+      within = c .before .skip-comments .ensures .within;
+      same = refl;
+      alike =
+          refl;
+    }
 
 parse-node-shared-slice-read-if2 : (t : ℕ) → parse-node-lts.Need-shared-slice-read-if2 (nods t) (parse-node-at t) parse-node.Post
 parse-node-shared-slice-read-if2 t c = search needs
@@ -429,10 +461,10 @@ parse-node-returns-2 t c =
     let a = c11 .args in
     let at = c7 .skip-comments .result in
     rw (node-text (a .src .now) (elementOf (a .room) (a .src .now)) (a .pos) (a .k) (a .a) at (c7 .skip-comments .ensures) (c6 .if1 .left)
-        (c4 .if2 .taken))
+    (c4 .if2 .taken))
     (lower (textAt (a .src .now) at (a .k) (a .a)) (a .src .now) (a .nodes .now) (c .before .before .parse-text .last .1 .0) (a .attrs .now)
-        (a .attrs .now) (a .pos) at (a .k) (a .a) (c .before .before .parse-text .result) (c7 .skip-comments .ensures .after)
-        (c .before .before .parse-text .ensures (a .attrs .now)))
+    (a .attrs .now) (a .pos) at (a .k) (a .a) (c .before .before .parse-text .result) (c7 .skip-comments .ensures .after)
+    (c .before .before .parse-text .ensures (a .attrs .now)))
 
 parse-node-slice-aggregate-starts-with : (t : ℕ) → parse-node-lts.Need-slice-aggregate-starts-with (nods t) (parse-node-at t) parse-node.Post
 parse-node-slice-aggregate-starts-with t c = search needs
@@ -459,10 +491,10 @@ parse-node-returns-3 t c =
     let a = c14 .args in
     let at = c10 .skip-comments .result in
     rw (node-section (a .src .now) (elementOf (a .room) (a .src .now)) (a .pos) (a .k) (a .a) at (c10 .skip-comments .ensures) (c9 .if1 .left)
-        (c7 .if2 .left) (sym (c5 .starts-with .ensures .is) ∙ c4 .if3 .taken))
+    (c7 .if2 .left) (sym (c5 .starts-with .ensures .is) ∙ c4 .if3 .taken))
     (lower (sectionAt (a .src .now) at (a .k) (a .a)) (a .src .now) (a .nodes .now) (c .before .before .parse-section .last .1 .0) (a .attrs .now)
-        (a .attrs .now) (a .pos) at (a .k) (a .a) (c .before .before .parse-section .result) (c10 .skip-comments .ensures .after)
-        (c .before .before .parse-section .ensures (a .attrs .now)))
+    (a .attrs .now) (a .pos) at (a .k) (a .a) (c .before .before .parse-section .result) (c10 .skip-comments .ensures .after)
+    (c .before .before .parse-section .ensures (a .attrs .now)))
 
 parse-node-slice-aggregate-starts-with-2 :
     (t : ℕ) → parse-node-lts.Need-slice-aggregate-starts-with-2 (
@@ -491,10 +523,16 @@ parse-node-returns-4 t c =
     let c9 = c8 .before in
     let c13 = c9 .before .before .before .before in
     let a = c13 .args in
-    record { is = node-close (a .src .now) (elementOf (a .room) (a .src .now)) (a .pos) (a .k) (a .a) (c9 .skip-comments .result)
-        (c9 .skip-comments .ensures) (c8 .if1 .left) (c6 .if2 .left) (sym (c4 .starts-with .ensures .is) ∙ c3 .if3 .left)
-        (sym (c .before .starts-with2 .ensures .is) ∙ c .if4 .taken); after = c9 .skip-comments .ensures .after; within =
-        c9 .skip-comments .ensures .within; same = refl; alike = refl }
+    record {
+      is = node-close (a .src .now) (elementOf (a .room) (a .src .now)) (a .pos) (a .k) (a .a) (c9 .skip-comments .result)
+          (c9 .skip-comments .ensures) (c8 .if1 .left) (c6 .if2 .left) (sym (c4 .starts-with .ensures .is) ∙ c3 .if3 .left)
+          (sym (c .before .starts-with2 .ensures .is) ∙ c .if4 .taken);
+      after = c9 .skip-comments .ensures .after;
+      within =
+          c9 .skip-comments .ensures .within;
+      same = refl;
+      alike = refl;
+    }
 
 parse-node-parse-element-requires : (t : ℕ) → parse-node-lts.Need-parse-element-requires (nods t) (parse-node-at t) parse-node.Post
 parse-node-parse-element-requires t c κs =
@@ -523,10 +561,10 @@ parse-node-returns-5 t c =
     let a = c20 .args in
     let at = c16 .skip-comments .result in
     rw (node-element (a .src .now) (elementOf (a .room) (a .src .now)) (a .pos) (a .k) (a .a) at (c16 .skip-comments .ensures) (c15 .if1 .left)
-        (c13 .if2 .left) (sym (c11 .starts-with .ensures .is) ∙ c10 .if3 .left) (sym (c8 .starts-with2 .ensures .is) ∙ c7 .if4 .left))
+    (c13 .if2 .left) (sym (c11 .starts-with .ensures .is) ∙ c10 .if3 .left) (sym (c8 .starts-with2 .ensures .is) ∙ c7 .if4 .left))
     (lower (elementOf (a .room) (a .src .now) at (a .k) (a .a)) (a .src .now) (a .nodes .now) (c4 .parse-element .last .1 .0) (a .attrs .now)
-        (c4 .parse-element .last .1 .1 .0) (a .pos) at (a .k) (a .a) (c4 .parse-element .result) (c16 .skip-comments .ensures .after)
-        (c4 .parse-element .ensures))
+    (c4 .parse-element .last .1 .1 .0) (a .pos) at (a .k) (a .a) (c4 .parse-element .result) (c16 .skip-comments .ensures .after)
+    (c4 .parse-element .ensures))
 
 pub +parse-children+parse-element+parse-node-spec : {M : Type 1} → statement M
 +parse-children+parse-element+parse-node-spec =

@@ -50,10 +50,10 @@ returns-2 c =
     let e = c5 .find-seq in
     let passed : Passed cdataEnd (a .src .now) (a .pos + 9) (c .if2 .q)
     =
-        ⊎-elim (λ w. rw (w .1) (passed-got cdataEnd (a .src .now) (a .pos + 9) (e .result) (e .ensures) (w .0 .taken)))
-        (λ w. rw (w .1) (section-unclosed cdataEnd (a .src .now) (a .pos + 9) (e .result) (e .ensures) (w .0 .left))) (c .if2 .came) in
+    ⊎-elim (λ w. rw (w .1) (passed-got cdataEnd (a .src .now) (a .pos + 9) (e .result) (e .ensures) (w .0 .taken)))
+    (λ w. rw (w .1) (section-unclosed cdataEnd (a .src .now) (a .pos + 9) (e .result) (e .ensures) (w .0 .left))) (c .if2 .came) in
     λ u. built-section (a .src .now) (a .nodes .now) _ u (a .pos) (a .k) (a .a) (e .result) (c7 .if1 .left) (c10 .pre .3) (c .if2 .q) (e .ensures)
-        passed (c3 .put-node .ensures)
+    passed (c3 .put-node .ensures)
 
 pub parse-section-spec : {M : Type 1} → statement M
 parse-section-spec =

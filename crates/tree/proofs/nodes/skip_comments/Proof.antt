@@ -31,8 +31,12 @@ returns c =
     let c3 = c .before .before .before in
     let c4 = c3 .before in
     let c6 = c4 .before .before in
-    record { is = sym (c4 .loop .inv .2 ∙ comment-here (c6 .args .src .now) _ (c3 .loop-test .taken) (sym (c .before .starts-with .ensures .is)
-        ∙ not-true _ (c .if1 .taken))); after = c4 .loop .inv .1; within = c4 .loop .inv .0 }
+    record {
+      is = sym (c4 .loop .inv .2 ∙ comment-here (c6 .args .src .now) _ (c3 .loop-test .taken) (sym (c .before .starts-with .ensures .is)
+          ∙ not-true _ (c .if1 .taken)));
+      after = c4 .loop .inv .1;
+      within = c4 .loop .inv .0;
+    }
 
 slice-aggregate-find-past : tie.Need-slice-aggregate-find-past Inv-loop μ-loop
 slice-aggregate-find-past c = search needs
@@ -50,16 +54,23 @@ loop-again c =
     let c3 = c .before .before .before in
     let c5 = c3 .before .before in
     let c6 = c5 .before in
-    let c8 = c6 .before .before in
-    (c .find-past .ensures .within, omega (arith, c .find-past .ensures .after, c6 .loop .inv .1), c6 .loop .inv .2
-        ∙ comment-on (c8 .args .src .now) _ _ (c5 .loop-test .taken) (sym (c3 .starts-with .ensures .is)
-        ∙ not-false _ (c .before .before .if1 .left)) (c .find-past .ensures))
+    let c8 = c6 .before .before in (
+      c .find-past .ensures .within,
+      omega (arith, c .find-past .ensures .after, c6 .loop .inv .1),
+      c6 .loop .inv .2
+          ∙ comment-on (c8 .args .src .now) _ _ (c5 .loop-test .taken) (sym (c3 .starts-with .ensures .is)
+          ∙ not-false _ (c .before .before .if1 .left)) (c .find-past .ensures),
+    )
 
 returns-2 : tie.Need-returns-2 Inv-loop μ-loop
 returns-2 c =
     let c3 = c .before .before .before in
-    record { is = sym (c .before .loop .inv .2 ∙ comment-out (c3 .args .src .now) _ (c .loop-test .left)); after = c .before .loop .inv .1; within =
-        c .before .loop .inv .0 }
+    record {
+      is = sym (c .before .loop .inv .2 ∙ comment-out (c3 .args .src .now) _ (c .loop-test .left));
+      after = c .before .loop .inv .1;
+      within =
+          c .before .loop .inv .0;
+    }
 
 pub skip-comments-spec : {M : Type 1} → statement M
 skip-comments-spec =

@@ -48,9 +48,11 @@ loop-again c =
     let c4 = c3 .before in
     let c6 = c4 .before .before in
     let c7 = c6 .before in
-    let c10 = c7 .before .before .before in
-    (c .over2 .ensures .within, c7 .loop .inv .1 ∙ pi (c10 .args .src .now) (c7 .loop .i) (c6 .loop-test .taken) (c .before .find-past .result) _
-        (sym (c4 .starts-with .ensures .is) ∙ c3 .if1 .taken) (c .before .find-past .ensures) (c .over2 .ensures))
+    let c10 = c7 .before .before .before in (
+      c .over2 .ensures .within,
+      c7 .loop .inv .1 ∙ pi (c10 .args .src .now) (c7 .loop .i) (c6 .loop-test .taken) (c .before .find-past .result) _
+          (sym (c4 .starts-with .ensures .is) ∙ c3 .if1 .taken) (c .before .find-past .ensures) (c .over2 .ensures),
+    )
 
 slice-aggregate-starts-with-2 : tie.Need-slice-aggregate-starts-with-2 Inv-loop μ-loop
 slice-aggregate-starts-with-2 c = search needs
@@ -80,10 +82,12 @@ loop-again-2 c =
     let c7 = c6 .before in
     let c9 = c7 .before .before in
     let c10 = c9 .before in
-    let c13 = c10 .before .before .before in
-    (c .over3 .ensures .within, c10 .loop .inv .1 ∙ comment (c13 .args .src .now) (c10 .loop .i) (c9 .loop-test .taken)
-        (c .before .find-past2 .result) _ (sym (c7 .starts-with .ensures .is) ∙ c6 .if1 .left) (sym (c4 .starts-with2 .ensures .is)
-        ∙ c3 .if2 .taken) (c .before .find-past2 .ensures) (c .over3 .ensures))
+    let c13 = c10 .before .before .before in (
+      c .over3 .ensures .within,
+      c10 .loop .inv .1 ∙ comment (c13 .args .src .now) (c10 .loop .i) (c9 .loop-test .taken)
+          (c .before .find-past2 .result) _ (sym (c7 .starts-with .ensures .is) ∙ c6 .if1 .left) (sym (c4 .starts-with2 .ensures .is)
+          ∙ c3 .if2 .taken) (c .before .find-past2 .ensures) (c .over3 .ensures),
+    )
 
 slice-aggregate-starts-with-3 : tie.Need-slice-aggregate-starts-with-3 Inv-loop μ-loop
 slice-aggregate-starts-with-3 c = search needs
@@ -115,10 +119,12 @@ loop-again-3 c =
     let c10 = c9 .before in
     let c12 = c10 .before .before in
     let c13 = c12 .before in
-    let c16 = c13 .before .before .before in
-    (c .over4 .ensures .within, c13 .loop .inv .1 ∙ decl (c16 .args .src .now) (c13 .loop .i) (c12 .loop-test .taken)
-        (c .before .find-past3 .result) _ (sym (c10 .starts-with .ensures .is) ∙ c9 .if1 .left) (sym (c7 .starts-with2 .ensures .is)
-        ∙ c6 .if2 .left) (sym (c4 .starts-with3 .ensures .is) ∙ c3 .if3 .taken) (c .before .find-past3 .ensures) (c .over4 .ensures))
+    let c16 = c13 .before .before .before in (
+      c .over4 .ensures .within,
+      c13 .loop .inv .1 ∙ decl (c16 .args .src .now) (c13 .loop .i) (c12 .loop-test .taken)
+          (c .before .find-past3 .result) _ (sym (c10 .starts-with .ensures .is) ∙ c9 .if1 .left) (sym (c7 .starts-with2 .ensures .is)
+          ∙ c6 .if2 .left) (sym (c4 .starts-with3 .ensures .is) ∙ c3 .if3 .taken) (c .before .find-past3 .ensures) (c .over4 .ensures),
+    )
 
 returns : tie.Need-returns Inv-loop μ-loop
 returns c =
@@ -128,9 +134,11 @@ returns c =
     let c7 = c6 .before in
     let c9 = c7 .before .before in
     let c10 = c9 .before in
-    let c13 = c10 .before .before .before in
-    (sym (c10 .loop .inv .1 ∙ stop (c13 .args .src .now) (c10 .loop .i) (c9 .loop-test .taken) (sym (c7 .starts-with .ensures .is) ∙ c6 .if1 .left)
-        (sym (c4 .starts-with2 .ensures .is) ∙ c3 .if2 .left) (sym (c .before .starts-with3 .ensures .is) ∙ c .if3 .left)), omega arith)
+    let c13 = c10 .before .before .before in (
+      sym (c10 .loop .inv .1 ∙ stop (c13 .args .src .now) (c10 .loop .i) (c9 .loop-test .taken) (sym (c7 .starts-with .ensures .is) ∙ c6 .if1 .left)
+          (sym (c4 .starts-with2 .ensures .is) ∙ c3 .if2 .left) (sym (c .before .starts-with3 .ensures .is) ∙ c .if3 .left)),
+      omega arith,
+    )
 
 returns-2 : tie.Need-returns-2 Inv-loop μ-loop
 returns-2 c =

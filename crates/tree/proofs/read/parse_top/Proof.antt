@@ -37,7 +37,7 @@ loop-again c =
     let c11 = c10 .before in
     let c15 = c11 .before .before .before .before in
     step (c11 .loop .inv) _ (c10 .loop-test .taken) (outer-node (c15 .args .src .now) _ (c11 .loop .pos) _) _
-        (rw (c .before .c .given .1) at (c7 .parse-node .ensures))
+    (rw (c .before .c .given .1) at (c7 .parse-node .ensures))
 
 enum-known-q : tie.Need-enum-known-q Inv-loop μ-loop
 enum-known-q c = search needs
@@ -55,7 +55,7 @@ returns c =
     let c11 = c10 .before in
     let c15 = c11 .before .before .before .before in
     idle (c11 .loop .inv) _ (c10 .loop-test .taken) (outer-node (c15 .args .src .now) _ (c11 .loop .pos) _) _
-        (rw (c .before .q .given .1) at (c7 .parse-node .ensures))
+    (rw (c .before .q .given .1) at (c7 .parse-node .ensures))
 
 enum-known-r : tie.Need-enum-known-r Inv-loop μ-loop
 enum-known-r c = search needs
@@ -73,7 +73,7 @@ returns-2 c =
     let c11 = c10 .before in
     let c15 = c11 .before .before .before .before in
     fail-node (c11 .loop .inv) _ (c10 .loop-test .taken) (outer-node (c15 .args .src .now) _ (c11 .loop .pos) _) _ _
-        (rw (c .before .r .given .1) at (c7 .parse-node .ensures))
+    (rw (c .before .r .given .1) at (c7 .parse-node .ensures))
 
 same-length-5 : tie.Need-same-length-5 Inv-loop μ-loop
 same-length-5 c = search needs

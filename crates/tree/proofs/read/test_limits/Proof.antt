@@ -27,14 +27,19 @@ returns-4 c =
     let c4 = c3 .before in
     let c6 = c4 .before .before in
     not-utf8 (c6 .args .src .now) (c6 .args .nodes) (c6 .args .attrs) _ (c4 .if1 .left) (c3 .if2 .left) (c .before .before .if3 .left)
-        (c .before .utf8-end .ensures .is) (c .if4 .taken)
+    (c .before .utf8-end .ensures .is) (c .if4 .taken)
 
 returns-5 : tie.Need-returns-5
 returns-5 c =
     let c3 = c .before .before .before in
     let c4 = c3 .before in
-    record { long = c4 .if1 .left; wide = c3 .if2 .left; short = c .before .before .if3 .left; valid =
-        omega (arith, c .before .utf8-end .ensures .is, c .if4 .left) }
+    record {
+      long = c4 .if1 .left;
+      wide = c3 .if2 .left;
+      short = c .before .before .if3 .left;
+      valid =
+          omega (arith, c .before .utf8-end .ensures .is, c .if4 .left);
+    }
 
 pub test-limits-spec : {M : Type 1} → statement M
 test-limits-spec =

@@ -91,9 +91,11 @@ returns c =
     let n = m .before .before in
     let d = n .before .before .before .before .before in
     let w = r .decode-entities .ensures in
-    let e = value-long (d .args .src .now) (d .args .attrs .now) (d .args .k) _ _ _ (g .get3 .ensures) (h .get4 .ensures) (w .next) in
-    (rw e at (p .put .ensures), attr-wrote _ _ _ _ _ _ _ _ _ _ (n .get .ensures) (m .get2 .ensures) (g .get3 .ensures) (h .get4 .ensures)
-        (y .copy .ensures .laid) (w .laid))
+    let e = value-long (d .args .src .now) (d .args .attrs .now) (d .args .k) _ _ _ (g .get3 .ensures) (h .get4 .ensures) (w .next) in (
+      rw e at (p .put .ensures),
+      attr-wrote _ _ _ _ _ _ _ _ _ _ (n .get .ensures) (m .get2 .ensures) (g .get3 .ensures) (h .get4 .ensures)
+          (y .copy .ensures .laid) (w .laid),
+    )
 
 pub read-attr-spec : {M : Type 1} → statement M
 read-attr-spec =

@@ -4,7 +4,7 @@ use mathlib.Core.Path.{_≡_, refl, ap, _∙_}
 use native.Mathlib.Omega.{arith}
 use lib.ListN.{length}
 use borrow.Author.Needs.{needs}
-use Rattle.xml.specs.Passes.{attrsRead, attrStringsRead}
+use Rattle.xml.specs.Steps.{attrsRead, attrStringsRead}
 use Rattle.xml.proofs.PassLaws.{attrs-room, attr-strings-room, attrs-ready, attrs-next, attr-strings-next}
 use Rattle.xml.proofs.strings.read_attrs.Statement.{statement}
 use Rattle.xml.proofs.strings.read_attrs.Tie as tie

@@ -6,7 +6,7 @@ use native.Mathlib.Omega.{arith}
 use lib.ListN.{length, length-take, length-drop}
 use lib.Seq.{length-sets}
 use Rattle.scan.specs.Posts.{Appended}
-use Rattle.xml.specs.Passes.{nodePlace, nodeBytes}
+use Rattle.xml.specs.Steps.{nodePlace, nodeBytes}
 use Rattle.xml.proofs.PassLaws.{place-element, place-other, wrote-text, wrote-other, node-short}
 use borrow.Author.Needs.{needs}
 use Rattle.xml.proofs.strings.read_node.Statement.{statement}
@@ -42,8 +42,16 @@ get-requires-2 c κs = search needs
 -- where the string begins
 abbrev Joined1 : Type 0
 Joined1 =
-    lts.Joined1 (get-reads.Asked, get-reads.Learnt, decode-entities-reads.Asked, decode-entities-reads.Learnt, copy-reads.Asked, copy-reads.Learnt,
-        put-reads.Asked, put-reads.Learnt)
+    lts.Joined1 (
+      get-reads.Asked,
+      get-reads.Learnt,
+      decode-entities-reads.Asked,
+      decode-entities-reads.Learnt,
+      copy-reads.Asked,
+      copy-reads.Learnt,
+      put-reads.Asked,
+      put-reads.Learnt,
+    )
     reads.Pre reads.Post
 
 start-is : (c : Joined1) → let d =
@@ -92,8 +100,16 @@ copy-requires c κs = let w = start-is (c .before .before .before .before) in si
 -- what is written
 abbrev Joined2 : Type 0
 Joined2 =
-    lts.Joined2 (get-reads.Asked, get-reads.Learnt, decode-entities-reads.Asked, decode-entities-reads.Learnt, copy-reads.Asked, copy-reads.Learnt,
-        put-reads.Asked, put-reads.Learnt)
+    lts.Joined2 (
+      get-reads.Asked,
+      get-reads.Learnt,
+      decode-entities-reads.Asked,
+      decode-entities-reads.Learnt,
+      copy-reads.Asked,
+      copy-reads.Learnt,
+      put-reads.Asked,
+      put-reads.Learnt,
+    )
     reads.Pre reads.Post
 
 laid-is : (c : Joined2)

@@ -4,7 +4,7 @@ use mathlib.Core.Path.{_≡_, refl, ap, _∙_}
 use native.Mathlib.Omega.{arith}
 use lib.ListN.{length}
 use borrow.Author.Needs.{needs}
-use Rattle.xml.specs.Passes.{nodesRead, nodeStringsRead}
+use Rattle.xml.specs.Steps.{nodesRead, nodeStringsRead}
 use Rattle.xml.proofs.PassLaws.{nodes-room, node-strings-room, nodes-ready, nodes-next, node-strings-next}
 use Rattle.xml.proofs.strings.read_nodes.Statement.{statement}
 use Rattle.xml.proofs.strings.read_nodes.Tie as tie

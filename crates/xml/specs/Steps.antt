@@ -1,4 +1,4 @@
--- What the two passes over the rows do, row by row: what the program ensures, not what one must believe (`proofs` shows that it is
+-- Steps of the program, which need not be believed: what the two passes over the rows do, row by row (`proofs` shows that together they are
 -- `Reading`). s is the text, t the table of nodes, u that of attributes, z that of strings.
 use Prim.Native.Nat.{ℕ, zero, suc, _+_, _*_, _≤_}
 use mathlib.Core.Bool.{cond}

@@ -1,0 +1,260 @@
+-- The three queries: what they resolve is what is asked. Assumes nothing.
+--     asked                                       from what `resolve_over` and `finish` leave to the promise
+--     value-asked, referenced                     a value
+--     region-asked, region-refuses                a region
+--     cue-asked, cue-refuses, cue-past            a cue
+use Prim.Native.Nat.{ℕ, zero, suc, _+_, _-_, _*_, _≤_, _<_}
+use mathlib.Core.Path.{_≡_, refl, sym, ap, _∙_}
+use mathlib.Core.Bool.{Bool, true, false, cond}
+use mathlib.Core.Logic.{_⊎_, inl, inr}
+use mathlib.Core.List.{List, [], _∷_, _++_, append-nil}
+use mathlib.Core.Option.{Option, none, some}
+use native.Mathlib.Omega.{arith}
+use native.Mathlib.Nat.{zero-add, sub-zero, add-zero}
+use lib.ListN.{length, getD, replicate, length-replicate}
+use lib.Seq.{take-length}
+use lib.Dec.{eqb}
+use Rattle.scan.specs.Part.{part, stringAt}
+use Rattle.unicode.specs.White.{trimmed, Trimmed}
+use Rattle.unicode.proofs.Utf8Laws.{by-test}
+use Rattle.track.specs.declared.strings.Span.{Span}
+use Rattle.track.specs.declared.values.Look as values
+use Rattle.track.specs.declared.values.Cue as placed
+use Rattle.track.specs.declared.check.Check.{Check}
+use Rattle.track.specs.Track.{Bytes, Look, Style, Region, Cue, Track}
+use Rattle.track.specs.Tables.{Tables, cell, span, optional, rowsFrom, styleCount, regionCount, cueCount, regionAt, cueAt}
+use Rattle.track.specs.Meaning.{bytesAt, given, lookIn, regionIn, cueIn, trackAt, trackIn}
+use Rattle.records.specs.Find.{findRegion}
+use Rattle.styles.specs.declared.apply.Walk.{Walk}
+use Rattle.styles.specs.declared.apply.Applied.{Applied}
+use Rattle.styles.specs.Reaches.{Reaches, Exactly}
+use Rattle.styles.specs.Values.{laidOver, blank, unstyled}
+use Rattle.styles.specs.Resolve.{Resolution, resolve}
+use Rattle.styles.specs.Own.{Read, is, refused, next}
+use Rattle.styles.specs.Queries.{nothing, resolveOptional, withOwn, regionFound, regionStyle, others, both, regionOptional, cueFound, effectiveStyle, nth}
+use Rattle.styles.specs.Cells.{blankLook, Tidy}
+use Rattle.styles.specs.Ids.{idsIn}
+use Rattle.styles.specs.Steps as styles
+use Rattle.styles.specs.Steps.{stylesIn, AnswerPost, Stood}
+use Rattle.styles.proofs.Along.{over-kept}
+use Rattle.styles.proofs.Answering.{resolve-nothing}
+use Rattle.styles.proofs.Theorem.{resolve-answers}
+use Rattle.styles.proofs.Tidying.{tidy-blank}
+use Rattle.queries.specs.declared.query.Resolved.{Resolved}
+use Rattle.queries.specs.declared.region.Part.{Part}
+use Rattle.queries.specs.declared.region.PartRead.{PartRead}
+use Rattle.queries.specs.Promise.{Asked, askedValue, askedRegion, askedCue, ByRegion, ByCue, Queried, ReferencedStyle, RegionStyle, EffectiveStyle}
+use Rattle.queries.specs.Steps.{SpanIn, regionTables, regionsOf, partAs, PartPost, RegionPost, CueRegionPost, queryCheck, refusedAs, answerOf, FinishPost}
+use Rattle.queries.proofs.Regions.{blank-unstyled}
+use Rattle.queries.proofs.Reaching.{region-exactly, cue-exactly}
+use Rattle.queries.proofs.Promising.{zeros, valued-query, over-query, given-query}
+
+-- ---- strings
+pub whole : (x : List ℕ) → stringAt x 0 (length x) ≡ x
+unfolding stringAt
+whole x = rw (zero-add (length x), sub-zero (length x)) (take-length x)
+
+pub no-bytes : (z : List ℕ) → stringAt z 0 0 ≡ []
+unfolding stringAt
+no-bytes z = refl
+
+pub name-trimmed : (x : List ℕ) (a e : ℕ) → Trimmed x a e → stringAt x a (e - a) ≡ trimmed x
+unfolding stringAt
+name-trimmed x a e t = let q : a + (e - a) ≡ e = omega (arith, t .order) in rw q (t .is)
+
+-- ---- what adds nothing
+over-none : (x : Option (Look Bytes)) → laidOver x none ≡ x
+over-none none = refl
+over-none (some x) = refl
+
+own-none : (z : List ℕ) (r : Resolution) → withOwn r (lookIn z blankLook) ≡ r
+own-none z r = rw (blank-unstyled z, over-none (r .style))
+
+both-none : (styles : List (Style Bytes)) (r : Resolution) → both r (resolve styles []) ≡ r
+unfolding others
+both-none styles r = rw (resolve-nothing styles, over-none (r .style), append-nil (r .ids))
+
+alone : (styles : List (Style Bytes)) (z : List ℕ) (look : values.Look) → look ≡ blankLook → (value : Bytes)
+    → both (withOwn (resolve styles value) (lookIn z look)) (resolve styles []) ≡ resolve styles value
+alone styles z look b value =
+    ap (λ (l : values.Look). both (withOwn (resolve styles value) (lookIn z l)) (resolve styles [])) b
+    ∙ (ap (λ (r : Resolution). both r (resolve styles [])) (own-none z (resolve styles value)) ∙ both-none styles (resolve styles value))
+
+-- ---- from what is left to the promise
+module _ (text : Bytes) (T : Tables) (lent : List ℕ) (ask : Asked) (reached : Track Bytes → Bytes → Type 0) (name : Bytes)
+    (h : queryCheck text T ≡ Check.Track) (first second : Bytes) (look : values.Look) (t₁ t₂ t₃ : List ℕ) (cleared : t₁ ≡ replicate (length lent) 0)
+  where
+    abbrev resolved : Resolution
+    resolved = styles.answerOf text (T .styles) (T .sizes) (T .strings) (styleCount (T .head)) first second t₁ t₂ look (T .extras)
+
+    as-long : length t₁ ≡ length lent
+    as-long = rw cleared (length-replicate {A = ℕ} (length lent) 0)
+
+    pub asked : ask (trackAt T) ≡ is resolved → Exactly (reached (trackAt T)) (resolved .ids) → Tidy look
+        → (p : Span) → bytesAt text p ≡ name → (walked : Applied) (answer : Resolved)
+        → AnswerPost text (T .styles) (T .sizes) (T .strings) (styleCount (T .head)) first second t₁ t₂ look walked
+        → FinishPost p walked t₂ t₃ answer → Queried text T lent ask reached name answer t₃
+    asked e x tidy p n (Applied.Done w) answer a f =
+        rw (f .0, f .1)
+        (given-query text T lent ask reached name h resolved e x t₂ (a .kept ∙ as-long) w (a .style (T .extras)) (a .ids (T .extras)) (a .tidy tidy)
+        (a .stood) (a .behind) p n)
+    asked e x tidy p n Applied.Full answer a f =
+        rw (f .0)
+        (over-query text T lent ask reached name h resolved e (over-kept lent t₁ (resolved .ids) as-long (a .over (T .extras))) t₃
+        (rw (a .kept ∙ as-long) at (f .1)))
+
+-- ---- a value
+module _ (value : Bytes) (T : Tables) (lent : List ℕ) where
+  pub referenced : (answer : Resolved) (left : List ℕ)
+      → Queried value T lent (askedValue value) (λ k. Reaches (k .styles) value) (trimmed value) answer left → ReferencedStyle value T lent answer left
+  referenced answer left q = record {
+    queried = q;
+    no-style = λ n k e.
+        let s = q .style n k e (resolve (k .styles) value) refl in
+        let a = resolve-answers (k .styles) value .no-style in
+        (λ x. a .0 (sym s ∙ x), λ x. s ∙ a .1 x);
+  }
+
+  module _ (h : queryCheck value T ≡ Check.Track) (look : values.Look) (blank-look : look ≡ blankLook) (t₁ t₂ t₃ : List ℕ)
+      (cleared : t₁ ≡ replicate (length lent) 0) where
+    same-value : askedValue value (trackAt T)
+        ≡ is (resolved value T lent (askedValue value) (λ k. Reaches (k .styles) value) (trimmed value) h value [] look t₁ t₂ t₃ cleared)
+    unfolding trackAt
+    same-value =
+        ap is (sym (alone (stylesIn (T .styles) (T .sizes) (T .extras) (T .strings) (styleCount (T .head))) (T .strings) look blank-look value))
+
+    pub value-asked : (p : Span) → bytesAt value p ≡ trimmed value → (walked : Applied) (answer : Resolved)
+        → AnswerPost value (T .styles) (T .sizes) (T .strings) (styleCount (T .head)) value [] t₁ t₂ look walked
+        → FinishPost p walked t₂ t₃ answer → ReferencedStyle value T lent answer t₃
+    value-asked p n walked answer a f =
+        let q : resolve (trackAt T .styles) value
+        ≡ resolved value T lent (askedValue value) (λ k. Reaches (k .styles) value) (trimmed value) h value [] look t₁ t₂ t₃ cleared = unread same-value in
+        referenced answer t₃
+        (asked value T lent (askedValue value) (λ k. Reaches (k .styles) value) (trimmed value) h value [] look t₁ t₂ t₃ cleared same-value
+        (rw (ap (λ (r : Resolution). r .ids) q) at (resolve-answers (trackAt T .styles) value .ids-reached)) (rw blank-look tidy-blank) p n walked answer a f)
+      where
+        unread : {a b : Resolution} → is a ≡ is b → a ≡ b
+        unread e = cc
+
+-- ---- a region
+module _ (id : Bytes) (T : Tables) (lent : List ℕ) (h : queryCheck id T ≡ Check.Track) where
+  regions-are : (styles : List (Style Bytes))
+      → regionFound styles (findRegion id (regionsOf (T .regions) (T .extras) (T .strings) (regionCount (T .head))))
+      ≡ regionFound styles (findRegion id (trackAt T .regions))
+  unfolding trackAt regionIn
+  regions-are styles = refl
+
+  asks-region : (r : PartRead) → RegionPost (T .regions) (T .extras) (T .strings) (regionCount (T .head)) id r
+      → askedRegion id (trackAt T) ≡ partAs (T .strings) (trackAt T .styles) r
+  unfolding regionStyle
+  asks-region r p = sym (p .is (trackAt T .styles) ∙ regions-are (trackAt T .styles))
+
+  pub region-refuses : (n : ℕ) → RegionPost (T .regions) (T .extras) (T .strings) (regionCount (T .head)) id (PartRead.Refused n)
+      → (left : List ℕ) → left ≡ replicate (length lent) 0 → RegionStyle id T lent (refusedAs n) left
+  region-refuses n p left z = valued-query id T lent (askedRegion id) (λ k. ByRegion k id) id h n (asks-region (PartRead.Refused n) p) (p .within) left z
+
+  module _ (x : Part) (p : RegionPost (T .regions) (T .extras) (T .strings) (regionCount (T .head)) id (PartRead.Is x)) (t₁ t₂ t₃ : List ℕ)
+      (cleared : t₁ ≡ replicate (length lent) 0) where
+    abbrev answer-to : Resolution
+    answer-to = resolved id T lent (askedRegion id) (λ k. ByRegion k id) id h (bytesAt (T .strings) (x .chain)) [] (x .look) t₁ t₂ t₃ cleared
+
+    same-region : askedRegion id (trackAt T) ≡ is answer-to
+    unfolding trackAt
+    same-region =
+        let S : List (Style Bytes) = stylesIn (T .styles) (T .sizes) (T .extras) (T .strings) (styleCount (T .head)) in
+        asks-region (PartRead.Is x) p
+        ∙ ap is (sym (both-none S (withOwn (resolve S (bytesAt (T .strings) (x .chain))) (lookIn (T .strings) (x .look)))))
+
+    pub region-asked : (s : Span) → bytesAt id s ≡ id → (walked : Applied) (answer : Resolved)
+        → AnswerPost id (T .styles) (T .sizes) (T .strings) (styleCount (T .head)) (bytesAt (T .strings) (x .chain)) [] t₁ t₂ (x .look) walked
+        → FinishPost s walked t₂ t₃ answer → RegionStyle id T lent answer t₃
+    region-asked s n walked answer a f =
+        asked id T lent (askedRegion id) (λ k. ByRegion k id) id h (bytesAt (T .strings) (x .chain)) [] (x .look) t₁ t₂ t₃ cleared same-region
+        (region-exactly (trackAt T) id answer-to same-region) (p .within .1) s n walked answer a f
+
+-- ---- a cue
+nth-row : {A : Type 0} (f : ℕ → A) (n j i : ℕ) → i < n → nth (rowsFrom f n j) i ≡ some (f (j + i))
+unfolding nth rowsFrom
+nth-row f zero j i l = absurd (omega arith)
+nth-row f (suc n) j zero l = rw (add-zero j)
+nth-row f (suc n) j (suc i) l = let q : j + suc i ≡ j + 1 + i = omega arith in rw q (nth-row f n (j + 1) i (omega arith))
+
+nth-first : {A : Type 0} (f : ℕ → A) (n i : ℕ) → i < n → nth (rowsFrom f n 0) i ≡ some (f i)
+nth-first f n i l = rw (zero-add i) at (nth-row f n 0 i l)
+
+nth-past : {A : Type 0} (f : ℕ → A) (n j i : ℕ) → n ≤ i → nth (rowsFrom f n j) i ≡ none
+unfolding nth rowsFrom
+nth-past f zero j i l = refl
+nth-past f (suc n) j zero l = absurd (omega arith)
+nth-past f (suc n) j (suc i) l = nth-past f n (j + 1) i (omega arith)
+
+module _ (T : Tables) (i : ℕ) (lent : List ℕ) (h : queryCheck [] T ≡ Check.Track) where
+  past : cueCount (T .head) ≤ i → askedCue i (trackAt T) ≡ is nothing
+  unfolding effectiveStyle trackAt
+  past l = rw (nth-past (cueIn T) (cueCount (T .head)) 0 i l)
+
+  pub cue-past : cueCount (T .head) ≤ i → (left : List ℕ) → left ≡ replicate (length lent) 0 → EffectiveStyle T i lent (Resolved.NoStyle 0) left
+  unfolding nothing idsIn rowsFrom stringAt
+  cue-past l left z =
+      given-query [] T lent (askedCue i) (λ k. ByCue k i) [] h nothing (past l) (cue-exactly (trackAt T) i nothing (past l)) left
+      (rw z (length-replicate {A = ℕ} (length lent) 0)) (record { count = 0; found = false; look = blankLook }) refl refl tidy-blank
+      (record { fits = omega arith; few = omega arith; rows = λ j b. absurd (omega arith); marks = λ j b. absurd (omega arith) })
+      (λ c b. rw z (zeros (length lent) c)) (span 0 0) refl
+
+  module _ (l : i < cueCount (T .head)) where
+    abbrev cue : placed.Cue
+    cue = cueAt (T .cues) (T .times) i
+
+    the-cue : nth (trackAt T .cues) i ≡ some (cueIn T i)
+    unfolding trackAt
+    the-cue = nth-first (cueIn T) (cueCount (T .head)) i l
+
+    -- its region
+    region-given : (has : Bool) (v : Bytes) → regionOptional (trackAt T) (given has v) ≡ cond has (regionFound (trackAt T .styles) (findRegion v (trackAt T .regions))) (is nothing)
+    unfolding regionStyle
+    region-given true v = refl
+    region-given false v = refl
+
+    regions-same : (v : Bytes) → findRegion v (regionsOf (T .regions) (T .extras) (T .strings) (regionCount (T .head))) ≡ findRegion v (trackAt T .regions)
+    unfolding trackAt regionIn
+    regions-same v = refl
+
+    -- its own value
+    own-given : (styles : List (Style Bytes)) → resolveOptional styles (given (cue .«has_style») (bytesAt (T .strings) (cue .style))) ≡ resolve styles (bytesAt (T .strings) (cue .style))
+    unfolding cueAt cell optional nothing
+    own-given styles =
+        by-test (eqb (getD (T .cues) (i * 11 + 0) 0) 1) (λ e. rw e) (λ e. rw (e, no-bytes (T .strings)) (sym (resolve-nothing styles)))
+
+    asks-cue : (r : PartRead) → CueRegionPost (T .regions) (T .extras) (T .strings) (regionCount (T .head)) (cue .«has_region») (cue .region) r
+        → askedCue i (trackAt T) ≡ next (partAs (T .strings) (trackAt T .styles) r)
+        (λ s. is (both s (resolve (trackAt T .styles) (bytesAt (T .strings) (cue .style)))))
+    unfolding effectiveStyle cueIn
+    asks-cue r p =
+        rw (
+          the-cue,
+          region-given (cue .«has_region») (bytesAt (T .strings) (cue .region)),
+          ← (regions-same (bytesAt (T .strings) (cue .region))),
+          ← (p .is (trackAt T .styles)),
+          own-given (trackAt T .styles),
+        )
+
+    pub cue-refuses : (n : ℕ) → CueRegionPost (T .regions) (T .extras) (T .strings) (regionCount (T .head)) (cue .«has_region») (cue .region) (PartRead.Refused n)
+        → (left : List ℕ) → left ≡ replicate (length lent) 0 → EffectiveStyle T i lent (refusedAs n) left
+    cue-refuses n p left z = valued-query [] T lent (askedCue i) (λ k. ByCue k i) [] h n (asks-cue (PartRead.Refused n) p) (p .within) left z
+
+    module _ (x : Part)
+        (p : CueRegionPost (T .regions) (T .extras) (T .strings) (regionCount (T .head)) (cue .«has_region») (cue .region) (PartRead.Is x))
+        (t₁ t₂ t₃ : List ℕ) (cleared : t₁ ≡ replicate (length lent) 0) where
+      abbrev cue-answer : Resolution
+      cue-answer = resolved [] T lent (askedCue i) (λ k. ByCue k i) [] h (bytesAt (T .strings) (x .chain)) (bytesAt (T .strings) (cue .style)) (x .look) t₁ t₂ t₃ cleared
+
+      same-cue : askedCue i (trackAt T) ≡ is cue-answer
+      unfolding trackAt
+      same-cue = asks-cue (PartRead.Is x) p
+
+      pub cue-asked : (walked : Applied) (answer : Resolved)
+          → AnswerPost [] (T .styles) (T .sizes) (T .strings) (styleCount (T .head)) (bytesAt (T .strings) (x .chain)) (bytesAt (T .strings) (cue .style)) t₁ t₂ (x .look) walked
+          → FinishPost (span 0 0) walked t₂ t₃ answer → EffectiveStyle T i lent answer t₃
+      cue-asked walked answer a f =
+          asked [] T lent (askedCue i) (λ k. ByCue k i) [] h (bytesAt (T .strings) (x .chain)) (bytesAt (T .strings) (cue .style)) (x .look) t₁ t₂ t₃ cleared
+          same-cue (cue-exactly (trackAt T) i cue-answer same-cue) (p .within .1) (span 0 0) (no-bytes []) walked answer a f

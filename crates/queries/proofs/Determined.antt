@@ -1,0 +1,1 @@
+-- Two outcomes that meet the promise agree in all but the program's choice. Assumes nothing.
