@@ -3,6 +3,7 @@
 mod color;
 mod decimal;
 mod parse;
+mod query;
 mod time;
 
 pub use color::probe_color;

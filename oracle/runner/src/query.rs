@@ -42,6 +42,36 @@ impl Style {
     }
 }
 
+impl Outcome {
+    /// As a recording has it: the program that replays it says how.
+    pub fn bytes(&self) -> Vec<u8> {
+        let string = |string: &str| [&(string.len() as u16).to_be_bytes(), string.as_bytes()].concat();
+        let part = |part: Option<Vec<u8>>| part.map_or(vec![0], |part| [vec![1], part].concat());
+        let Outcome::Found { style, ids } = self else {
+            let Outcome::Number(number) = self else { unreachable!() };
+            return vec![*number as u8, 0];
+        };
+        let mut bytes = vec![0, style.is_some() as u8];
+        if let Some(style) = style {
+            let size = style.size.map(|(bits, spelling)| {
+                let [sign, digits, scale] = spelling.unwrap();
+                [&[sign as u8][..], &digits.to_be_bytes(), &[scale as u8], &bits.to_be_bytes()].concat()
+            });
+            bytes.extend(string(&style.name));
+            bytes.extend(part(style.color.map(Vec::from)));
+            bytes.extend(part(style.back.map(Vec::from)));
+            bytes.extend(part(style.family.as_ref().map(|family| string(family))));
+            bytes.extend(part(size));
+            bytes.extend(style.flags.map(u8::from));
+            bytes.push(style.align as u8);
+        }
+        bytes.extend((ids.len() as u16).to_be_bytes());
+        bytes.extend(ids.iter().flat_map(|id| string(id)));
+        bytes.push(1);
+        bytes
+    }
+}
+
 /// How the twelve tables are lent.
 #[derive(Clone, Copy, Debug, PartialEq)]
 pub enum Lending {

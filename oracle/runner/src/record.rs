@@ -22,7 +22,9 @@ pub struct Recording {
 
 /// The lines of a recording: `KIND IN OUT`, in hex, `-` for no bytes.
 pub struct Lines {
-    count: usize,
+    /// How many are asked for.
+    pub count: usize,
+    made: usize,
     text: String,
 }
 
@@ -48,12 +50,23 @@ impl Lines {
     pub fn pairs(&mut self, kind: char, percent: usize, pairs: impl Iterator<Item = (Vec<u8>, Vec<u8>)>) {
         let mut seen = HashSet::new();
         for (question, answer) in pairs.filter(|(q, _)| seen.insert(q.clone())).take(self.count * percent / 100) {
-            writeln!(self.text, "{kind} {} {}", hex(&question), hex(&answer)).unwrap();
+            self.question(kind, &question, &answer);
         }
+    }
+
+    /// Adds a question with its answer.
+    pub fn question(&mut self, kind: char, question: &[u8], answer: &[u8]) {
+        writeln!(self.text, "{kind} {} {}", hex(question), hex(answer)).unwrap();
+        self.made += 1;
+    }
+
+    /// Adds a line that is no question.
+    pub fn line(&mut self, line: &str) {
+        writeln!(self.text, "{line}").unwrap();
     }
 }
 
-fn hex(bytes: &[u8]) -> String {
+pub fn hex(bytes: &[u8]) -> String {
     if bytes.is_empty() {
         return "-".to_string();
     }
@@ -65,9 +78,9 @@ pub fn run(options: &Options) -> Result<ExitCode, String> {
     for layer in &options.layers {
         let Some(recording) = &layer.record else { continue };
         let count = options.count.unwrap_or(recording.count);
-        let mut lines = Lines { count, text: String::new() };
+        let mut lines = Lines { count, made: 0, text: String::new() };
         (recording.lines)(&mut Rng::new(options.seed, layer.name), &mut lines);
-        let made = lines.text.lines().count();
+        let made = lines.made;
 
         let mut text = format!("# oracle/record --seed {} --count {count} {}\n", options.seed, layer.name);
         for (file, lines) in reference::SOURCES {

@@ -1,6 +1,7 @@
 //! The port's twelve tables of a track (docs/TABLES.md): laid out from the Rust's track, and read back as one.
 
 use crate::extras::{INLINE, Names, REGION, STYLE, join, split};
+use crate::record::hex;
 use reference::ir::{Segment, SubtitleCue, SubtitleStyle, SubtitleTrack, TextAlign};
 use std::collections::HashMap;
 
@@ -35,7 +36,7 @@ pub struct Tables {
 
 /// Why a track is not one for the tables: a count or a size past its limit, or metadata that no document makes.
 #[derive(Debug)]
-pub struct Unfit(pub &'static str);
+pub struct Unfit(#[allow(dead_code)] pub &'static str); // it is printed
 
 type Laid<A> = Result<A, Unfit>;
 
@@ -216,6 +217,27 @@ impl Tables {
         let Some(value) = size else { return Ok(NONE) };
         self.sizes[cell] = value;
         spelling(value).ok_or(Unfit("a size"))
+    }
+
+    /// As lines of a recording: a letter and the cells of a table, `f` for a size, `z` for the strings.
+    pub fn lines(&self, mut line: impl FnMut(&str)) {
+        let mut table = |letter: char, cells: &[u32]| {
+            if !cells.is_empty() {
+                let numbers: Vec<String> = cells.iter().map(u32::to_string).collect();
+                line(&format!("{letter} {}", numbers.join(" ")));
+            }
+        };
+        let used = |count: usize| self.head[count] as usize;
+        table('h', &self.head[..LENGTHS[0]]);
+        table('p', &self.params[..4 * used(PARAMS)]);
+        table('s', &self.styles[..27 * used(STYLE_COUNT)]);
+        table('r', &self.regions[..4 * used(REGIONS)]);
+        table('c', &self.cues[..11 * used(CUES)]);
+        table('e', &self.extras[..3 * self.rows]);
+        for row in (0..used(STYLE_COUNT)).filter(|row| self.styles[27 * row + 17] > 0) {
+            line(&format!("f {} {}", SEGMENTS + row, self.sizes[SEGMENTS + row].to_bits()));
+        }
+        line(&format!("z {}", hex(&self.strings[..used(STRINGS)])));
     }
 
     /// All cells that were laid out.

@@ -7,6 +7,7 @@ use crate::bench::Bench;
 use crate::cases::{Rng, SPACES};
 use crate::compare::{Esc, Run};
 use crate::query::{Asker, Lending, Outcome, Style};
+use crate::record::{Lines, Recording};
 use crate::reach::{Question, Reach, text};
 use crate::sheets::{Sheet, any_sheet, any_value, attr};
 use crate::tables::{BYTES, SEGMENTS, Tables, shown, with};
@@ -14,7 +15,12 @@ use reference::ir::SubtitleTrack;
 use reference::ttml;
 use std::fmt::{self, Debug, Formatter};
 
-pub const LAYER: Layer = Layer { name: "styles", compare, record: None, bench: Some(bench) };
+pub const LAYER: Layer = Layer {
+    name: "styles",
+    compare,
+    record: Some(Recording { file: "crates/replay_styles/stdin", count: 900, lines }),
+    bench: Some(bench),
+};
 
 fn compare(run: &mut Run) {
     let side = &mut Side { tables: Tables::new(), asker: Asker::default() };
@@ -307,6 +313,45 @@ fn corners() -> Vec<String> {
         }
     }
     documents
+}
+
+/// The lines of a recording: short documents, their tables, and questions of them.
+fn lines(rng: &mut Rng, lines: &mut Lines) {
+    let mut tables = Tables::new();
+    let mut left = lines.count;
+    let mut listed = corners().into_iter().step_by(11);
+    while left > 0 {
+        let sheet = match listed.next() {
+            Some(text) => Sheet { text, ids: vec!["a".into(), "r".into(), "b".into()], cues: 2 },
+            None => any_sheet(rng),
+        };
+        if sheet.text.len() > 900 {
+            continue;
+        }
+        let mut track = ttml::parse(sheet.text.as_bytes()).unwrap();
+        // No query looks at segments.
+        track.cues.iter_mut().for_each(|cue| cue.segments.clear());
+        tables.lay(&track).unwrap();
+        tables.lines(|line| lines.line(line));
+        let reach = Reach::new(&track);
+        for turn in 0..9.min(left) {
+            let value = any_value(rng, &sheet.ids, 6);
+            let id = sheet.ids[rng.below(sheet.ids.len())].clone();
+            let index = rng.below(sheet.cues + 2);
+            let (kind, text, question) = match turn % 3 {
+                0 => ('V', value.as_bytes().to_vec(), Question::Value(value.as_bytes())),
+                1 => ('R', id.as_bytes().to_vec(), Question::Region(id.as_bytes())),
+                _ => ('C', (index as u16).to_be_bytes().to_vec(), Question::Cue(index)),
+            };
+            let (lent, cells) = rng.pick(&[(0, 8), (1, 128), (1, 128)]);
+            let answer = match rust(&track, &reach, &question) {
+                Outcome::Found { ids, .. } if 4 * ids.len() > cells => Outcome::Number(18),
+                answer => answer,
+            };
+            lines.question(kind, &[&[lent], &text[..]].concat(), &answer.bytes());
+        }
+        left -= 9.min(left);
+    }
 }
 
 /// A document of so many styles, each of which refers to the next.
