@@ -29,7 +29,7 @@ returns : tie.Need-returns
 unfolding sum
 returns c =
     let s = c .before .before .before .before in
-    let e = rw (toZ-ofZ (s .fits .base), toZ-ofZ (s .fits .begin)) at (c .before .before .before .add .ensures) in
+    let e = rw (toZ-ofZ (s .fits .base), toZ-ofZ (s .fits .begin)) at (c .before .before .before .add .ensures .is) in
     rw (← e, c .before .time .given .1)
     (ap (λ (z : ℤ). Beginning.Is (record { has = s .args .has; time = z })) (laws.toZ-ofZ w64 _ (record { sfits = c .known-told .given .0 .1 })))
 
@@ -38,7 +38,7 @@ returns-2 : tie.Need-returns-2
 unfolding sum
 returns-2 c =
     let s = c .before .before .before in
-    let e = rw (toZ-ofZ (s .fits .base), toZ-ofZ (s .fits .begin)) at (c .before .before .add .ensures) in
+    let e = rw (toZ-ofZ (s .fits .base), toZ-ofZ (s .fits .begin)) at (c .before .before .add .ensures .is) in
     rw (← e, c .enum-told .given .1)
 
 pub counted-spec : {M : Type 1} → statement M

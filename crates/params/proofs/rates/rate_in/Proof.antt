@@ -31,7 +31,7 @@ enum-known-d c = search needs
 to-f64-requires : tie.Need-to-f64-requires
 to-f64-requires c κs =
     let c3 = c .before .before .before in
-    let w = decimal-limits 15 22 _ (sym (c3 .read-decimal .ensures) ∙ c .before .d .given .1) in (w .small, w .near)
+    let w = decimal-limits 15 22 _ (sym (c3 .read-decimal .ensures .is) ∙ c .before .d .given .1) in (w .small, w .near)
 
 enum-told : tie.Need-enum-told
 enum-told c = search needs
@@ -45,20 +45,20 @@ returns c =
     let c6 = c4 .before .before in
     let c8 = c6 .before .before in
     ap (λ (x : Float). is (some x)) (c .to-f64 .ensures)
-    ∙ ap (rateAnswer (c8 .args .at)) (sym (c .before .before .d .given .1) ∙ (c4 .read-decimal .ensures ∙ ap timeDecimal (c6 .trim .ensures .is)))
+    ∙ ap (rateAnswer (c8 .args .at)) (sym (c .before .before .d .given .1) ∙ (c4 .read-decimal .ensures .is ∙ ap timeDecimal (c6 .trim .ensures .is)))
 
 returns-2 : tie.Need-returns-2
 returns-2 c =
     let c4 = c .before .before .before .before in
     let c6 = c4 .before .before in
-    ap (rateAnswer (c6 .args .at)) (sym (c .enum-told .given .1) ∙ (c .before .before .read-decimal .ensures
+    ap (rateAnswer (c6 .args .at)) (sym (c .enum-told .given .1) ∙ (c .before .before .read-decimal .ensures .is
     ∙ ap timeDecimal (c4 .trim .ensures .is)))
 
 returns-3 : tie.Need-returns-3
 returns-3 c =
     let c4 = c .before .before .before .before in
     let c6 = c4 .before .before in
-    ap (rateAnswer (c6 .args .at)) (sym (c .enum-told2 .given .1) ∙ (c .before .before .read-decimal .ensures
+    ap (rateAnswer (c6 .args .at)) (sym (c .enum-told2 .given .1) ∙ (c .before .before .read-decimal .ensures .is
     ∙ ap timeDecimal (c4 .trim .ensures .is)))
 
 pub rate-in-spec : {M : Type 1} → statement M

@@ -18,13 +18,13 @@ enum-told-2 : tie.Need-enum-told-2
 enum-told-2 c = search needs
 
 returns : tie.Need-returns
-returns c = color-post _ _ (sym (c .before .before .before .parse-ttml-color-rgba .ensures) ∙ c .before .color .given .1)
+returns c = color-post _ _ (sym (c .before .before .before .parse-ttml-color-rgba .ensures .is) ∙ c .before .color .given .1)
 
 returns-2 : tie.Need-returns-2
-returns-2 c = color-none _ (sym (c .before .before .parse-ttml-color-rgba .ensures) ∙ c .enum-told .given .1)
+returns-2 c = color-none _ (sym (c .before .before .parse-ttml-color-rgba .ensures .is) ∙ c .enum-told .given .1)
 
 returns-3 : tie.Need-returns-3
-returns-3 c = color-cut _ (sym (c .before .before .parse-ttml-color-rgba .ensures) ∙ c .enum-told2 .given .1)
+returns-3 c = color-cut _ (sym (c .before .before .parse-ttml-color-rgba .ensures .is) ∙ c .enum-told2 .given .1)
 
 pub color-in-spec : {M : Type 1} → statement M
 color-in-spec =

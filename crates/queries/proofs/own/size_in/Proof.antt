@@ -26,7 +26,7 @@ enum-known-d c = search needs
 size-of-requires : tie.Need-size-of-requires
 size-of-requires c κs =
     let c3 = c .before .before .before in
-    let w = decimal-limits 6 10 _ (sym (c3 .read-decimal .ensures) ∙ c .before .d .given .1) in (w .small, w .near)
+    let w = decimal-limits 6 10 _ (sym (c3 .read-decimal .ensures .is) ∙ c .before .d .given .1) in (w .small, w .near)
 
 enum-told : tie.Need-enum-told
 enum-told c = search needs
@@ -38,18 +38,18 @@ returns : tie.Need-returns
 returns c =
     let c4 = c .before .before .before .before in
     let c6 = c4 .before .before in
-    size-post _ _ (c6 .leading-end .ensures .1) _ _ (sym (c4 .read-decimal .ensures) ∙ c .before .before .d .given .1) (c .size-of .ensures)
+    size-post _ _ (c6 .leading-end .ensures .1) _ _ (sym (c4 .read-decimal .ensures .is) ∙ c .before .before .d .given .1) (c .size-of .ensures)
 
 returns-2 : tie.Need-returns-2
 unfolding ofBits
 returns-2 c =
     let c4 = c .before .before .before .before in
-    size-none _ _ (c4 .leading-end .ensures .1) (sym (c .before .before .read-decimal .ensures) ∙ c .enum-told .given .1) _ refl
+    size-none _ _ (c4 .leading-end .ensures .1) (sym (c .before .before .read-decimal .ensures .is) ∙ c .enum-told .given .1) _ refl
 
 returns-3 : tie.Need-returns-3
 returns-3 c =
     let c4 = c .before .before .before .before in
-    size-beyond _ _ (c4 .leading-end .ensures .1) (sym (c .before .before .read-decimal .ensures) ∙ c .enum-told2 .given .1)
+    size-beyond _ _ (c4 .leading-end .ensures .1) (sym (c .before .before .read-decimal .ensures .is) ∙ c .enum-told2 .given .1)
 
 pub size-in-spec : {M : Type 1} → statement M
 size-in-spec =
