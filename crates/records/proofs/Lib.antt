@@ -11,3 +11,4 @@ pub mod SegmentRows
 pub mod RowLaws
 pub mod Beside
 pub mod Standing
+pub mod Dropping

@@ -13,9 +13,9 @@ use Rattle.track.specs.declared.values.Style.{Style}
 use Rattle.track.specs.declared.values.Region.{Region}
 use Rattle.track.specs.declared.values.Cue.{Cue}
 use Rattle.track.specs.declared.segments.Segment.{Segment}
-use Rattle.track.specs.Layout.{joinedCells, filled, paramCells, extraCells, styleCells, regionCells, cueCells, segmentCells}
+use Rattle.track.specs.Layout.{joinedCells, filled, paramCells, extraCells, styleCells, regionCells, cueCells, segmentCells, headCells, Placed}
 use Rattle.records.specs.declared.cells.Added.{Added}
-use Rattle.records.specs.Posts.{AddPost}
+use Rattle.records.specs.Posts.{AddPost, headRow, headOf}
 use Rattle.records.proofs.Storing.{optional-wide, size-wide, look-wide}
 
 -- ---- a table that is filled up
@@ -97,3 +97,8 @@ segment-wide Segment.Underline n = refl
 segment-wide Segment.Strike n = refl
 segment-wide (Segment.Color c) n = refl
 segment-wide (Segment.Font x) n = simp length-append (rw (optional-wide (x .«has_family») (x .family), size-wide (x .«has_size») (x .size)))
+
+-- the head of a track, as it is laid out
+pub head-laid : (k : Placed) (u v : ℕ) → headRow (headOf k u v) ≡ headCells k u v
+unfolding headCells headOf
+head-laid k u v = refl

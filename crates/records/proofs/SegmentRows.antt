@@ -133,7 +133,7 @@ module _ {A : Type 0} (g : Sized → List A) where
         let e = wide x in
         rw (length-append, suc-mul) (omega arith)
 
-    rows-length : (f : Segments Span) → length (laid g (preorder f)) ≡ segmentRows f * w
+    pub rows-length : (f : Segments Span) → length (laid g (preorder f)) ≡ segmentRows f * w
     rows-length f = rw (← (rows-many f)) (laid-length (preorder f))
 
     -- rows shifted by as many as there are in r, and those put before them
@@ -177,7 +177,7 @@ module _ {A : Type 0} (g : Sized → List A) where
         rw rows (put-after pre (laid g (preorder f)) (g x) rest t t′ (n * w) w e (omega arith) (wide x) k e′)
 
 -- ---- in the three tables
-laid-cells : (l : List Sized) → laid rowCells l ≡ cellsOf l
+pub laid-cells : (l : List Sized) → laid rowCells l ≡ cellsOf l
 unfolding laid joinedCells
 laid-cells [] = refl
 laid-cells (x ∷ l) = rw (laid-cells l)
@@ -210,7 +210,7 @@ pub cells-joined : (f g : Segments Span) → cellsOf (preorder (joined f g)) ≡
 cells-joined f g = rw (preorder-joined f g) (joined-append rowCells (preorder f) (preorder g))
 
 -- tables with one cell to a row: times and sizes
-laid-each : {A : Type 0} (v : Sized → A) (l : List Sized) → laid (λ (x : Sized). v x ∷ []) l ≡ each v l
+pub laid-each : {A : Type 0} (v : Sized → A) (l : List Sized) → laid (λ (x : Sized). v x ∷ []) l ≡ each v l
 unfolding laid each
 laid-each v [] = refl
 laid-each v (x ∷ l) = rw (laid-each v l)

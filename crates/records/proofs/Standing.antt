@@ -1,20 +1,22 @@
 -- Segments that stand in the three tables, as rows are put before and after them. Assumes nothing.
-use Prim.Native.Nat.{ℕ, _+_, _*_, _≤_}
+use Prim.Native.Nat.{ℕ, suc, _+_, _-_, _*_, _≤_}
 use mathlib.Core.Path.{_≡_, sym, ap, _∙_}
 use mathlib.Core.List.{[], _∷_, _++_, append-assoc}
 use native.Mathlib.Omega.{arith}
-use lib.IntN.{ℤ}
+use lib.IntN.{ℤ, pos}
 use lib.Ieee.{Float}
 use lib.ListN.{length, length-append}
 use Rattle.track.specs.declared.strings.Span.{Span}
 use Rattle.track.specs.Track.{Wrapper, Segments, segmentRows}
 use Rattle.track.specs.Track as track
+use Rattle.track.specs.Tables.{zeroFloat}
 use Rattle.track.specs.Layout.{Sized, wrapperOf, preorder, joinedCells, each, segmentTime, segmentSize}
-use Rattle.records.specs.Siblings.{joined, rowCells, cellsOf, timesOf, floatsOf, Three, Stands, Room, later, andThese, Shifted, Put}
+use Rattle.records.specs.Siblings.{joined, rowCells, cellsOf, timesOf, floatsOf, Three, Stands, Room, later, andThese, andCleared, Shifted, Put, Dropped}
 use Rattle.records.proofs.RowLaws.{joined-length, segment-wide}
 use Rattle.records.proofs.Beside.{each-length}
 use Rattle.track.proofs.SegmentsLaid.{rows-many}
 use Rattle.records.proofs.SegmentRows.{rows-joined, cells-joined, each-joined, wrap-cells, wrap-each, add-cells, add-each}
+use Rattle.records.proofs.Dropping.{unwrap-cells, unwrap-each}
 
 abbrev pub timeOf : Sized → ℤ
 timeOf x = segmentTime (x .segment)
@@ -92,3 +94,20 @@ module _ (pre rest : Three) (at n : ℕ) (f : Segments Span) (t : Three) (s : St
         in-times = rw (each-joined timeOf f g) (s′ .in-times ∙ simp append-assoc);
         in-floats = rw (each-joined floatOf f g) (s′ .in-floats ∙ simp append-assoc);
       }
+
+-- `drop_segment` of a wrapper that is all of the rows: what it wraps stands, and a cleared row after it
+pub stands-unwrap : (pre rest : Three) (at n : ℕ) (x : Wrapper Span) (c : Segments Span) (t t′ : Three)
+    → Stands pre rest at n (track.wrap x c track.done) t → Dropped at n t t′ → Stands pre (andCleared rest) at (n - 1) c t′
+unfolding segmentRows
+stands-unwrap pre rest at n x c t t′ s d =
+    let m : n ≡ at + suc (segmentRows c) = omega (arith, s .count) in
+    record {
+      count = omega arith;
+      before = s .before;
+      in-cells = unwrap-cells (pre .cells) (rest .cells) (t .cells) (t′ .cells) x c at n (s .in-cells) (s .before .0) m (d .in-cells);
+      in-times =
+          unwrap-each (pos 0) timeOf (pre .times) (rest .times) (t .times) (t′ .times) x c at n (s .in-times) (s .before .1) m (d .in-times);
+      in-floats =
+          unwrap-each zeroFloat floatOf (pre .floats) (rest .floats) (t .floats) (t′ .floats) x c at n (s .in-floats) (s .before .2) m
+          (d .in-floats);
+    }

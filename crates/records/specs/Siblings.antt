@@ -2,15 +2,16 @@
 use Prim.Native.Nat.{ℕ, _+_, _-_, _*_, _≤_}
 use mathlib.Core.Path.{_≡_}
 use mathlib.Core.List.{List, [], _∷_, _++_}
-use lib.ListN.{length, take, drop}
+use lib.ListN.{length, take, drop, replicate}
 use lib.Seq.{sets}
-use lib.IntN.{ℤ}
+use lib.IntN.{ℤ, pos}
 use lib.Ieee.{Float}
 use Rattle.scan.specs.Part.{part}
 use Rattle.track.specs.declared.strings.Span.{Span}
 use Rattle.track.specs.declared.segments.Segment.{Segment}
 use Rattle.track.specs.Track.{Wrapper, Segments, segmentRows}
 use Rattle.track.specs.Track as track
+use Rattle.track.specs.Tables.{zeroFloat}
 use Rattle.track.specs.Layout.{Sized, wrapperOf, preorder, joinedCells, each, segmentCells, segmentTime, segmentSize}
 
 -- the second after the first
@@ -44,6 +45,19 @@ timesOf l = each (λ (x : Sized). segmentTime (x .segment)) l
 abbrev pub floatsOf : List Sized → List Float
 floatsOf l = each (λ (x : Sized). segmentSize (x .segment)) l
 
+-- ---- cells of a table, of any type, moved
+-- those from `at` up to `end`, by so many places toward the end
+abbrev pub shifted : {A : Type 0} → (at end by : ℕ) → List A → List A
+shifted at end by t = sets t (at + by) (take (end - at) (drop at t))
+
+-- those from `at + by` up to `end`, by so many places toward the start
+abbrev pub pulled : {A : Type 0} → (at end by : ℕ) → List A → List A
+pulled at end by t = sets t at (take (end - (at + by)) (drop (at + by) t))
+
+-- the w cells at `at` dropped: those after them, up to `end`, stand w cells earlier, and w cells z follow them
+abbrev pub withoutCells : {A : Type 0} → A → (w at end : ℕ) → List A → List A
+withoutCells z w at end t = take at t ++ (take (end - (at + w)) (drop (at + w) t) ++ (replicate w z ++ drop end t))
+
 -- ---- the three tables of segments, or parts of them
 pub record Three : Type 0 where
   pub cells : List ℕ
@@ -70,15 +84,29 @@ later k x = record { cells = drop (k * 8) (x .cells); times = drop k (x .times);
 
 -- what stands before, and these segments after it
 abbrev pub andThese : Three → Segments Span → Three
-andThese x f = record { cells = x .cells ++ cellsOf (preorder f); times = x .times ++ timesOf (preorder f); floats = x .floats ++ floatsOf (preorder f) }
+andThese x f =
+    record {
+      cells = x .cells ++ cellsOf (preorder f);
+      times = x .times ++ timesOf (preorder f);
+      floats = x .floats ++ floatsOf (preorder f);
+    }
 
--- what `shift_segments` and `put_segment` ensure
+-- a cleared row before the rest
+abbrev pub andCleared : Three → Three
+andCleared x = record { cells = replicate 8 0 ++ x .cells; times = pos 0 ∷ x .times; floats = zeroFloat ∷ x .floats }
+
+-- what `shift_segments`, `put_segment` and `drop_segment` ensure
 pub record Shifted (at end by : ℕ) (t t′ : Three) : Type 0 where
   pub in-cells : t′ .cells ≡ sets (t .cells) ((at + by) * 8) (part (at * 8) (end * 8) (t .cells))
-  pub in-times : t′ .times ≡ sets (t .times) (at + by) (take (end - at) (drop at (t .times)))
-  pub in-floats : t′ .floats ≡ sets (t .floats) (at + by) (take (end - at) (drop at (t .floats)))
+  pub in-times : t′ .times ≡ shifted at end by (t .times)
+  pub in-floats : t′ .floats ≡ shifted at end by (t .floats)
 
 pub record Put (i rows : ℕ) (s : Segment) (t t′ : Three) : Type 0 where
   pub in-cells : t′ .cells ≡ sets (t .cells) (i * 8) (segmentCells s rows)
   pub in-times : t′ .times ≡ sets (t .times) i (segmentTime s ∷ [])
   pub in-floats : t′ .floats ≡ sets (t .floats) i (segmentSize s ∷ [])
+
+pub record Dropped (at end : ℕ) (t t′ : Three) : Type 0 where
+  pub in-cells : t′ .cells ≡ withoutCells 0 8 (at * 8) (end * 8) (t .cells)
+  pub in-times : t′ .times ≡ withoutCells (pos 0) 1 at end (t .times)
+  pub in-floats : t′ .floats ≡ withoutCells zeroFloat 1 at end (t .floats)

@@ -46,7 +46,8 @@ fn put_cue(cues: &mut [u32], at: usize, x: Cue)
 
 // A cue more, where there are n.
 pub fn add_cue(cues: &mut [u32], times: &mut [i64], n: usize, x: Cue) -> Added
-    requires { ⌜ (22528 ≤ length (now cues)) × (4096 ≤ length (now times)) × SmallSpan (x .style) × SmallSpan (x .region) × SmallRows (x .segments) × SmallRows (x .extras) ⌝ }
+    requires { ⌜ (22528 ≤ length (now cues)) × (4096 ≤ length (now times)) × SmallSpan (x .style) × SmallSpan (x .region)
+        × SmallRows (x .segments) × SmallRows (x .extras) ⌝ }
     ensures { λ r. ⌜ AddPost 2048 11 (cueCells x) (now (cues .entry)) (now (cues .exit)) n r ⌝ }
     ensures { λ r. ⌜ TimesPost (n * 2) (x .start) (x .end) (now (times .entry)) (now (times .exit)) r ⌝ }
 {

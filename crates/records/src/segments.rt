@@ -1,12 +1,15 @@
 // Segments written, and rows shifted to make room for wrappers before rows that stand already.
 ghost use mathlib.Core.Path.{_≡_};
 ghost use mathlib.Core.List.{[], _∷_};
-ghost use Prim.Native.Nat.{_+_, _-_, _*_, _≤_, _<_, _^_};
-ghost use lib.ListN.{length, take, drop};
+ghost use Prim.Native.Nat.{_+_, _*_, _≤_, _<_, _^_};
+ghost use lib.ListN.{length};
 ghost use lib.Seq.{sets};
 ghost use Rattle.scan.specs.Part.{part};
+ghost use lib.IntN.{pos};
+ghost use Rattle.track.specs.Tables.{zeroFloat};
 ghost use Rattle.track.specs.Layout.{fontCells, segmentCells, segmentTime, segmentSize};
 ghost use Rattle.records.specs.Posts.{SmallSpan, SmallSegment, AddPost, ValuePost, TimePost};
+ghost use Rattle.records.specs.Siblings.{shifted, pulled, withoutCells};
 use crate::cells::Added;
 use track::Font;
 use track::Rgb;
@@ -100,7 +103,8 @@ pub fn put_segment(
     rows: usize,
     s: Segment,
 )
-    requires { ⌜ (i * 8 + 8 ≤ length (now segments)) × (i + 1 ≤ length (now reveal)) × (i + 1 ≤ length (now sizes)) × (rows < 2 ^ 32) × SmallSegment s ⌝ }
+    requires { ⌜ (i * 8 + 8 ≤ length (now segments)) × (i + 1 ≤ length (now reveal)) × (i + 1 ≤ length (now sizes)) × (rows < 2 ^ 32)
+        × SmallSegment s ⌝ }
     ensures { λ _. ⌜ now (segments .exit) ≡ sets (now (segments .entry)) (i * 8) (segmentCells s rows) ⌝ }
     ensures { λ _. ⌜ now (reveal .exit) ≡ sets (now (reveal .entry)) i (segmentTime s ∷ []) ⌝ }
     ensures { λ _. ⌜ now (sizes .exit) ≡ sets (now (sizes .entry)) i (segmentSize s ∷ []) ⌝ }
@@ -119,7 +123,8 @@ pub fn add_segment(
     rows: usize,
     s: Segment,
 ) -> Added
-    requires { ⌜ (131072 ≤ length (now segments)) × (16384 ≤ length (now reveal)) × (16384 ≤ length (now sizes)) × (rows < 2 ^ 32) × SmallSegment s ⌝ }
+    requires { ⌜ (131072 ≤ length (now segments)) × (16384 ≤ length (now reveal)) × (16384 ≤ length (now sizes)) × (rows < 2 ^ 32)
+        × SmallSegment s ⌝ }
     ensures { λ r. ⌜ AddPost 16384 8 (segmentCells s rows) (now (segments .entry)) (now (segments .exit)) n r ⌝ }
     ensures { λ r. ⌜ TimePost n (segmentTime s) (now (reveal .entry)) (now (reveal .exit)) r ⌝ }
     ensures { λ r. ⌜ ValuePost n (segmentSize s) (now (sizes .entry)) (now (sizes .exit)) r ⌝ }
@@ -134,7 +139,7 @@ pub fn add_segment(
 // Cells from `at` up to `end`, moved by so many places toward the end.
 fn shift_cells(cells: &mut [u32], at: usize, end: usize, by: usize)
     requires { ⌜ (at ≤ end) × (end + by ≤ length (now cells)) ⌝ }
-    ensures { λ _. ⌜ now (cells .exit) ≡ sets (now (cells .entry)) (at + by) (part at end (now (cells .entry))) ⌝ }
+    ensures { λ _. ⌜ now (cells .exit) ≡ shifted at end by (now (cells .entry)) ⌝ }
 {
     let mut i = end;
     while at < i {
@@ -145,7 +150,7 @@ fn shift_cells(cells: &mut [u32], at: usize, end: usize, by: usize)
 
 fn shift_times(cells: &mut [i64], at: usize, end: usize, by: usize)
     requires { ⌜ (at ≤ end) × (end + by ≤ length (now cells)) ⌝ }
-    ensures { λ _. ⌜ now (cells .exit) ≡ sets (now (cells .entry)) (at + by) (take (end - at) (drop at (now (cells .entry)))) ⌝ }
+    ensures { λ _. ⌜ now (cells .exit) ≡ shifted at end by (now (cells .entry)) ⌝ }
 {
     let mut i = end;
     while at < i {
@@ -156,7 +161,7 @@ fn shift_times(cells: &mut [i64], at: usize, end: usize, by: usize)
 
 fn shift_sizes(cells: &mut [f32], at: usize, end: usize, by: usize)
     requires { ⌜ (at ≤ end) × (end + by ≤ length (now cells)) ⌝ }
-    ensures { λ _. ⌜ now (cells .exit) ≡ sets (now (cells .entry)) (at + by) (take (end - at) (drop at (now (cells .entry)))) ⌝ }
+    ensures { λ _. ⌜ now (cells .exit) ≡ shifted at end by (now (cells .entry)) ⌝ }
 {
     let mut i = end;
     while at < i {
@@ -176,10 +181,65 @@ pub fn shift_segments(
 )
     requires { ⌜ (at ≤ end) × ((end + by) * 8 ≤ length (now segments)) × (end + by ≤ length (now reveal)) × (end + by ≤ length (now sizes)) ⌝ }
     ensures { λ _. ⌜ now (segments .exit) ≡ sets (now (segments .entry)) ((at + by) * 8) (part (at * 8) (end * 8) (now (segments .entry))) ⌝ }
-    ensures { λ _. ⌜ now (reveal .exit) ≡ sets (now (reveal .entry)) (at + by) (take (end - at) (drop at (now (reveal .entry)))) ⌝ }
-    ensures { λ _. ⌜ now (sizes .exit) ≡ sets (now (sizes .entry)) (at + by) (take (end - at) (drop at (now (sizes .entry)))) ⌝ }
+    ensures { λ _. ⌜ now (reveal .exit) ≡ shifted at end by (now (reveal .entry)) ⌝ }
+    ensures { λ _. ⌜ now (sizes .exit) ≡ shifted at end by (now (sizes .entry)) ⌝ }
 {
     shift_cells(segments, at * 8, end * 8, by * 8);
     shift_times(reveal, at, end, by);
     shift_sizes(sizes, at, end, by);
+}
+
+// Cells from `at + by` up to `end`, moved by so many places toward the start.
+fn pull_cells(cells: &mut [u32], at: usize, end: usize, by: usize)
+    requires { ⌜ (at + by ≤ end) × (end ≤ length (now cells)) ⌝ }
+    ensures { λ _. ⌜ now (cells .exit) ≡ pulled at end by (now (cells .entry)) ⌝ }
+{
+    let mut i = at + by;
+    while i < end {
+        cells[i - by] = cells[i];
+        i += 1;
+    }
+}
+
+fn pull_times(cells: &mut [i64], at: usize, end: usize, by: usize)
+    requires { ⌜ (at + by ≤ end) × (end ≤ length (now cells)) ⌝ }
+    ensures { λ _. ⌜ now (cells .exit) ≡ pulled at end by (now (cells .entry)) ⌝ }
+{
+    let mut i = at + by;
+    while i < end {
+        cells[i - by] = cells[i];
+        i += 1;
+    }
+}
+
+fn pull_sizes(cells: &mut [f32], at: usize, end: usize, by: usize)
+    requires { ⌜ (at + by ≤ end) × (end ≤ length (now cells)) ⌝ }
+    ensures { λ _. ⌜ now (cells .exit) ≡ pulled at end by (now (cells .entry)) ⌝ }
+{
+    let mut i = at + by;
+    while i < end {
+        cells[i - by] = cells[i];
+        i += 1;
+    }
+}
+
+// Row `at` dropped: the rows after it, up to `end`, stand one row earlier, and the last row is cleared.
+pub fn drop_segment(
+    segments: &mut [u32],
+    reveal: &mut [i64],
+    sizes: &mut [f32],
+    at: usize,
+    end: usize,
+)
+    requires { ⌜ (at < end) × (end * 8 ≤ length (now segments)) × (end ≤ length (now reveal)) × (end ≤ length (now sizes)) ⌝ }
+    ensures { λ _. ⌜ now (segments .exit) ≡ withoutCells 0 8 (at * 8) (end * 8) (now (segments .entry)) ⌝ }
+    ensures { λ _. ⌜ now (reveal .exit) ≡ withoutCells (pos 0) 1 at end (now (reveal .entry)) ⌝ }
+    ensures { λ _. ⌜ now (sizes .exit) ≡ withoutCells zeroFloat 1 at end (now (sizes .entry)) ⌝ }
+{
+    pull_cells(segments, at * 8, end * 8, 8);
+    put_kind(segments, end * 8 - 8, 0, 0);
+    pull_times(reveal, at, end, 1);
+    reveal[end - 1] = 0;
+    pull_sizes(sizes, at, end, 1);
+    sizes[end - 1] = 0.0;
 }

@@ -71,7 +71,8 @@ fn look_at(styles: &[u32], at: usize, value: f32) -> Look
 }
 
 pub fn style_at(styles: &[u32], sizes: &[f32], i: usize) -> Style
-    requires { ⌜ (i * 27 + 27 ≤ length (now styles)) × (16384 + i + 1 ≤ length (now sizes)) × (isColor (now styles) (i * 27 + 4) ≡ true) × (isColor (now styles) (i * 27 + 9) ≡ true) ⌝ }
+    requires { ⌜ (i * 27 + 27 ≤ length (now styles)) × (16384 + i + 1 ≤ length (now sizes)) × (isColor (now styles) (i * 27 + 4) ≡ true)
+        × (isColor (now styles) (i * 27 + 9) ≡ true) ⌝ }
     ensures { λ r. ⌜ r ≡ styleAt (now (styles .entry)) (now (sizes .entry)) i ⌝ }
 {
     let at = i * 27;
@@ -113,7 +114,8 @@ fn put_look(styles: &mut [u32], at: usize, x: Look)
 }
 
 fn put_style(styles: &mut [u32], at: usize, x: Style)
-    requires { ⌜ (at + 27 ≤ length (now styles)) × SmallSpan (x .name) × SmallSpan (x .chain) × SmallSpan (x .look .family) × SmallRows (x .extras) ⌝ }
+    requires { ⌜ (at + 27 ≤ length (now styles)) × SmallSpan (x .name) × SmallSpan (x .chain) × SmallSpan (x .look .family)
+        × SmallRows (x .extras) ⌝ }
     ensures { λ _. ⌜ now (styles .exit) ≡ sets (now (styles .entry)) at (styleCells x) ⌝ }
 {
     let name = x.name;
@@ -136,7 +138,8 @@ fn size_value(x: Look) -> f32
 
 // A style more, where there are n.
 pub fn add_style(styles: &mut [u32], sizes: &mut [f32], n: usize, x: Style) -> Added
-    requires { ⌜ (6912 ≤ length (now styles)) × (16640 ≤ length (now sizes)) × SmallSpan (x .name) × SmallSpan (x .chain) × SmallSpan (x .look .family) × SmallRows (x .extras) ⌝ }
+    requires { ⌜ (6912 ≤ length (now styles)) × (16640 ≤ length (now sizes)) × SmallSpan (x .name) × SmallSpan (x .chain)
+        × SmallSpan (x .look .family) × SmallRows (x .extras) ⌝ }
     ensures { λ r. ⌜ AddPost 256 27 (styleCells x) (now (styles .entry)) (now (styles .exit)) n r ⌝ }
     ensures { λ r. ⌜ ValuePost (16384 + n) (sizeValue (x .look .«has_size») (x .look .size)) (now (sizes .entry)) (now (sizes .exit)) r ⌝ }
 {

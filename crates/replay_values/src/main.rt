@@ -1,7 +1,5 @@
 // Replays recorded answers of the Rust on decimals, times and colours: the list on standard input
-// says how it was made. A line is a kind, the bytes that were given and the bytes that the Rust
-// answered, in hexadecimal, `-` for none. Prints each line that these libraries answer otherwise,
-// and the counts.
+// says how it was made. Prints each line that these libraries answer otherwise, and the counts.
 //
 //     kind  given                                  answered
 //     f     a text, read as a decimal              the 8 bytes of its f64
@@ -15,124 +13,43 @@
 // announces: 1 the 8 bytes of a frame rate, 2 of a tick rate, 3 of both in this order, 0 none. Where
 // a text is none of its kind no bytes are answered, and where it meets a number of document 01,
 // that number as one byte.
-ghost use Prim.Native.Nat.{_+_, _^_, _≤_, _<_};
-ghost use lib.ListN.{length};
+ghost use Prim.Native.Nat.{_+_, _^_, _<_};
 use colors::Color;
 use colors::Rgba;
 use decimals::Decimal;
 use decimals::Size;
-use libc::STDOUT_FILENO;
+use replaying::Tally;
 use scan::Written;
 use times::Time;
 use times::TimingCtx;
 
-struct Tally {
-    agree: u64,
-    differ: u64,
-}
-
 fn main() {
     let mut space = [0u8; 262144];
     let got = io::read_full(libc::STDIN_FILENO, &mut space);
-    let tally = replay(&space[..got]);
-    io::print_decimal(STDOUT_FILENO, tally.agree);
-    io::write_all(STDOUT_FILENO, b" agree, ");
-    io::print_decimal(STDOUT_FILENO, tally.differ);
-    io::write_all(STDOUT_FILENO, b" differ\n");
+    replaying::print_tally(replay(&space[..got]));
 }
 
 // Every line of the list.
 fn replay(list: &[u8]) -> Tally {
-    let mut tally = Tally {
-        agree: 0,
-        differ: 0,
-    };
+    let mut tally = replaying::no_lines();
     let mut pos = 0;
     while pos < list.len() {
         let end = scan::find_byte(list, pos, b'\n');
-        tally = counted(tally, &list[pos..end]);
+        tally = replaying::counted(tally, &list[pos..end], agrees(&list[pos..end]));
         pos = end + 1;
     }
     tally
 }
 
-// One line counted, and printed if it differs; an empty one and a remark do not count.
-fn counted(tally: Tally, line: &[u8]) -> Tally
-    requires { ⌜ tally .agree + tally .differ < 2 ^ 63 ⌝ }
-    ensures { λ r. ⌜ r .agree + r .differ ≤ tally .agree + tally .differ + 1 ⌝ }
-{
-    if line.len() == 0 {
-        return tally;
-    }
-    if line[0] == b'#' {
-        return tally;
-    }
-    if agrees(line) {
-        return Tally {
-            agree: tally.agree + 1,
-            differ: tally.differ,
-        };
-    }
-    io::write_all(STDOUT_FILENO, line);
-    io::write_all(STDOUT_FILENO, b"\n");
-    Tally {
-        agree: tally.agree,
-        differ: tally.differ + 1,
-    }
-}
-
-// Do these libraries answer what the line says? A line that is too long for the tables differs.
+// Do these libraries answer what the line says?
 fn agrees(line: &[u8]) -> bool {
-    if line.len() < 4 {
-        return false;
-    }
-    if 1024 < line.len() {
-        return false;
-    }
-    let gap = scan::find_byte(line, 2, b' ');
-    if line.len() <= gap {
-        return false;
-    }
     let mut given = [0u8; 512];
     let mut told = [0u8; 512];
-    let n = unhex(&line[2..gap], &mut given);
-    let m = unhex(&line[gap + 1..], &mut told);
-    tells(line[0], &given[..n], &told[..m])
-}
-
-// The bytes that a field of hexadecimal digits spells, as many as fit.
-fn unhex(field: &[u8], out: &mut [u8]) -> usize
-    ensures { λ r. ⌜ r ≤ length (now (out .entry)) ⌝ }
-{
-    let mut n = 0;
-    while n < out.len() {
-        let i = 2 * n;
-        if field.len() <= i + 1 {
-            return n;
-        }
-        let high = nibble(field[i]);
-        let low = nibble(field[i + 1]);
-        if 15 < high {
-            return n;
-        }
-        if 15 < low {
-            return n;
-        }
-        out[n] = high * 16 + low;
-        n += 1;
+    let fields = replaying::read_line(line, &mut given, &mut told);
+    if fields.whole {
+        return tells(fields.kind, &given[..fields.given], &told[..fields.told]);
     }
-    n
-}
-
-// A hexadecimal digit's value, or 16.
-fn nibble(b: u8) -> u8
-    ensures { λ r. ⌜ r ≤ 16 ⌝ }
-{
-    match b {
-        b'0'..=b'9' => b - 48,
-        b'a'..=b'f' => b - 87,
-        _ => 16,
-    }
+    false
 }
 
 // Is what was told what the libraries answer?

@@ -11,6 +11,9 @@ Inv-loop list tally₀ pos₀ tally pos = (pos ≤ length list + 1) × (tally .a
 abbrev μ-loop : tie.MeasureT-loop
 μ-loop list tally₀ pos₀ tally pos = length list + 1 - pos
 
+no-lines-requires : tie.Need-no-lines-requires Inv-loop μ-loop
+no-lines-requires c κs = search needs
+
 loop-holds : tie.Need-loop-holds Inv-loop μ-loop
 loop-holds c = search needs
 
@@ -25,6 +28,18 @@ part-counted-start c = search needs
 
 part-counted-end : tie.Need-part-counted-end Inv-loop μ-loop
 part-counted-end c = search needs
+
+sub-agrees : tie.Need-sub-agrees Inv-loop μ-loop
+sub-agrees c = search needs
+
+part-agrees-start : tie.Need-part-agrees-start Inv-loop μ-loop
+part-agrees-start c = search needs
+
+part-agrees-end : tie.Need-part-agrees-end Inv-loop μ-loop
+part-agrees-end c = search needs
+
+agrees-requires : tie.Need-agrees-requires Inv-loop μ-loop
+agrees-requires c κs = search needs
 
 counted-requires : tie.Need-counted-requires Inv-loop μ-loop
 counted-requires c κs = search needs
@@ -47,11 +62,16 @@ replay-spec =
     (tie.spec
     Inv-loop
     μ-loop
+    no-lines-requires
     loop-holds
     find-byte-requires
     sub-counted
     part-counted-start
     part-counted-end
+    sub-agrees
+    part-agrees-start
+    part-agrees-end
+    agrees-requires
     counted-requires
     add-pos
     loop-less

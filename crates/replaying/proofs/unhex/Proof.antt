@@ -4,8 +4,8 @@ use mathlib.Core.Path.{_≡_}
 use native.Mathlib.Omega.{arith}
 use lib.ListN.{length, length-set}
 use borrow.Author.Needs.{needs}
-use Rattle.replay_values.proofs.unhex.Statement.{statement}
-use Rattle.replay_values.proofs.unhex.Tie as tie
+use Rattle.replaying.proofs.unhex.Statement.{statement}
+use Rattle.replaying.proofs.unhex.Tie as tie
 
 abbrev Inv-loop : tie.InvT-loop
 Inv-loop field out₀ n₀ out n = (n ≤ length out) × (length out ≡ length out₀)
