@@ -15,6 +15,7 @@ mod reach;
 mod record;
 mod sheets;
 mod tables;
+mod tracks;
 
 use layers::{LAYERS, Layer};
 use std::process::ExitCode;
