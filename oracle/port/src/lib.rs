@@ -174,41 +174,4 @@ exports! {
         out: &mut [u64],
         size: &mut [f32]
     ) -> u32;
-
-    /// `write` on a handed track: 0, or document 01's number. `count` is the place of a refusal, and how many bytes stand
-    /// at the start of `out`. `u32::MAX` if it has fewer than 2 cells; then `out` is not touched.
-    fn probe_write(
-        head: &[u32],
-        params: &[u32],
-        styles: &[u32],
-        regions: &[u32],
-        cues: &[u32],
-        times: &[i64],
-        segments: &[u32],
-        reveal: &[i64],
-        sizes: &[f32],
-        extras: &[u32],
-        strings: &[u8],
-        texts: &[u8],
-        out: &mut [u8],
-        count: &mut [u64]
-    ) -> u32;
-    /// `cue_to_bytes`; the same.
-    fn probe_cue_to_bytes(
-        head: &[u32],
-        params: &[u32],
-        styles: &[u32],
-        regions: &[u32],
-        cues: &[u32],
-        times: &[i64],
-        segments: &[u32],
-        reveal: &[i64],
-        sizes: &[f32],
-        extras: &[u32],
-        strings: &[u8],
-        texts: &[u8],
-        index: usize,
-        out: &mut [u8],
-        count: &mut [u64]
-    ) -> u32;
 }

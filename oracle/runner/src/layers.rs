@@ -9,7 +9,6 @@ pub mod styles;
 pub mod times;
 pub mod tree;
 pub mod utf8;
-pub mod write;
 
 use crate::bench::Bench;
 use crate::compare::Run;
@@ -25,7 +24,6 @@ pub static LAYERS: &[Layer] = &[
     times::LAYER,
     colors::LAYER,
     styles::LAYER,
-    write::LAYER,
 ];
 
 pub struct Layer {

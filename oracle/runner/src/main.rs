@@ -15,7 +15,6 @@ mod reach;
 mod record;
 mod sheets;
 mod tables;
-mod tracks;
 
 use layers::{LAYERS, Layer};
 use std::process::ExitCode;

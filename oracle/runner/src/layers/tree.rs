@@ -67,7 +67,7 @@ fn compare(run: &mut Run) {
 }
 
 /// The Rust calls itself for each open element and for each comment: with a stack that holds any text.
-pub fn deep(work: impl FnOnce() + Send) {
+fn deep(work: impl FnOnce() + Send) {
     thread::scope(|scope| {
         let thread = thread::Builder::new().stack_size(1 << 30);
         thread.spawn_scoped(scope, work).expect("no thread").join().expect("stopped");
