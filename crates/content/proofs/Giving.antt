@@ -143,7 +143,8 @@ module _ (sp : Space) (before : Before) (p m : ℕ) (b : List ℕ) (place first 
   module _ (low : hi ≤ p) (room : p + m ≤ length y) (short : length b ≤ m) (wr : Written left b before p y y′ c) where
     abbrev gives : (s′ : Three) → Collecting → Type 0
     gives s′ r =
-        Given place first n hi (p + m) (edge (lastOf before b)) (λ f. joined f (textSegment withPlaces (textIn withPlaces sp before whole))) s y s′ y′ r
+        Given place first n hi (p + m) (edge (lastOf before b)) (λ f. joined f (textSegment withPlaces
+            (textIn withPlaces sp before whole))) s y s′ y′ r
 
     pub text-none : n ≤ 16384 → c .len ≡ 0 → gives s (Collecting.Is (record { rows = n; boundary = c .boundary }))
     text-none few e =
@@ -161,11 +162,13 @@ module _ (sp : Space) (before : Before) (p m : ℕ) (b : List ℕ) (place first 
         let some : isEmpty left ≡ false = some-of left (λ h. e (wr .long ∙ h)) in
         let x : Placed = record { place = p; bytes = left } in
         let segment : textSegment withPlaces (textIn withPlaces sp before whole) ≡ track.text x track.done = rw some (rw (text-is sp before p b)) in
-        let one : preorder (spansIn (track.text x track.done)) ≡ record { segment = Segment.Text (record { place = p; len = c .len }); rows = 1 } ∷ [] =
+        let one : preorder (spansIn (track.text x track.done)) ≡ record { segment = Segment.Text
+        (record { place = p; len = c .len }); rows = 1 } ∷ [] =
         text-one (spanIn x) ∙ rw (wr .long) in
         let short′ : length left ≤ m = omega (arith, wr .long, wr .within) in
         rw (segment, ← (wr .flag))
-        (add-given (Segment.Text (record { place = p; len = c .len })) (track.text x track.done) one place first n hi (p + m) (c .boundary) (λ f. f) s s s′
+        (add-given (Segment.Text (record { place = p; len = c .len })) (track.text x track.done) one place first n hi (p + m) (c .boundary)
+        (λ f. f) s s s′
         y y′ wide (λ w f h. (h .rows, rw (wr .laid) (laid-text (h .texts) p m left low short′ room))) a u v r)
 
 -- ---- a break
@@ -192,10 +195,12 @@ pub break-given : (ws : WsMode) (place hi first n : ℕ) (t t₁ : List ℕ) (u 
     → Ends ws first n t y t₁ y′ → Wide (three t₁ u v) → (a : Added)
     → AddPost 16384 8 (segmentCells Segment.Break 1) t₁ (s′ .cells) n a → TimePost n (segmentTime Segment.Break) u (s′ .times) a
     → ValuePost n (segmentSize Segment.Break) v (s′ .floats) a
-    → Given place first n hi hi true (λ f. joined (ended withPlaces (spaceIn ws) f) (track.break track.done)) (three t u v) y s′ y′ (addedIn a true place)
+    → Given place first n hi hi true (λ f. joined (ended withPlaces (spaceIn ws) f) (track.break track.done)) (three t u v) y s′ y′
+        (addedIn a true place)
 unfolding segmentsBy
 break-given ws place hi first n t t₁ u v s′ y y′ e wide a b c d =
-    add-given Segment.Break (track.break track.done) break-one place first n hi hi true (λ f. ended withPlaces (spaceIn ws) f) (three t u v) (three t₁ u v)
+    add-given Segment.Break (track.break track.done) break-one place first n hi hi true (λ f. ended withPlaces (spaceIn ws) f) (three t u v)
+        (three t₁ u v)
     s′ y y′ wide
     (λ w f h.
     let g = ended-standing ws hi first n t t₁ u v y y′ e w f h in
@@ -264,7 +269,8 @@ module _ (z : List ℕ) where
         each-append v a b,
       )
 
-  pub around-is : (w : read.Wrappers) (b : Bool) → b ≡ (w .font .«has_family» || w .font .«has_size») → w .font .family .place + w .font .family .len ≤ length z
+  pub around-is : (w : read.Wrappers) (b : Bool) → b ≡ (w .font .«has_family» || w .font .«has_size»)
+      → w .font .family .place + w .font .family .len ≤ length z
       → wrappersFrom (record {
         «has_font» = b;
         font = w .font;
@@ -281,7 +287,7 @@ module _ (z : List ℕ) where
       let font = w .font in
       rw (
         six (fontIn z font) (colorIf (w .«has_color») (w .color)) (wrapIf (w .strike) track.strike) (wrapIf (w .underline) track.underline)
-        (wrapIf (w .italic) track.italic) (wrapIf (w .bold) track.bold),
+            (wrapIf (w .italic) track.italic) (wrapIf (w .bold) track.bold),
         e,
         font-same (font .«has_family») (font .«has_size») (font .family .place) (font .family .len) (font .size) h,
         color-same (w .«has_color») (w .color),

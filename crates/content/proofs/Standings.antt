@@ -172,7 +172,8 @@ module _ {f : Segments Placed} {base y : List ℕ} {lo hi : ℕ} (h : Laid f [] 
       let is : y′ ≡ lay base (textsIn f ++ textsIn g) =
       laid-is k ∙ ap (λ (b : List ℕ). lay b (textsIn g)) (laid-is h) ∙ sym (lay-append (textsIn f) (textsIn g) base) in
       laid-of (is ∙ ap (lay base) (sym (texts-joined f g)))
-      (rw (texts-joined f g) (turn-append (textsIn f) (textsIn g) lo hi m (laid-order h) (laid-order k))) (omega (arith, laid-long, k .room)) (h .blank)
+      (rw (texts-joined f g) (turn-append (textsIn f) (textsIn g) lo hi m (laid-order h) (laid-order k))) (omega (arith, laid-long, k .room))
+      (h .blank)
 
   -- a text more, at p, which may be longer by then than what is written
   pub laid-text : (p n : ℕ) (b : List ℕ) → hi ≤ p → length b ≤ n → p + n ≤ length y
@@ -232,7 +233,8 @@ module _ {w : Frame} {hi first n : ℕ} {f : Segments Placed} {s : Three} {y : L
       → Standing w hi′ first m (joined f g) s′ y′
   standing-join limit m hi′ g s′ y′ k j =
       let a : Stands (w .pre) (later (m - n) (later (n - first) (w .rest))) first m (joined (spansIn f) (spansIn g)) s′ =
-      stands-join (w .pre) (later (n - first) (w .rest)) first n (spansIn f) s (h .rows) (later (m - n) (later (n - first) (w .rest))) m (spansIn g) s′
+      stands-join (w .pre) (later (n - first) (w .rest)) first n (spansIn f) s (h .rows) (later (m - n) (later (n - first) (w .rest))) m
+          (spansIn g) s′
       (j .rows) in
       record {
         rows = rw (later-to first n m (w .rest) (omega (arith, standing-count)) k, spans-joined f g) at a;
