@@ -4,9 +4,9 @@
 --     ended-standing, break-given     what a break trims, and the break
 --     span-given                      a span
 --     around-is                       the wrappers of an element as they are put around rows
-use Prim.Native.Nat.{ℕ, zero, suc, _+_, _-_, _*_, _≤_, _<_}
+use Prim.Native.Nat.{ℕ, _+_, _-_, _≤_}
 use mathlib.Core.Path.{_≡_, refl, sym, ap, _∙_}
-use mathlib.Core.Bool.{Bool, true, false, cond, _||_}
+use mathlib.Core.Bool.{Bool, true, false, _||_}
 use mathlib.Core.List.{List, [], _∷_, _++_, append-nil}
 use mathlib.Core.Option.{none, some}
 use native.Mathlib.Omega.{arith}
@@ -15,11 +15,9 @@ use lib.IntN.{ℤ}
 use lib.Ieee.{Float}
 use lib.ListN.{length}
 use lib.Seq.{sets}
-use Rattle.scan.specs.Part.{stringAt}
 use Rattle.decimals.specs.declared.size.Size.{Size}
 use Rattle.track.specs.declared.strings.Span.{Span}
 use Rattle.track.specs.declared.segments.Rgb.{Rgb}
-use Rattle.track.specs.declared.segments.Font.{Font}
 use Rattle.track.specs.declared.segments.Segment.{Segment}
 use Rattle.track.specs.Track.{Wrapper, Segments, segmentRows}
 use Rattle.track.specs.Track as track
@@ -47,8 +45,8 @@ use Rattle.styling.specs.Posts as posts
 use Rattle.inline.specs.declared.collapse.Collapsed.{Collapsed}
 use Rattle.inline.specs.declared.wrappers.Wrappers.{Wrappers}
 use Rattle.inline.specs.Texts.{edge, Written}
-use Rattle.inline.specs.Wraps.{three, fontOf, wrappersFrom, stampedIf, Changed, Spanned}
-use Rattle.inline.specs.Stood.{spanIn, spansIn, textsIn, Laid, Trims}
+use Rattle.inline.specs.Wraps.{three, wrappersFrom, stampedIf, Spanned}
+use Rattle.inline.specs.Stood.{spanIn, spansIn, textsIn, Laid}
 use Rattle.inline.proofs.TrimSegments.{order-trimmed}
 use Rattle.inline.proofs.TrimStands.{trim-stands}
 use Rattle.content.specs.declared.collect.Collecting.{Collecting}

@@ -6,16 +6,16 @@
 --     node-row, node-end, text-asks, break-asks, node-attrs, own-asks     what a node's entry says of its row
 --     Along, along-start, along-asks, along-step, along-fail, along-done  the loop over siblings
 --     content-asks, content-no, content-ready, content-left               the content of a p
-use Prim.Native.Nat.{ℕ, zero, suc, _+_, _-_, _*_, _≤_, _<_}
+use Prim.Native.Nat.{ℕ, _+_, _-_, _*_, _≤_, _<_}
 use mathlib.Core.Path.{_≡_, refl, sym, ap, _∙_, subst}
-use mathlib.Core.Bool.{Bool, true, false, cond}
-use mathlib.Core.List.{List, [], _∷_, _++_}
+use mathlib.Core.Bool.{Bool, true, false}
+use mathlib.Core.List.{List, [], _++_}
 use mathlib.Core.Option.{Option, none, some}
 use native.Mathlib.Omega.{arith}
 use lib.IntN.{ℤ}
 use lib.Ieee.{Float}
 use lib.ListN.{length, getD}
-use lib.Dec.{eqb, leb}
+use lib.Dec.{eqb}
 use borrow.Author.Tests.{eqb-true, le-leb, lt-leb}
 use Rattle.unicode.proofs.Utf8Laws.{by-test}
 use Rattle.scan.specs.Part.{stringAt}
@@ -29,16 +29,16 @@ use Rattle.track.specs.Track as track
 use Rattle.track.specs.Layout.{isSome}
 use Rattle.records.specs.Siblings.{joined, Three, later}
 use Rattle.xml.specs.declared.find.Element.{Element}
-use Rattle.xml.specs.Find.{named, Holds, isElement, HasRow, elementRow, TextAt, ElementAt}
+use Rattle.xml.specs.Find.{named, Holds, isElement, HasRow, elementRow, TextAt}
 use Rattle.xml.specs.Reading.{Placed}
-use Rattle.xml.proofs.Lays.{Split, in-split}
+use Rattle.xml.proofs.Lays.{in-split}
 use Rattle.xml.proofs.FindLaws.{holds-text, holds-section, holds-elem, siblings-of, has-row, is-element-text, is-element-section, is-element-elem}
 use Rattle.meaning.specs.Answers.{Answer, is, refused, _>>=_}
 use Rattle.meaning.specs.Words.{ascii}
 use Rattle.meaning.specs.Nodes.{Nodes, nil, text, element}
 use Rattle.meaning.specs.Nodes as nodes
 use Rattle.meaning.specs.Kinds.{withPlaces, nodesIn, attrsIn}
-use Rattle.meaning.specs.Space.{spaceOf, Before, lastOf, Inline, a-break, a-span, unknown, inlineOf, after, textIn, ended}
+use Rattle.meaning.specs.Space.{spaceOf, Before, lastOf, a-break, a-span, unknown, inlineOf, after, textIn, ended}
 use Rattle.meaning.specs.Timing.{timeOf, sum, orZero}
 use Rattle.meaning.specs.Styling.{wrappersOf}
 use Rattle.meaning.specs.Inline.{counted, textSegment, stamped, spanOf, segmentsIn, contentOf}
@@ -49,7 +49,6 @@ use Rattle.styling.specs.Posts.{HasRows, OfRows, spaceIn}
 use Rattle.inline.specs.Texts.{edge}
 use Rattle.inline.specs.Trims.{Ready}
 use Rattle.inline.specs.Wraps.{three, stampedIf}
-use Rattle.inline.specs.Stood.{Laid}
 use Rattle.inline.proofs.Spanning.{stamped-if}
 use Rattle.inline.proofs.TrimStands.{rows-ready}
 use Rattle.content.specs.declared.collect.Run.{Run}

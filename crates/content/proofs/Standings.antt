@@ -4,13 +4,13 @@
 --     laid-is, laid-order, laid-long, laid-text                what `Laid` says where nothing follows; a text more
 --     standing-count, standing-higher, standing-low            what stands, in rows and bytes
 --     standing-own, standing-join                              a list of its own, after what stands; with it
-use Prim.Native.Nat.{ℕ, zero, suc, _+_, _-_, _*_, _≤_, _<_}
+use Prim.Native.Nat.{ℕ, _+_, _-_, _*_, _≤_}
 use mathlib.Core.Path.{_≡_, refl, sym, ap, _∙_}
-use mathlib.Core.Bool.{Bool, true, false, cond}
+use mathlib.Core.Bool.{Bool, true, false}
 use mathlib.Core.List.{List, [], _∷_, _++_, append-assoc, append-nil}
 use native.Mathlib.Omega.{arith}
 use lib.IntN.{ℤ}
-use lib.ListN.{length, drop}
+use lib.ListN.{length}
 use lib.Seq.{sets, drop-drop}
 use Rattle.unicode.proofs.Utf8Laws.{by-test}
 use Rattle.track.specs.declared.strings.Span.{Span}
@@ -23,9 +23,9 @@ use Rattle.records.proofs.Standing.{stands-none, stands-join}
 use Rattle.xml.specs.Reading.{Placed, lay}
 use Rattle.xml.proofs.Lays.{Ordered, lay-length, lay-append}
 use Rattle.meaning.specs.Tracks.{wrapperBy, segmentsBy}
-use Rattle.meaning.specs.Inline.{bareFont, spanOf}
+use Rattle.meaning.specs.Inline.{spanOf}
 use Rattle.inline.specs.Wraps.{stampedIf}
-use Rattle.inline.specs.Stood.{spanIn, spansIn, textsIn, Blank, InTurn, Laid}
+use Rattle.inline.specs.Stood.{spansIn, textsIn, Blank, InTurn, Laid}
 use Rattle.inline.proofs.TrimTexts.{lay-blank}
 use Rattle.content.specs.Steps.{Frame, Standing, wrappersBy}
 

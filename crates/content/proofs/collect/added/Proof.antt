@@ -1,5 +1,4 @@
 -- `added` meets its contract. Assumes nothing.
-use Rattle.content.specs.Steps.{addedIn}
 use borrow.Author.Needs.{needs}
 use Rattle.content.proofs.collect.added.Statement.{statement}
 use Rattle.content.proofs.collect.added.Tie as tie

@@ -5,7 +5,7 @@ use Rattle.inline.specs.Wraps.{three}
 use Rattle.xml.proofs.PassForests.{string-long}
 use Rattle.styling.specs.Posts.{spaceIn}
 use Rattle.content.proofs.Giving.{some-before, text-none, text-some}
-use lib.ListN.{length, getD}
+use lib.ListN.{getD}
 use Rattle.scan.specs.Part.{stringAt}
 use Rattle.content.specs.Steps.{placeOf}
 use borrow.Author.Needs.{needs}

@@ -1,6 +1,5 @@
 -- `node_place` meets its contract. Assumes nothing.
 use native.Mathlib.Omega.{arith}
-use lib.Dec.{eqb}
 use borrow.Author.Tests.{ne-eqb}
 use Rattle.content.specs.Steps.{placeOf}
 use borrow.Author.Needs.{needs}

@@ -1,6 +1,5 @@
 -- `wrap_with_style` meets its contract: the wrappers are refused, or put before the rows. Assumes nothing.
 use native.Mathlib.Omega.{arith}
-use lib.ListN.{length}
 use mir.Facts.{toZ-ofZ}
 use Rattle.styling.specs.Posts.{wrappersIn}
 use Rattle.inline.specs.Wraps.{three}
