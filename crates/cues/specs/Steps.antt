@@ -1,16 +1,26 @@
 -- What the readers of cues ask and ensure. This file need not be believed: `parse` promises what is left in the end.
-use Prim.Native.Nat.{ℕ}
+use Prim.Native.Nat.{ℕ, _+_, _-_, _*_, _≤_, _<_}
 use mathlib.Core.Path.{_≡_}
-use mathlib.Core.List.{List}
+use mathlib.Core.Bool.{Bool, false, _&&_}
+use mathlib.Core.List.{List, _++_}
 use mathlib.Core.Option.{Option}
-use lib.IntN.{ℤ}
+use lib.IntN.{ℤ, pos}
+use lib.ListN.{length, replicate}
 use Rattle.times.specs.declared.offset.TimingCtx.{TimingCtx}
+use Rattle.track.specs.declared.strings.Span.{Span}
+use Rattle.track.specs.Track.{Wrapper, Segments, noSegments, segmentRows, isBareFont}
+use Rattle.track.specs.Track as track
+use Rattle.track.specs.Tables.{zeroFloat}
+use Rattle.track.specs.Layout.{preorder}
+use Rattle.records.specs.declared.cells.Added.{Added}
+use Rattle.records.specs.Siblings.{Three, Stands, cellsOf, later}
 use Rattle.xml.specs.Reading.{Placed}
 use Rattle.meaning.specs.Answers.{Answer, is, _>>=_}
 use Rattle.meaning.specs.Words.{ascii}
 use Rattle.meaning.specs.Nodes.{Attr}
 use Rattle.meaning.specs.Kinds.{withPlaces}
 use Rattle.meaning.specs.Timing.{timeOf, sum, orZero, endOf, lastingTo}
+use Rattle.meaning.specs.Inline.{paragraphOf}
 use Rattle.styling.specs.Posts.{given, turned}
 use Rattle.cues.specs.declared.sums.Moment.{Moment}
 use Rattle.cues.specs.declared.sums.Given.{Given}
@@ -65,3 +75,40 @@ begunFrom ctx place reference begin l = timeOf withPlaces ctx place (ascii "end"
 
 abbrev pub intervalOf : TimingCtx → (place : ℕ) → (reference : ℤ) → List (Attr Placed) → Answer Interval
 intervalOf ctx place reference l = timeOf withPlaces ctx place (ascii "begin") l >>= λ begin. begunFrom ctx place reference begin l
+
+-- ---- what a p's attributes put around its rows
+
+-- it is a bare font, which dissolves
+abbrev pub isBare : Segments Span → Bool
+isBare track.done = false
+isBare (track.text s x) = false
+isBare (track.break x) = false
+isBare (track.timestamp z x) = false
+isBare (track.wrap w c x) = isBareFont w && noSegments x
+
+-- r says whether the rows `first` up to `end`, whatever segments stand there, are one
+abbrev pub TellsBare : List ℕ → (first end : ℕ) → Bool → Type 0
+TellsBare t first end r =
+    (pre rest : List ℕ) (f : Segments Span) → length pre ≡ first * 8 → t ≡ pre ++ (cellsOf (preorder f) ++ rest) → end ≡ first + segmentRows f
+    → r ≡ isBare f
+
+-- k cleared rows, and then x
+abbrev pub cleared : ℕ → Three → Three
+cleared k x = record {
+  cells = replicate (k * 8) 0 ++ x .cells;
+  times = replicate k (pos 0) ++ x .times;
+  floats = replicate k zeroFloat ++ x .floats;
+}
+
+-- what stands after row m, where x stood after row `end`
+abbrev pub onward : (end m : ℕ) → Three → Three
+onward end m x = later (m - end) (cleared (end - m) x)
+
+-- The rows `first` up to `end` of the tables t, whatever segments stand there, are now a p around these, up to row m; or there would be more
+-- than 16,384 rows.
+abbrev pub Paragraphed : (first end : ℕ) → List (Wrapper Span) → (t t′ : Three) → Added → Type 0
+Paragraphed first end ws t t′ (Added.Next m) =
+    (m ≤ 16384)
+    × ((pre rest : Three) (f : Segments Span) → Stands pre rest first end f t → Stands pre (onward end m rest) first m (paragraphOf ws f) t′)
+Paragraphed first end ws t t′ Added.Full =
+    (pre rest : Three) (f : Segments Span) → Stands pre rest first end f t → 16384 < first + segmentRows (paragraphOf ws f)

@@ -1,6 +1,8 @@
 // Cues in their time containers.
+mod paragraph;
 mod sums;
 
+pub use paragraph::put_paragraph;
 pub use sums::Interval;
 pub use sums::Moment;
 pub use sums::Timed;
