@@ -1,30 +1,43 @@
 -- A p around rows that stand. Assumes nothing.
 --     bare-none, bare-more, bare-other, bare-named, bare-read      whether rows are a bare font, read from the first row
 --     par-full, par-more, par-same, par-drop                       what `put_paragraph` ensures, by its ways
+--     wrap-given, styled-some, styled-none                         what a p's attributes make of its content
 use Prim.Native.Nat.{ℕ, _+_, _-_, _*_, _≤_, _<_}
 use mathlib.Core.Path.{_≡_, refl, sym, _∙_}
 use mathlib.Core.Bool.{Bool, true, false, cond, _&&_, and-false}
-use mathlib.Core.List.{List, [], _∷_, _++_, append-assoc}
+use mathlib.Core.List.{List, [], _∷_, _++_, append-assoc, append-nil}
 use mathlib.Core.Option.{none, some}
 use native.Mathlib.Omega.{arith}
 use native.Mathlib.Nat.{add-zero}
-use lib.IntN.{ℤ}
+use lib.IntN.{ℤ, pos}
 use lib.Dec.{eqb}
 use lib.ListN.{length, getD}
 use lib.Seq.{getD-append-add}
-use borrow.Author.Tests.{eq-eqb, ne-eqb}
+use borrow.Author.Tests.{eq-eqb, ne-eqb, le-leb, lt-leb}
+use Rattle.unicode.proofs.Utf8Laws.{by-test}
+use Rattle.times.specs.declared.offset.TimingCtx.{TimingCtx}
 use Rattle.track.specs.declared.strings.Span.{Span}
 use Rattle.track.specs.Track.{Wrapper, Segments, noSegments, oneSegment, segmentRows, isBareFont}
 use Rattle.track.specs.Track as track
-use Rattle.track.specs.Layout.{preorder, joinedCells, sizeCells, fontCells, segmentCells, wrapperOf}
+use Rattle.track.specs.Layout.{each, preorder, joinedCells, sizeCells, fontCells, segmentCells, wrapperOf}
 use Rattle.records.specs.declared.cells.Added.{Added}
 use Rattle.records.specs.Siblings.{rowCells, cellsOf, Three, Stands, later, wrapped, Dropped}
 use Rattle.records.proofs.SegmentRows.{rows-wrapped}
 use Rattle.records.proofs.Standing.{stands-unwrap}
-use Rattle.meaning.specs.Inline.{paragraphOf, dissolved}
-use Rattle.inline.specs.Wraps.{stampedIf}
+use Rattle.xml.specs.Reading.{Placed}
+use Rattle.meaning.specs.Answers.{Answer, is}
+use Rattle.meaning.specs.Nodes.{Attr}
+use Rattle.meaning.specs.Kinds.{withPlaces}
+use Rattle.meaning.specs.Tracks.{wrapperBy, segmentsBy}
+use Rattle.meaning.specs.Styling.{isModelled, wrappersOf}
+use Rattle.meaning.specs.Inline.{spanOf, paragraphOf, dissolved, counted}
+use Rattle.meaning.specs.Cues.{styled}
+use Rattle.inline.specs.Stood.{spanIn, spansIn, textsIn}
 use Rattle.inline.proofs.Spanning.{first-rows}
-use Rattle.cues.specs.Steps.{isBare, TellsBare, cleared, onward, Paragraphed}
+use Rattle.content.specs.Steps.{wrappersBy}
+use Rattle.content.proofs.Standings.{rows-spans, spans-span, texts-stamped}
+use Rattle.cues.specs.declared.paragraph.Styled.{Styled}
+use Rattle.cues.specs.Steps.{isBare, TellsBare, cleared, onward, Paragraphed, styledIn, StyledGiven, dressing}
 
 pub never : {A : Type 0} → false ≡ true → A
 never e = absurd (let z : _≡_ {A = ℕ} 0 1 = cc in omega arith)
@@ -265,3 +278,118 @@ module _ (first end : ℕ) (ws : List (Wrapper Span)) (t t₁ : Three) where
           let n : isBare f ≡ true = sym (b (pre .cells) (rest .cells) f (a .1 .before .0) (a .1 .in-cells) (a .1 .count)) in
           rw (a .0) (unwrapped first end pre rest f t₁ t₂ (a .1) n d),
     )
+
+-- ---- by places and lengths
+
+bare-by : (w : Wrapper Placed) → isBareFont (wrapperBy spanIn w) ≡ isBareFont w
+unfolding wrapperBy isBareFont
+bare-by track.bold = refl
+bare-by track.italic = refl
+bare-by track.underline = refl
+bare-by track.strike = refl
+bare-by (track.color c) = refl
+bare-by (track.font none none) = refl
+bare-by (track.font none (some s)) = refl
+bare-by (track.font (some a) s) = refl
+
+none-by : (x : Segments Placed) → noSegments (spansIn x) ≡ noSegments x
+unfolding noSegments segmentsBy
+none-by track.done = refl
+none-by (track.text s x) = refl
+none-by (track.break x) = refl
+none-by (track.timestamp z x) = refl
+none-by (track.wrap w c x) = refl
+
+spans-dissolved : (f : Segments Placed) → dissolved (spansIn f) ≡ spansIn (dissolved f)
+unfolding segmentsBy
+spans-dissolved track.done = refl
+spans-dissolved (track.text s x) = refl
+spans-dissolved (track.break x) = refl
+spans-dissolved (track.timestamp z x) = refl
+spans-dissolved (track.wrap w c x) =
+    by-test (isBareFont w && noSegments x) (λ e. rw (bare-by w, none-by x, e)) (λ e. rw (bare-by w, none-by x, e))
+
+spans-par : (l : List (Wrapper Placed)) (f : Segments Placed) → paragraphOf (wrappersBy l) (spansIn f) ≡ spansIn (paragraphOf l f)
+unfolding paragraphOf spanOf each
+spans-par [] f = spans-dissolved f
+spans-par (w ∷ l) f = spans-span (w ∷ l) f
+
+no-texts : (x : Segments Placed) → noSegments x ≡ true → textsIn x ≡ []
+unfolding noSegments textsIn
+no-texts track.done e = refl
+no-texts (track.text s x) e = never e
+no-texts (track.break x) e = never e
+no-texts (track.timestamp s x) e = never e
+no-texts (track.wrap w c x) e = never e
+
+texts-dissolved : (f : Segments Placed) → textsIn (dissolved f) ≡ textsIn f
+unfolding textsIn
+texts-dissolved track.done = refl
+texts-dissolved (track.text s x) = refl
+texts-dissolved (track.break x) = refl
+texts-dissolved (track.timestamp z x) = refl
+texts-dissolved (track.wrap w c x) =
+    by-test (isBareFont w && noSegments x)
+    (λ e. rw (e, no-texts x (both (isBareFont w) (noSegments x) e)) (sym (append-nil (textsIn c)))) (λ e. rw e)
+
+texts-par : (l : List (Wrapper Placed)) (f : Segments Placed) → textsIn (paragraphOf l f) ≡ textsIn f
+unfolding paragraphOf spanOf
+texts-par [] f = texts-dissolved f
+texts-par (w ∷ l) f = texts-stamped false (pos 0) (w ∷ l) f
+
+-- ---- what a p's attributes make of its content
+
+wrap-given : (ws : List (Wrapper Placed)) (place first end : ℕ) (s s′ : Three) (a : Added) → Paragraphed first end (wrappersBy ws) s s′ a
+    → StyledGiven (λ f. counted place first (paragraphOf ws f)) first end s s′ (styledIn a place)
+wrap-given ws place first end s s′ (Added.Next m) h =
+    λ pre rest f x.
+    let r = rw (spans-par ws f) at (h .1 pre rest (spansIn f) x) in
+    let n : first + segmentRows (paragraphOf ws f) ≤ 16384 = omega (arith, h .0, r .count, rows-spans (paragraphOf ws f)) in
+    record {
+      few = h .0;
+      segments = paragraphOf ws f;
+      means = rw (le-leb (first + segmentRows (paragraphOf ws f)) 16384 n);
+      same = texts-par ws f;
+      rows = r;
+    }
+wrap-given ws place first end s s′ Added.Full h =
+    λ pre rest f x.
+    let r = rw (spans-par ws f, rows-spans (paragraphOf ws f)) at (h pre rest (spansIn f) x) in
+    rw (lt-leb (first + segmentRows (paragraphOf ws f)) 16384 r)
+
+pub wrap-dressed : (l : List (Attr Placed)) (ws : List (Wrapper Placed)) (place first end : ℕ) (s s′ : Three) (a : Added) → is ws ≡ wrappersOf withPlaces l
+    → Paragraphed first end (wrappersBy ws) s s′ a → StyledGiven (dressing place first l) first end s s′ (styledIn a place)
+wrap-dressed l ws place first end s s′ (Added.Next m) e h =
+    λ pre rest f x.
+    let g = wrap-given ws place first end s s′ (Added.Next m) h pre rest f x in
+    record { few = g .few; segments = g .segments; means = rw (← e) (g .means); same = g .same; rows = g .rows }
+wrap-dressed l ws place first end s s′ Added.Full e h = λ pre rest f x. rw (← e) (wrap-given ws place first end s s′ Added.Full h pre rest f x)
+
+styled-dressing : (ctx : TimingCtx) (place made : ℕ) (l : List (Attr Placed)) (f : Segments Placed) → isModelled withPlaces l ≡ true
+    → styled withPlaces ctx place made l f ≡ dressing place made l f
+unfolding styled
+styled-dressing ctx place made l f e = rw (e, styled)
+
+styled-plain : (ctx : TimingCtx) (place made : ℕ) (l : List (Attr Placed)) (f : Segments Placed) → isModelled withPlaces l ≡ false
+    → styled withPlaces ctx place made l f ≡ is f
+unfolding styled
+styled-plain ctx place made l f e = rw (e, styled)
+
+module _ (ctx : TimingCtx) (place first end : ℕ) (l : List (Attr Placed)) (s : Three) where
+  pub styled-some : isModelled withPlaces l ≡ true → (s′ : Three) (r : Styled) → StyledGiven (dressing place first l) first end s s′ r
+      → StyledGiven (styled withPlaces ctx place first l) first end s s′ r
+  styled-some e s′ (Styled.Is n) h = λ pre rest f x.
+      let g = h pre rest f x in
+      record {
+        few = g .few;
+        segments = g .segments;
+        means = styled-dressing ctx place first l f e ∙ g .means;
+        same = g .same;
+        rows = g .rows;
+      }
+  styled-some e s′ (Styled.Refused q) h = λ pre rest f x. styled-dressing ctx place first l f e ∙ h pre rest f x
+
+  pub styled-none : isModelled withPlaces l ≡ false → end ≤ 16384 → StyledGiven (styled withPlaces ctx place first l) first end s s (Styled.Is end)
+  styled-none e few = λ pre rest f x.
+      let z : end - end ≡ 0 = omega arith in
+      record { few = few; segments = f; means = styled-plain ctx place first l f e; same = refl; rows = rw z x }

@@ -11,17 +11,22 @@ use Rattle.track.specs.declared.strings.Span.{Span}
 use Rattle.track.specs.Track.{Wrapper, Segments, noSegments, segmentRows, isBareFont}
 use Rattle.track.specs.Track as track
 use Rattle.track.specs.Tables.{zeroFloat}
-use Rattle.track.specs.Layout.{preorder}
+use Rattle.track.specs.Layout.{preorder, isSome, spanOr}
 use Rattle.records.specs.declared.cells.Added.{Added}
 use Rattle.records.specs.Siblings.{Three, Stands, cellsOf, later}
 use Rattle.xml.specs.Reading.{Placed}
 use Rattle.meaning.specs.Answers.{Answer, is, _>>=_}
 use Rattle.meaning.specs.Words.{ascii}
-use Rattle.meaning.specs.Nodes.{Attr}
+use Rattle.meaning.specs.Nodes.{Attr, valued}
 use Rattle.meaning.specs.Kinds.{withPlaces}
+use Rattle.meaning.specs.Tracks.{optionBy}
 use Rattle.meaning.specs.Timing.{timeOf, sum, orZero, endOf, lastingTo}
-use Rattle.meaning.specs.Inline.{paragraphOf}
+use Rattle.meaning.specs.Styling.{wrappersOf}
+use Rattle.meaning.specs.Inline.{paragraphOf, counted}
 use Rattle.styling.specs.Posts.{given, turned}
+use Rattle.inline.specs.Stood.{spanIn, spansIn, textsIn}
+use Rattle.cues.specs.declared.paragraph.Styled.{Styled}
+use Rattle.cues.specs.declared.paragraph.Part.{Part}
 use Rattle.cues.specs.declared.sums.Moment.{Moment}
 use Rattle.cues.specs.declared.sums.Given.{Given}
 use Rattle.cues.specs.declared.sums.Giving.{Giving}
@@ -112,3 +117,33 @@ Paragraphed first end ws t t′ (Added.Next m) =
     × ((pre rest : Three) (f : Segments Span) → Stands pre rest first end f t → Stands pre (onward end m rest) first m (paragraphOf ws f) t′)
 Paragraphed first end ws t t′ Added.Full =
     (pre rest : Three) (f : Segments Span) → Stands pre rest first end f t → 16384 < first + segmentRows (paragraphOf ws f)
+
+abbrev pub styledIn : Added → (place : ℕ) → Styled
+styledIn (Added.Next m) p = Styled.Is m
+styledIn Added.Full p = Styled.Refused (record { number = 13; place = p })
+
+-- m is what a p's attributes make of its content f, which stood in the rows `first` up to `end`: it stands in these up to n, its texts the same
+pub record Dressed (m : Answer (Segments Placed)) (first end n : ℕ) (f : Segments Placed) (pre rest s′ : Three) : Type 0 where
+  pub few : n ≤ 16384
+  pub segments : Segments Placed
+  pub means : m ≡ is segments
+  pub same : textsIn segments ≡ textsIn f
+  pub rows : Stands pre (onward end n rest) first n (spansIn segments) s′
+
+abbrev pub StyledGiven : (Segments Placed → Answer (Segments Placed)) → (first end : ℕ) → (s s′ : Three) → Styled → Type 0
+StyledGiven m first end s s′ (Styled.Is n) =
+    (pre rest : Three) (f : Segments Placed) → Stands pre rest first end (spansIn f) s → Dressed (m f) first end n f pre rest s′
+StyledGiven m first end s s′ (Styled.Refused q) =
+    (pre rest : Three) (f : Segments Placed) → Stands pre rest first end (spansIn f) s → m f ≡ turned q
+
+-- `styled`, where an attribute is one that segments show
+abbrev pub dressing : (place made : ℕ) → List (Attr Placed) → Segments Placed → Answer (Segments Placed)
+dressing place made l f = wrappersOf withPlaces l >>= λ ws. counted place made (paragraphOf ws f)
+
+-- ---- values
+
+-- the value of the first attribute of this name, as a cue's row has it
+pub record PartIs (z name : List ℕ) (l : List (Attr Placed)) (r : Part) : Type 0 where
+  pub has : r .has ≡ isSome (valued withPlaces name l)
+  pub span : r .span ≡ spanOr (optionBy spanIn (valued withPlaces name l))
+  pub within : r .span .place + r .span .len ≤ length z

@@ -2,7 +2,12 @@
 mod paragraph;
 mod sums;
 
+pub use paragraph::Part;
+pub use paragraph::Styled;
+pub use paragraph::is_preserve;
 pub use paragraph::put_paragraph;
+pub use paragraph::style_paragraph;
+pub use paragraph::value_of;
 pub use sums::Interval;
 pub use sums::Moment;
 pub use sums::Timed;
