@@ -4,9 +4,9 @@
 --     ended-standing, break-given     what a break trims, and the break
 --     span-given                      a span
 --     around-is                       the wrappers of an element as they are put around rows
-use Prim.Native.Nat.{ℕ, zero, suc, _+_, _-_, _*_, _≤_, _<_}
+use Prim.Native.Nat.{ℕ, _+_, _-_, _≤_}
 use mathlib.Core.Path.{_≡_, refl, sym, ap, _∙_}
-use mathlib.Core.Bool.{Bool, true, false, cond, _||_}
+use mathlib.Core.Bool.{Bool, true, false, _||_}
 use mathlib.Core.List.{List, [], _∷_, _++_, append-nil}
 use mathlib.Core.Option.{none, some}
 use native.Mathlib.Omega.{arith}
@@ -15,11 +15,9 @@ use lib.IntN.{ℤ}
 use lib.Ieee.{Float}
 use lib.ListN.{length}
 use lib.Seq.{sets}
-use Rattle.scan.specs.Part.{stringAt}
 use Rattle.decimals.specs.declared.size.Size.{Size}
 use Rattle.track.specs.declared.strings.Span.{Span}
 use Rattle.track.specs.declared.segments.Rgb.{Rgb}
-use Rattle.track.specs.declared.segments.Font.{Font}
 use Rattle.track.specs.declared.segments.Segment.{Segment}
 use Rattle.track.specs.Track.{Wrapper, Segments, segmentRows}
 use Rattle.track.specs.Track as track
@@ -47,8 +45,8 @@ use Rattle.styling.specs.Posts as posts
 use Rattle.inline.specs.declared.collapse.Collapsed.{Collapsed}
 use Rattle.inline.specs.declared.wrappers.Wrappers.{Wrappers}
 use Rattle.inline.specs.Texts.{edge, Written}
-use Rattle.inline.specs.Wraps.{three, fontOf, wrappersFrom, stampedIf, Changed, Spanned}
-use Rattle.inline.specs.Stood.{spanIn, spansIn, textsIn, Laid, Trims}
+use Rattle.inline.specs.Wraps.{three, wrappersFrom, stampedIf, Spanned}
+use Rattle.inline.specs.Stood.{spanIn, spansIn, textsIn, Laid}
 use Rattle.inline.proofs.TrimSegments.{order-trimmed}
 use Rattle.inline.proofs.TrimStands.{trim-stands}
 use Rattle.content.specs.declared.collect.Collecting.{Collecting}
@@ -143,7 +141,8 @@ module _ (sp : Space) (before : Before) (p m : ℕ) (b : List ℕ) (place first 
   module _ (low : hi ≤ p) (room : p + m ≤ length y) (short : length b ≤ m) (wr : Written left b before p y y′ c) where
     abbrev gives : (s′ : Three) → Collecting → Type 0
     gives s′ r =
-        Given place first n hi (p + m) (edge (lastOf before b)) (λ f. joined f (textSegment withPlaces (textIn withPlaces sp before whole))) s y s′ y′ r
+        Given place first n hi (p + m) (edge (lastOf before b)) (λ f. joined f (textSegment withPlaces
+            (textIn withPlaces sp before whole))) s y s′ y′ r
 
     pub text-none : n ≤ 16384 → c .len ≡ 0 → gives s (Collecting.Is (record { rows = n; boundary = c .boundary }))
     text-none few e =
@@ -161,11 +160,13 @@ module _ (sp : Space) (before : Before) (p m : ℕ) (b : List ℕ) (place first 
         let some : isEmpty left ≡ false = some-of left (λ h. e (wr .long ∙ h)) in
         let x : Placed = record { place = p; bytes = left } in
         let segment : textSegment withPlaces (textIn withPlaces sp before whole) ≡ track.text x track.done = rw some (rw (text-is sp before p b)) in
-        let one : preorder (spansIn (track.text x track.done)) ≡ record { segment = Segment.Text (record { place = p; len = c .len }); rows = 1 } ∷ [] =
+        let one : preorder (spansIn (track.text x track.done)) ≡ record { segment = Segment.Text
+        (record { place = p; len = c .len }); rows = 1 } ∷ [] =
         text-one (spanIn x) ∙ rw (wr .long) in
         let short′ : length left ≤ m = omega (arith, wr .long, wr .within) in
         rw (segment, ← (wr .flag))
-        (add-given (Segment.Text (record { place = p; len = c .len })) (track.text x track.done) one place first n hi (p + m) (c .boundary) (λ f. f) s s s′
+        (add-given (Segment.Text (record { place = p; len = c .len })) (track.text x track.done) one place first n hi (p + m) (c .boundary)
+        (λ f. f) s s s′
         y y′ wide (λ w f h. (h .rows, rw (wr .laid) (laid-text (h .texts) p m left low short′ room))) a u v r)
 
 -- ---- a break
@@ -192,10 +193,12 @@ pub break-given : (ws : WsMode) (place hi first n : ℕ) (t t₁ : List ℕ) (u 
     → Ends ws first n t y t₁ y′ → Wide (three t₁ u v) → (a : Added)
     → AddPost 16384 8 (segmentCells Segment.Break 1) t₁ (s′ .cells) n a → TimePost n (segmentTime Segment.Break) u (s′ .times) a
     → ValuePost n (segmentSize Segment.Break) v (s′ .floats) a
-    → Given place first n hi hi true (λ f. joined (ended withPlaces (spaceIn ws) f) (track.break track.done)) (three t u v) y s′ y′ (addedIn a true place)
+    → Given place first n hi hi true (λ f. joined (ended withPlaces (spaceIn ws) f) (track.break track.done)) (three t u v) y s′ y′
+        (addedIn a true place)
 unfolding segmentsBy
 break-given ws place hi first n t t₁ u v s′ y y′ e wide a b c d =
-    add-given Segment.Break (track.break track.done) break-one place first n hi hi true (λ f. ended withPlaces (spaceIn ws) f) (three t u v) (three t₁ u v)
+    add-given Segment.Break (track.break track.done) break-one place first n hi hi true (λ f. ended withPlaces (spaceIn ws) f) (three t u v)
+        (three t₁ u v)
     s′ y y′ wide
     (λ w f h.
     let g = ended-standing ws hi first n t t₁ u v y y′ e w f h in
@@ -264,7 +267,8 @@ module _ (z : List ℕ) where
         each-append v a b,
       )
 
-  pub around-is : (w : read.Wrappers) (b : Bool) → b ≡ (w .font .«has_family» || w .font .«has_size») → w .font .family .place + w .font .family .len ≤ length z
+  pub around-is : (w : read.Wrappers) (b : Bool) → b ≡ (w .font .«has_family» || w .font .«has_size»)
+      → w .font .family .place + w .font .family .len ≤ length z
       → wrappersFrom (record {
         «has_font» = b;
         font = w .font;
@@ -281,7 +285,7 @@ module _ (z : List ℕ) where
       let font = w .font in
       rw (
         six (fontIn z font) (colorIf (w .«has_color») (w .color)) (wrapIf (w .strike) track.strike) (wrapIf (w .underline) track.underline)
-        (wrapIf (w .italic) track.italic) (wrapIf (w .bold) track.bold),
+            (wrapIf (w .italic) track.italic) (wrapIf (w .bold) track.bold),
         e,
         font-same (font .«has_family») (font .«has_size») (font .family .place) (font .family .len) (font .size) h,
         color-same (w .«has_color») (w .color),

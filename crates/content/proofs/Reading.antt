@@ -6,16 +6,16 @@
 --     node-row, node-end, text-asks, break-asks, node-attrs, own-asks     what a node's entry says of its row
 --     Along, along-start, along-asks, along-step, along-fail, along-done  the loop over siblings
 --     content-asks, content-no, content-ready, content-left               the content of a p
-use Prim.Native.Nat.{ℕ, zero, suc, _+_, _-_, _*_, _≤_, _<_}
+use Prim.Native.Nat.{ℕ, _+_, _-_, _*_, _≤_, _<_}
 use mathlib.Core.Path.{_≡_, refl, sym, ap, _∙_, subst}
-use mathlib.Core.Bool.{Bool, true, false, cond}
-use mathlib.Core.List.{List, [], _∷_, _++_}
+use mathlib.Core.Bool.{Bool, true, false}
+use mathlib.Core.List.{List, [], _++_}
 use mathlib.Core.Option.{Option, none, some}
 use native.Mathlib.Omega.{arith}
 use lib.IntN.{ℤ}
 use lib.Ieee.{Float}
 use lib.ListN.{length, getD}
-use lib.Dec.{eqb, leb}
+use lib.Dec.{eqb}
 use borrow.Author.Tests.{eqb-true, le-leb, lt-leb}
 use Rattle.unicode.proofs.Utf8Laws.{by-test}
 use Rattle.scan.specs.Part.{stringAt}
@@ -29,26 +29,26 @@ use Rattle.track.specs.Track as track
 use Rattle.track.specs.Layout.{isSome}
 use Rattle.records.specs.Siblings.{joined, Three, later}
 use Rattle.xml.specs.declared.find.Element.{Element}
-use Rattle.xml.specs.Find.{named, Holds, isElement, HasRow, elementRow, TextAt, ElementAt}
+use Rattle.xml.specs.Find.{named, Holds, isElement, HasRow, elementRow, TextAt}
 use Rattle.xml.specs.Reading.{Placed}
-use Rattle.xml.proofs.Lays.{Split, in-split}
+use Rattle.xml.proofs.Lays.{in-split}
 use Rattle.xml.proofs.FindLaws.{holds-text, holds-section, holds-elem, siblings-of, has-row, is-element-text, is-element-section, is-element-elem}
 use Rattle.meaning.specs.Answers.{Answer, is, refused, _>>=_}
 use Rattle.meaning.specs.Words.{ascii}
 use Rattle.meaning.specs.Nodes.{Nodes, nil, text, element}
 use Rattle.meaning.specs.Nodes as nodes
 use Rattle.meaning.specs.Kinds.{withPlaces, nodesIn, attrsIn}
-use Rattle.meaning.specs.Space.{spaceOf, Before, lastOf, Inline, a-break, a-span, unknown, inlineOf, after, textIn, ended}
+use Rattle.meaning.specs.Space.{spaceOf, Before, lastOf, a-break, a-span, unknown, inlineOf, after, textIn, ended}
 use Rattle.meaning.specs.Timing.{timeOf, sum, orZero}
 use Rattle.meaning.specs.Styling.{wrappersOf}
 use Rattle.meaning.specs.Inline.{counted, textSegment, stamped, spanOf, segmentsIn, contentOf}
-use Rattle.meaning.proofs.Laws.{after-text, after-break, after-span, after-unknown, inside-end, inside-text, inside-break, inside-span, inside-unknown}
+use Rattle.meaning.proofs.Laws.{after-text, after-break, after-span, after-unknown}
+use Rattle.meaning.proofs.Laws.{inside-end, inside-text, inside-break, inside-span, inside-unknown}
 use Rattle.styling.specs.declared.space.WsMode.{WsMode}
 use Rattle.styling.specs.Posts.{HasRows, OfRows, spaceIn}
 use Rattle.inline.specs.Texts.{edge}
 use Rattle.inline.specs.Trims.{Ready}
 use Rattle.inline.specs.Wraps.{three, stampedIf}
-use Rattle.inline.specs.Stood.{Laid}
 use Rattle.inline.proofs.Spanning.{stamped-if}
 use Rattle.inline.proofs.TrimStands.{rows-ready}
 use Rattle.content.specs.declared.collect.Run.{Run}
@@ -202,7 +202,8 @@ module _ (w : Frame) (t u z : List ℕ) (base : ℤ) (ctx : TimingCtx) (ws : WsM
 
   -- ---- a text or a section
   leaf-came : (kind k own end first hi at p m : ℕ) (run : Run) (g : Forest) (earlier : Segments Placed) (before : Before) (s : Three) (y : List ℕ)
-      (s′ : Three) (y′ : List ℕ) (r : Collecting) → TextAt t u z kind k own p m g → k + 1 + size g ≡ end → hi ≤ p → InOrder (p + m) (spans g) (w .limit)
+      (s′ : Three) (y′ : List ℕ) (r : Collecting) → TextAt t u z kind k own p m g → k + 1 + size g ≡ end → hi ≤ p
+      → InOrder (p + m) (spans g) (w .limit)
       → Standing w hi first (run .rows) earlier s y → run .boundary ≡ edge before → placeOf t k ≡ at → TextGiven t z k ws run s y s′ y′ r
       → let f : Nodes Placed = text at (record { place = p; bytes = stringAt z p m }) (nodesIn z g) in
       Outcome w t u z (getD t (k * 6 + 1) 0) end first base ctx ws s′ y′ (means first before earlier f) (after withPlaces before f) r
@@ -225,7 +226,8 @@ module _ (w : Frame) (t u z : List ℕ) (base : ℤ) (ctx : TimingCtx) (ws : WsM
 
     abbrev Result : Forest → (s′ : Three) → List ℕ → Collecting → Type 0
     Result f s′ y′ r =
-        Outcome w t u z (getD t (k * 6 + 1) 0) end first base ctx ws s′ y′ (means first before earlier (nodesIn z f)) (after withPlaces before (nodesIn z f))
+        Outcome w t u z (getD t (k * 6 + 1) 0) end first base ctx ws s′ y′ (means first before earlier (nodesIn z f)) (after withPlaces before
+            (nodesIn z f))
         r
 
     module _ (s′ : Three) (y′ : List ℕ) (r : Collecting) where
@@ -256,8 +258,10 @@ module _ (w : Frame) (t u z : List ℕ) (base : ℤ) (ctx : TimingCtx) (ws : WsM
           let n = nameIn z (p + 1) m in
           let i : inlineOf withPlaces n ≡ a-break = inline-break z (p + 1) m (sym (is-element-elem z (ascii "br") (x .0 .stands)) ∙ b) in
           rw (a .row .end-is)
-          (given-came (k + 1 + size c) end first (run .rows) hi hi p true (λ f. joined (ended withPlaces (spaceIn ws) f) (track.break track.done)) s y s′ y′
-          earlier none (own + length l + length (placed.attrsOf c)) g _ _ (a .later) (omega (arith, x .1)) (in-lower (spans g) hi (o .mid) (w .limit) (o .low) (o .rest)) (x .3) refl
+          (given-came (k + 1 + size c) end first (run .rows) hi hi p true (λ f. joined (ended withPlaces (spaceIn ws) f)
+          (track.break track.done)) s y s′ y′
+          earlier none (own + length l + length (placed.attrsOf c)) g _ _ (a .later) (omega (arith, x .1)) (in-lower (spans g) hi (o .mid)
+              (w .limit) (o .low) (o .rest)) (x .3) refl
           (inside-break withPlaces ctx base (spaceIn ws) before first earlier p n (attrsIn z l) (nodesIn z c) (nodesIn z g) i)
           (after-break withPlaces before p n (attrsIn z l) (nodesIn z c) (nodesIn z g) i) r (rw at at (bg hi)))
 
@@ -295,7 +299,8 @@ came-end {w} {t} {u} {z} {end} {first} {base} {ctx} {ws} {s} {y} {m} {v} {r} c =
 
 module _ {w : Frame} {t u z : List ℕ} (k own end first hi : ℕ) (run : Run) (earlier : Segments Placed) (before : Before) (s : Three) (y : List ℕ)
     (p m : ℕ) (l : List placed.Attr) (c g : Forest) (h : Holds t u z k own (placed.elem p m l c g)) (e : k + size (placed.elem p m l c g) ≡ end)
-    (o : InOrder hi (spans (placed.elem p m l c g)) (w .limit)) (st : Standing w hi first (run .rows) earlier s y) (fl : run .boundary ≡ edge before) where
+    (o : InOrder hi (spans (placed.elem p m l c g)) (w .limit)) (st : Standing w hi first (run .rows) earlier s y)
+    (fl : run .boundary ≡ edge before) where
   abbrev parts : Parts hi c g (w .limit)
   parts = parts-of hi p m l c g (w .limit) o
 
@@ -324,7 +329,8 @@ module _ {w : Frame} {t u z : List ℕ} (k own end first hi : ℕ) (run : Run) (
   came : (base : ℤ) (ctx : TimingCtx) (ws : WsMode) (hi′ : ℕ) (f : Segments Placed) (s′ : Three) (y′ : List ℕ) (r : Run) → r .rows ≤ 16384
       → hi′ ≤ parts .mid → run .rows ≤ r .rows → Standing inner hi′ (run .rows) (r .rows) f s′ y′ → r .boundary ≡ edge behind-it
       → (m : Answer (Segments Placed)) (v : Before)
-      → m ≡ segmentsIn withPlaces ctx base (spaceIn ws) behind-it first (joined earlier f) (nodesIn z g) → v ≡ after withPlaces behind-it (nodesIn z g)
+      → m ≡ segmentsIn withPlaces ctx base (spaceIn ws) behind-it first (joined earlier f) (nodesIn z g)
+          → v ≡ after withPlaces behind-it (nodesIn z g)
       → Came w t u z (k + 1 + size c) end first base ctx ws s′ y′ m v r
   unfolding size
   came base ctx ws hi′ f s′ y′ r few below more st′ fl′ m v me ve = record {
@@ -368,7 +374,8 @@ module _ {w : Frame} {t u z : List ℕ} (k own end first hi : ℕ) (run : Run) (
 
     -- ---- an unknown element
     unknown-elem : inlineOf withPlaces name ≡ unknown → (s′ : Three) (y′ : List ℕ) (r : Collecting)
-        → Outcome inner t u z (k + 1 + size c) (k + 1 + size c) (run .rows) base ctx ws s′ y′ (meant inside base ctx ws) (behind inside) r → ItsOutcome s′ y′ r
+        → Outcome inner t u z (k + 1 + size c) (k + 1 + size c) (run .rows) base ctx ws s′ y′ (meant inside base ctx ws) (behind inside) r
+            → ItsOutcome s′ y′ r
     unknown-elem i s′ y′ (Collecting.Is r) a =
         let d = came-end a in
         came base ctx ws (d .hi) (d .segments) s′ y′ r (d .few) (d .below) (omega (arith, standing-count (d .standing))) (d .standing) (d .flag) all
@@ -389,7 +396,8 @@ module _ {w : Frame} {t u z : List ℕ} (k own end first hi : ℕ) (run : Run) (
       said = timeOf withPlaces ctx p (ascii "begin") attrs
 
       span-is : all ≡ (said >>= λ begin. sum p base (orZero begin) >>= λ from.
-          segmentsIn withPlaces ctx from (spaceOf withPlaces (spaceIn ws) attrs) before (first + segmentRows earlier) track.done (nodesIn z c) >>= λ content.
+          segmentsIn withPlaces ctx from (spaceOf withPlaces (spaceIn ws) attrs) before (first + segmentRows earlier) track.done
+              (nodesIn z c) >>= λ content.
           wrappersOf withPlaces attrs >>= λ wrappers.
           counted p first (joined earlier (stamped begin from (spanOf wrappers content))) >>= λ given.
           segmentsIn withPlaces ctx base (spaceIn ws) behind-it first given (nodesIn z g))
@@ -413,7 +421,8 @@ module _ {w : Frame} {t u z : List ℕ} (k own end first hi : ℕ) (run : Run) (
         begun-is = span-is ∙ bind-is _ (it .said) ∙ bind-is _ (it .time)
 
         content-is : (a : Answer (Segments Placed)) → meant inside (b .time) ctx mode ≡ a
-            → segmentsIn withPlaces ctx (b .time) (spaceOf withPlaces (spaceIn ws) attrs) before (first + segmentRows earlier) track.done (nodesIn z c) ≡ a
+            → segmentsIn withPlaces ctx (b .time) (spaceOf withPlaces (spaceIn ws) attrs) before (first + segmentRows earlier) track.done
+                (nodesIn z c) ≡ a
         content-is a e =
             ap (λ v. segmentsIn withPlaces ctx (b .time) v before (first + segmentRows earlier) track.done (nodesIn z c)) (sym in-mode)
             ∙ at-count (b .time) mode a e
@@ -443,7 +452,8 @@ module _ {w : Frame} {t u z : List ℕ} (k own end first hi : ℕ) (run : Run) (
               let st′ = rw (left-is wr) at (a (d .hi) .2 inner (d .segments) (d .standing)) in
               let fits = counted-is p first (joined earlier (left wr))
               (omega (arith, standing-count st′, count, a (d .hi) .0, rows-together earlier (left wr))) in
-              came base ctx ws (d .hi) (left wr) s″ y′ r (a (d .hi) .0) (d .below) (omega (arith, standing-count st′)) st′ (a (d .hi) .1 ∙ d .flag) all
+              came base ctx ws (d .hi) (left wr) s″ y′ r (a (d .hi) .0) (d .below) (omega (arith, standing-count st′)) st′ (a
+                  (d .hi) .1 ∙ d .flag) all
               (after withPlaces before node) (read-is ∙ bind-is (put-on (d .segments)) x ∙ bind-is go-on fits)
               (after-span withPlaces before p name attrs (nodesIn z c) (nodesIn z g) i)
           wrapped-is (is wr) x (Collecting.Refused q) a =
@@ -454,14 +464,16 @@ module _ {w : Frame} {t u z : List ℕ} (k own end first hi : ℕ) (run : Run) (
 -- ---- the same of a node's entry
 
 module _ (w : Frame) (t u z : List ℕ) (base : ℤ) (ctx : TimingCtx) (ws : WsMode) (k own end first hi : ℕ) (run : Run) (earlier : Segments Placed)
-    (before : Before) (s : Three) (y : List ℕ) (j : k < end) (e : Element) (row : e ≡ elementRow t k) (nb : isElement t z (ascii "br") k ≡ false) where
+    (before : Before) (s : Three) (y : List ℕ) (j : k < end) (e : Element) (row : e ≡ elementRow t k) (nb : isElement t z
+    (ascii "br") k ≡ false) where
   abbrev FactsOf : Forest → Type 0
   FactsOf f = Facts w t u z base ctx ws k own end first hi run earlier before s y f
 
   abbrev ResultOf : Forest → (s′ : Three) → List ℕ → Collecting → Type 0
   ResultOf f s′ y′ r = Result w t u z base ctx ws k own end first hi run earlier before s y f s′ y′ r
 
-  pub unknown-came : (f : Forest) → FactsOf f → getD t (k * 6) 0 ≡ 2 → isElement t z (ascii "span") k ≡ false → (s′ : Three) (y′ : List ℕ) (r : Collecting)
+  pub unknown-came : (f : Forest) → FactsOf f → getD t (k * 6) 0 ≡ 2 → isElement t z (ascii "span") k ≡ false
+      → (s′ : Three) (y′ : List ℕ) (r : Collecting)
       → Post t u z (k + 1) (e .end) run base ctx ws s y s′ y′ r → ResultOf f s′ y′ r
   unfolding nodesIn size
   unknown-came placed.nil x kind ns s′ y′ r post = absurd (omega (arith, x .1))
@@ -508,7 +520,8 @@ module _ (w : Frame) (t u z : List ℕ) (base : ℤ) (ctx : TimingCtx) (ws : WsM
           let a = holds-elem (x .0) in
           let b′ = rw (row ∙ a .cells) at begins in
           let modes′ = rw (row ∙ a .cells) at modes in
-          let post′ = subst (λ (v : Element). Post t u z (k + 1) (v .end) run (b .time) ctx mode s y s′ y′ (Collecting.Refused q)) (row ∙ a .cells) post in
+          let post′ = subst (λ (v : Element). Post t u z (k + 1) (v .end) run (b .time) ctx mode s y s′ y′ (Collecting.Refused q))
+          (row ∙ a .cells) post in
           let i = inline-span z (p + 1) m (sym (is-element-elem z (ascii "br") (x .0 .stands)) ∙ nb)
           (sym (is-element-elem z (ascii "span") (x .0 .stands)) ∙ sp) in
           refused-inside k own end first hi run earlier before s y p m l c g (x .0) (x .1) (x .2) (x .3) (x .4) base ctx ws i b
@@ -537,7 +550,8 @@ module _ (w : Frame) (t u z : List ℕ) (base : ℤ) (ctx : TimingCtx) (ws : WsM
           (inside k own end first hi run earlier before s y p m l c g (x .0) (x .1) (x .2) (x .3) (x .4)) in
           rw (a .row .end-is)
           (wrapped-is k own end first hi run earlier before s y p m l c g (x .0) (x .1) (x .2) (x .3) (x .4) base ctx ws i b
-          (begun p base (timeOf withPlaces ctx p (ascii "begin") (attrsIn z l)) b (b′ l (a .owned))) mode (modes′ l (a .owned)) s′ y′ d (came-end came) s″
+          (begun p base (timeOf withPlaces ctx p (ascii "begin") (attrsIn z l)) b (b′ l (a .owned))) mode (modes′ l (a .owned)) s′ y′ d
+          (came-end came) s″
           (wrappersOf withPlaces (attrsIn z l)) refl r (wraps′ l (a .owned) y′))
 
 -- ---- what a node's entry says of its row
@@ -575,8 +589,9 @@ pub break-asks : {w : Frame} {hi first n : ℕ} {f : Segments Placed} {s : Three
     → (first ≤ n) × Ready (s .cells) y first n
 break-asks {w} {hi} {first} {n} {f} {s} {y} h = (
   omega (arith, standing-count h),
-  rows-ready (w .pre .cells) (later (n - first) (w .rest) .cells) (s .cells) y first n f [] (w .base) (w .lo) hi (h .rows .before .0) (h .rows .in-cells)
-  (h .rows .count) (h .texts),
+  rows-ready (w .pre .cells) (later (n - first) (w .rest) .cells) (s .cells) y first n f [] (w .base) (w .lo) hi (h .rows .before .0)
+      (h .rows .in-cells)
+      (h .rows .count) (h .texts),
 )
 
 own-attrs : (t u z : List ℕ) (k own end : ℕ) (f : Forest) → Holds t u z k own f → k + size f ≡ end → k < end → getD t (k * 6) 0 ≡ 2
@@ -619,12 +634,15 @@ pub own-asks : {t u z : List ℕ} {k first : ℕ} {run : Run} {s : Three} {y : L
     → getD t (k * 6) 0 ≡ 2 → e ≡ elementRow t k → Asks t u z (k + 1) (e .end) run s y
 own-asks {t} {u} {z} {k} {first} {run} {s} {y} e a kind row =
     let x = a .entry in
-    rw row (inner-asks t u z (a .frame) k (x .own) (a .end) first (x .hi) run (x .earlier) (x .before) s y (x .forest) (x .holds) (x .rows) (x .placed)
+    rw row (inner-asks t u z (a .frame) k (x .own) (a .end) first (x .hi) run (x .earlier) (x .before) s y (x .forest) (x .holds) (x .rows)
+        (x .placed)
     (x .standing) (x .flag) (a .some) kind (a .roomy) (a .few))
 
 -- rows are added, not too many
-pub post-more : {t u z : List ℕ} {from end : ℕ} {run : Run} {base : ℤ} {ctx : TimingCtx} {ws : WsMode} {s : Three} {y : List ℕ} {s′ : Three} {y′ : List ℕ}
-    (d : Run) → Asks t u z from end run s y → Post t u z from end run base ctx ws s y s′ y′ (Collecting.Is d) → (run .rows ≤ d .rows) × (d .rows ≤ 16384)
+pub post-more : {t u z : List ℕ} {from end : ℕ} {run : Run} {base : ℤ} {ctx : TimingCtx} {ws : WsMode} {s : Three} {y : List ℕ} {s′ : Three} {y′
+    : List ℕ}
+    (d : Run) → Asks t u z from end run s y → Post t u z from end run base ctx ws s y s′ y′ (Collecting.Is d)
+    → (run .rows ≤ d .rows) × (d .rows ≤ 16384)
 post-more d a post =
     let x = came-end (post (a .frame) (a .entry)) in
     (omega (arith, standing-count (x .standing)), x .few)
@@ -632,7 +650,8 @@ post-more d a post =
 -- ---- the loop over siblings
 
 -- the siblings up to row k are read
-pub record Along (t u z : List ℕ) (from end : ℕ) (run₀ : Run) (base : ℤ) (ctx : TimingCtx) (ws : WsMode) (s₀ : Three) (y₀ : List ℕ) (k : ℕ) (run : Run)
+pub record Along (t u z : List ℕ) (from end : ℕ) (run₀ : Run) (base : ℤ) (ctx : TimingCtx) (ws : WsMode) (s₀ : Three) (y₀ : List ℕ) (k : ℕ)
+    (run : Run)
     (s : Three) (y : List ℕ) : Type 0 where
   pub low : from ≤ k
   pub same-cells : length (s .cells) ≡ length (s₀ .cells)

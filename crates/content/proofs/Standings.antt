@@ -4,13 +4,13 @@
 --     laid-is, laid-order, laid-long, laid-text                what `Laid` says where nothing follows; a text more
 --     standing-count, standing-higher, standing-low            what stands, in rows and bytes
 --     standing-own, standing-join                              a list of its own, after what stands; with it
-use Prim.Native.Nat.{ℕ, zero, suc, _+_, _-_, _*_, _≤_, _<_}
+use Prim.Native.Nat.{ℕ, _+_, _-_, _*_, _≤_}
 use mathlib.Core.Path.{_≡_, refl, sym, ap, _∙_}
-use mathlib.Core.Bool.{Bool, true, false, cond}
+use mathlib.Core.Bool.{Bool, true, false}
 use mathlib.Core.List.{List, [], _∷_, _++_, append-assoc, append-nil}
 use native.Mathlib.Omega.{arith}
 use lib.IntN.{ℤ}
-use lib.ListN.{length, drop}
+use lib.ListN.{length}
 use lib.Seq.{sets, drop-drop}
 use Rattle.unicode.proofs.Utf8Laws.{by-test}
 use Rattle.track.specs.declared.strings.Span.{Span}
@@ -23,9 +23,9 @@ use Rattle.records.proofs.Standing.{stands-none, stands-join}
 use Rattle.xml.specs.Reading.{Placed, lay}
 use Rattle.xml.proofs.Lays.{Ordered, lay-length, lay-append}
 use Rattle.meaning.specs.Tracks.{wrapperBy, segmentsBy}
-use Rattle.meaning.specs.Inline.{bareFont, spanOf}
+use Rattle.meaning.specs.Inline.{spanOf}
 use Rattle.inline.specs.Wraps.{stampedIf}
-use Rattle.inline.specs.Stood.{spanIn, spansIn, textsIn, Blank, InTurn, Laid}
+use Rattle.inline.specs.Stood.{spansIn, textsIn, Blank, InTurn, Laid}
 use Rattle.inline.proofs.TrimTexts.{lay-blank}
 use Rattle.content.specs.Steps.{Frame, Standing, wrappersBy}
 
@@ -172,7 +172,8 @@ module _ {f : Segments Placed} {base y : List ℕ} {lo hi : ℕ} (h : Laid f [] 
       let is : y′ ≡ lay base (textsIn f ++ textsIn g) =
       laid-is k ∙ ap (λ (b : List ℕ). lay b (textsIn g)) (laid-is h) ∙ sym (lay-append (textsIn f) (textsIn g) base) in
       laid-of (is ∙ ap (lay base) (sym (texts-joined f g)))
-      (rw (texts-joined f g) (turn-append (textsIn f) (textsIn g) lo hi m (laid-order h) (laid-order k))) (omega (arith, laid-long, k .room)) (h .blank)
+      (rw (texts-joined f g) (turn-append (textsIn f) (textsIn g) lo hi m (laid-order h) (laid-order k))) (omega (arith, laid-long, k .room))
+      (h .blank)
 
   -- a text more, at p, which may be longer by then than what is written
   pub laid-text : (p n : ℕ) (b : List ℕ) → hi ≤ p → length b ≤ n → p + n ≤ length y
@@ -232,7 +233,8 @@ module _ {w : Frame} {hi first n : ℕ} {f : Segments Placed} {s : Three} {y : L
       → Standing w hi′ first m (joined f g) s′ y′
   standing-join limit m hi′ g s′ y′ k j =
       let a : Stands (w .pre) (later (m - n) (later (n - first) (w .rest))) first m (joined (spansIn f) (spansIn g)) s′ =
-      stands-join (w .pre) (later (n - first) (w .rest)) first n (spansIn f) s (h .rows) (later (m - n) (later (n - first) (w .rest))) m (spansIn g) s′
+      stands-join (w .pre) (later (n - first) (w .rest)) first n (spansIn f) s (h .rows) (later (m - n) (later (n - first) (w .rest))) m
+          (spansIn g) s′
       (j .rows) in
       record {
         rows = rw (later-to first n m (w .rest) (omega (arith, standing-count)) k, spans-joined f g) at a;

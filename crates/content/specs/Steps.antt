@@ -34,7 +34,6 @@ use Rattle.inline.specs.Wraps.{stampedIf}
 use Rattle.inline.specs.Stood.{spanIn, spansIn, Laid, Trims}
 use Rattle.content.specs.declared.collect.Run.{Run}
 use Rattle.content.specs.declared.collect.Collecting.{Collecting}
-use Rattle.content.specs.declared.collect.Begin.{Begin}
 use Rattle.content.specs.declared.collect.Beginning.{Beginning}
 
 -- ---- tables

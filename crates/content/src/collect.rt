@@ -245,13 +245,7 @@ fn counted(base: i64, begin: i64, has: bool, place: usize) -> Beginning
     }
 }
 
-fn begin_of(
-    attrs: &[u32],
-    strings: &[u8],
-    e: xml::Element,
-    base: i64,
-    ctx: TimingCtx,
-) -> Beginning
+fn begin_of(attrs: &[u32], strings: &[u8], e: xml::Element, base: i64, ctx: TimingCtx) -> Beginning
     requires { ⌜ HasRows (now attrs) (now strings) (e .first) (e .many) ⌝ }
     ensures { λ r. ⌜ OfRows (now (attrs .entry)) (now (strings .entry)) (e .first) (e .many) (λ l.
         r ≡ beginFrom (e .place) base (timeOf withPlaces ctx (e .place) (ascii "begin") l)) ⌝ }
@@ -289,13 +283,22 @@ fn collect_node(
     }
     let e = xml::element_at(nodes, k);
     if xml::is_element(nodes, strings, k, b"br") {
-        return collect_break(
-            segments, reveal, sizes, texts, e.place, ws, first, run.rows,
-        );
+        return collect_break(segments, reveal, sizes, texts, e.place, ws, first, run.rows);
     }
     if xml::is_element(nodes, strings, k, b"span") {
         return collect_span(
-            nodes, attrs, strings, segments, reveal, sizes, texts, k, base, ctx, ws, run,
+            nodes,
+            attrs,
+            strings,
+            segments,
+            reveal,
+            sizes,
+            texts,
+            k,
+            base,
+            ctx,
+            ws,
+            run,
         );
     }
     collect_segments_inner(
@@ -357,7 +360,16 @@ fn collect_span(
             ) {
                 Collecting::Refused(r) => Collecting::Refused(r),
                 Collecting::Is(inner) => wrap_with_style(
-                    attrs, strings, segments, reveal, sizes, e, run.rows, inner, b.has, b.time,
+                    attrs,
+                    strings,
+                    segments,
+                    reveal,
+                    sizes,
+                    e,
+                    run.rows,
+                    inner,
+                    b.has,
+                    b.time,
                 ),
             }
         }
@@ -390,7 +402,19 @@ pub fn collect_segments_inner(
     let mut k = from;
     while k < end {
         match collect_node(
-            nodes, attrs, strings, segments, reveal, sizes, texts, k, base, ctx, ws, first, s,
+            nodes,
+            attrs,
+            strings,
+            segments,
+            reveal,
+            sizes,
+            texts,
+            k,
+            base,
+            ctx,
+            ws,
+            first,
+            s,
         ) {
             Collecting::Refused(r) => {
                 return Collecting::Refused(r);
@@ -430,7 +454,19 @@ pub fn collect_segments_timed(
         boundary: true,
     };
     match collect_segments_inner(
-        nodes, attrs, strings, segments, reveal, sizes, texts, from, end, base, ctx, ws, run,
+        nodes,
+        attrs,
+        strings,
+        segments,
+        reveal,
+        sizes,
+        texts,
+        from,
+        end,
+        base,
+        ctx,
+        ws,
+        run,
     ) {
         Collecting::Refused(r) => Collecting::Refused(r),
         Collecting::Is(s) => {

@@ -6,3 +6,4 @@ pub mod Colors
 pub mod Decimals
 pub mod Times
 pub mod Trees
+pub mod Queries

@@ -14,9 +14,13 @@ ghost use Prim.Native.Nat.{_≤_, _<_};
 ghost use mathlib.Core.List.{[], _∷_};
 ghost use lib.ListN.{length};
 ghost use lib.Seq.{sets};
-ghost use Rattle.probe.specs.Queries.{flagCell, alignCell, startCells, colorCells, familyCells, sizeCells, flagCells, lookLaid};
+ghost use Rattle.track.specs.Tables.{Tables};
+ghost use Rattle.queries.specs.Promise.{ReferencedStyle, RegionStyle, EffectiveStyle};
+ghost use Rattle.probe.specs.Queries.{flagCell, alignCell, startCells, colorCells, familyCells, sizeCells};
+ghost use Rattle.probe.specs.Queries.{colorsLaid, fontLaid, flagsLaid, AnswerPut, ToldAs, TellsQueryIf};
 use colors::Rgba;
 use decimals::Size;
+use queries::Resolved;
 use track::Align;
 use track::Look;
 use track::Span;
@@ -50,70 +54,247 @@ fn put_start(out: &mut [u64], place: usize, style: u64, ids: usize, name: Span)
     out[4] = name.len as u64;
 }
 
-fn put_color(out: &mut [u64], has: bool, c: Rgba)
+fn put_color(out: &mut [u64], has: u64, c: Rgba)
     requires { ⌜ 27 ≤ length (now out) ⌝ }
     ensures { λ _. ⌜ now (out .exit) ≡ sets (now (out .entry)) 5 (colorCells has c) ⌝ }
 {
-    out[5] = flag(has);
+    out[5] = has;
     out[6] = c.r as u64;
     out[7] = c.g as u64;
     out[8] = c.b as u64;
     out[9] = c.a as u64;
 }
 
-fn put_back(out: &mut [u64], has: bool, c: Rgba)
+fn put_back(out: &mut [u64], has: u64, c: Rgba)
     requires { ⌜ 27 ≤ length (now out) ⌝ }
     ensures { λ _. ⌜ now (out .exit) ≡ sets (now (out .entry)) 10 (colorCells has c) ⌝ }
 {
-    out[10] = flag(has);
+    out[10] = has;
     out[11] = c.r as u64;
     out[12] = c.g as u64;
     out[13] = c.b as u64;
     out[14] = c.a as u64;
 }
 
-fn put_family(out: &mut [u64], has: bool, family: Span)
+fn put_family(out: &mut [u64], has: u64, family: Span)
     requires { ⌜ 27 ≤ length (now out) ⌝ }
     ensures { λ _. ⌜ now (out .exit) ≡ sets (now (out .entry)) 15 (familyCells has family) ⌝ }
 {
-    out[15] = flag(has);
+    out[15] = has;
     out[16] = family.place as u64;
     out[17] = family.len as u64;
 }
 
-fn put_size(out: &mut [u64], has: bool, size: Size)
+fn put_size(out: &mut [u64], has: u64, minus: u64, size: Size)
     requires { ⌜ 27 ≤ length (now out) ⌝ }
-    ensures { λ _. ⌜ now (out .exit) ≡ sets (now (out .entry)) 18 (sizeCells has size) ⌝ }
+    ensures { λ _. ⌜ now (out .exit) ≡ sets (now (out .entry)) 18 (sizeCells has minus size) ⌝ }
 {
-    out[18] = flag(has);
-    out[19] = flag(size.negative);
+    out[18] = has;
+    out[19] = minus;
     out[20] = size.digits as u64;
     out[21] = size.scale as u64;
 }
 
-fn put_flags(out: &mut [u64], look: Look)
+fn put_flags(out: &mut [u64], bold: u64, italic: u64, underline: u64, strike: u64, side: u64)
     requires { ⌜ 27 ≤ length (now out) ⌝ }
-    ensures { λ _. ⌜ now (out .exit) ≡ sets (now (out .entry)) 22 (flagCells look) ⌝ }
+    ensures { λ _. ⌜ now (out .exit) ≡ sets (now (out .entry)) 22 (bold ∷ italic ∷ underline ∷ strike ∷ side ∷ []) ⌝ }
 {
-    let side = look.align;
-    out[22] = flag(look.bold);
-    out[23] = flag(look.italic);
-    out[24] = flag(look.underline);
-    out[25] = flag(look.strike);
-    out[26] = align(side);
+    out[22] = bold;
+    out[23] = italic;
+    out[24] = underline;
+    out[25] = strike;
+    out[26] = side;
 }
 
-fn put_look(out: &mut [u64], look: Look)
+fn put_colors(out: &mut [u64], look: Look)
     requires { ⌜ 27 ≤ length (now out) ⌝ }
-    ensures { λ _. ⌜ now (out .exit) ≡ lookLaid (now (out .entry)) look ⌝ }
+    ensures { λ _. ⌜ now (out .exit) ≡ colorsLaid (now (out .entry)) look ⌝ }
 {
     let color = look.color;
     let back = look.back;
+    put_color(out, flag(look.has_color), color);
+    put_back(out, flag(look.has_back), back);
+}
+
+fn put_font(out: &mut [u64], look: Look)
+    requires { ⌜ 27 ≤ length (now out) ⌝ }
+    ensures { λ _. ⌜ now (out .exit) ≡ fontLaid (now (out .entry)) look ⌝ }
+{
     let family = look.family;
     let size = look.size;
-    put_color(out, look.has_color, color);
-    put_back(out, look.has_back, back);
-    put_family(out, look.has_family, family);
-    put_size(out, look.has_size, size);
-    put_flags(out, look);
+    put_family(out, flag(look.has_family), family);
+    put_size(out, flag(look.has_size), flag(size.negative), size);
+}
+
+fn put_rest(out: &mut [u64], look: Look)
+    requires { ⌜ 27 ≤ length (now out) ⌝ }
+    ensures { λ _. ⌜ now (out .exit) ≡ flagsLaid (now (out .entry)) look ⌝ }
+{
+    let bold = flag(look.bold);
+    let italic = flag(look.italic);
+    let underline = flag(look.underline);
+    let strike = flag(look.strike);
+    let side = look.align;
+    put_flags(out, bold, italic, underline, strike, align(side));
+}
+
+// The cells and the float of an answer.
+fn put_answer(
+    out: &mut [u64],
+    size: &mut [f32],
+    place: usize,
+    style: u64,
+    ids: usize,
+    name: Span,
+    look: Look,
+)
+    requires { ⌜ (27 ≤ length (now out)) × (1 ≤ length (now size)) ⌝ }
+    ensures { λ _. ⌜ AnswerPut place style ids name look (now (out .entry)) (now (out .exit)) (now (size .entry)) (now (size .exit)) ⌝ }
+{
+    put_start(out, place, style, ids, name);
+    put_colors(out, look);
+    put_font(out, look);
+    put_rest(out, look);
+    let measure = look.size;
+    size[0] = measure.value;
+}
+
+// Its number, 0 if it has none.
+fn tell(answer: Resolved, out: &mut [u64], size: &mut [f32]) -> u32
+    requires { ⌜ (27 ≤ length (now out)) × (1 ≤ length (now size)) ⌝ }
+    ensures { λ r. ⌜ ToldAs answer (now (out .entry)) (now (out .exit)) (now (size .entry)) (now (size .exit)) r ⌝ }
+{
+    let none = Span { place: 0, len: 0 };
+    match answer {
+        Resolved::Refused(r) => {
+            let blank = styles::blank();
+            put_answer(out, size, r.place, 0, 0, none, blank);
+            r.number
+        }
+        Resolved::NoStyle(n) => {
+            let blank = styles::blank();
+            put_answer(out, size, 0, 0, n, none, blank);
+            0
+        }
+        Resolved::Style(s) => {
+            let name = s.name;
+            let look = s.look;
+            put_answer(out, size, 0, 1, s.ids, name, look);
+            0
+        }
+    }
+}
+
+// A style value on a handed track: 0, or document 01's number. 2^32 - 1 if there are fewer cells, then no table is touched.
+#[no_mangle]
+pub extern "C" fn probe_resolve_referenced_style(
+    value: &[u8],
+    head: &[u32],
+    params: &[u32],
+    styles: &[u32],
+    regions: &[u32],
+    cues: &[u32],
+    times: &[i64],
+    segments: &[u32],
+    reveal: &[i64],
+    sizes: &[f32],
+    extras: &[u32],
+    strings: &[u8],
+    texts: &[u8],
+    ids: &mut [u32],
+    out: &mut [u64],
+    size: &mut [f32],
+) -> u32
+    ensures { λ r. ⌜ TellsQueryIf (ReferencedStyle (now (value .entry)) (record { head = now (head .entry); params = now (params .entry); styles = now (styles .entry);
+        regions = now (regions .entry); cues = now (cues .entry); times = now (times .entry); segments = now (segments .entry);
+        reveal = now (reveal .entry); sizes = now (sizes .entry); extras = now (extras .entry); strings = now (strings .entry);
+        texts = now (texts .entry) }) (now (ids .entry)))
+        (now (ids .entry)) (now (ids .exit)) (now (out .entry)) (now (out .exit)) (now (size .entry)) (now (size .exit)) r ⌝ }
+{
+    if out.len() < 27 {
+        return 0xFFFF_FFFF;
+    }
+    if size.len() < 1 {
+        return 0xFFFF_FFFF;
+    }
+    let answer = queries::resolve_referenced_style(
+        value, head, params, styles, regions, cues, times, segments, reveal, sizes, extras, strings, texts, ids,
+    );
+    tell(answer, out, size)
+}
+
+// A region, likewise.
+#[no_mangle]
+pub extern "C" fn probe_region_style(
+    id: &[u8],
+    head: &[u32],
+    params: &[u32],
+    styles: &[u32],
+    regions: &[u32],
+    cues: &[u32],
+    times: &[i64],
+    segments: &[u32],
+    reveal: &[i64],
+    sizes: &[f32],
+    extras: &[u32],
+    strings: &[u8],
+    texts: &[u8],
+    ids: &mut [u32],
+    out: &mut [u64],
+    size: &mut [f32],
+) -> u32
+    ensures { λ r. ⌜ TellsQueryIf (RegionStyle (now (id .entry)) (record { head = now (head .entry); params = now (params .entry); styles = now (styles .entry);
+        regions = now (regions .entry); cues = now (cues .entry); times = now (times .entry); segments = now (segments .entry);
+        reveal = now (reveal .entry); sizes = now (sizes .entry); extras = now (extras .entry); strings = now (strings .entry);
+        texts = now (texts .entry) }) (now (ids .entry)))
+        (now (ids .entry)) (now (ids .exit)) (now (out .entry)) (now (out .exit)) (now (size .entry)) (now (size .exit)) r ⌝ }
+{
+    if out.len() < 27 {
+        return 0xFFFF_FFFF;
+    }
+    if size.len() < 1 {
+        return 0xFFFF_FFFF;
+    }
+    let answer = queries::region_style(
+        id, head, params, styles, regions, cues, times, segments, reveal, sizes, extras, strings, texts, ids,
+    );
+    tell(answer, out, size)
+}
+
+// A cue, likewise.
+#[no_mangle]
+pub extern "C" fn probe_effective_style_for_cue_index(
+    head: &[u32],
+    params: &[u32],
+    styles: &[u32],
+    regions: &[u32],
+    cues: &[u32],
+    times: &[i64],
+    segments: &[u32],
+    reveal: &[i64],
+    sizes: &[f32],
+    extras: &[u32],
+    strings: &[u8],
+    texts: &[u8],
+    cue_index: usize,
+    ids: &mut [u32],
+    out: &mut [u64],
+    size: &mut [f32],
+) -> u32
+    ensures { λ r. ⌜ TellsQueryIf (EffectiveStyle (record { head = now (head .entry); params = now (params .entry); styles = now (styles .entry);
+        regions = now (regions .entry); cues = now (cues .entry); times = now (times .entry); segments = now (segments .entry);
+        reveal = now (reveal .entry); sizes = now (sizes .entry); extras = now (extras .entry); strings = now (strings .entry);
+        texts = now (texts .entry) }) «cue_index» (now (ids .entry)))
+        (now (ids .entry)) (now (ids .exit)) (now (out .entry)) (now (out .exit)) (now (size .entry)) (now (size .exit)) r ⌝ }
+{
+    if out.len() < 27 {
+        return 0xFFFF_FFFF;
+    }
+    if size.len() < 1 {
+        return 0xFFFF_FFFF;
+    }
+    let answer = queries::effective_style_for_cue_index(
+        head, params, styles, regions, cues, times, segments, reveal, sizes, extras, strings, texts, cue_index, ids,
+    );
+    tell(answer, out, size)
 }

@@ -87,8 +87,8 @@ numbered-lasting e start none children = numbered-is children
 numbered-time : (e a : ℕ) (x : Time) → Numbered (timeAnswer e a x)
 numbered-time e a (Time.Is z) = numbered-is (some z)
 numbered-time e a Time.Nothing = numbered-is none
-numbered-time e a Time.Digits = numbered-refused 14 a (omega arith) (omega arith)
-numbered-time e a Time.Cut = numbered-refused 15 a (omega arith) (omega arith)
+numbered-time e a Time.Beyond = numbered-refused 14 a (omega arith) (omega arith)
+numbered-time e a Time.LongFraction = numbered-refused 15 a (omega arith) (omega arith)
 numbered-time e a Time.Overflow = numbered-refused 16 e (omega arith) (omega arith)
 
 numbered-color : (a : ℕ) (x : Color) → Numbered (colorAnswer a x)

@@ -20,6 +20,7 @@ use Rattle.track.specs.Track.{Track}
 use Rattle.track.specs.Tables.{Lengths, lengths, zeroFloat}
 use Rattle.track.specs.Tables as track
 use Rattle.xml.specs.Reading.{Placed}
+use Rattle.tree.specs.Answers as answers
 use Rattle.xml.specs.Promise as xml
 use Rattle.xml.proofs.Promises.{away-some}
 use Rattle.xml.proofs.Given.{given-tree, given-forest}
@@ -269,7 +270,7 @@ module _ (meant : Nodes Placed → meaning.Answer (Track Placed)) (numbers : (f 
 
     pub promise-away : {answer : Answer} {left : Tables} {r : Refusal} → xml.Parsed s tree-lent (tree.Answer.Refused r) (treeTables left)
         → answer ≡ Answer.Refused r → RestZero (lengths (lent .track)) (left .track) → Promise meant s lent answer left
-    unfolding xml.numberOf
+    unfolding answers.numberOf
     promise-away {r = r} p e z =
         let a = trees.refused-away s tree-lent p in
         turned-away (lift a) e (all-zero (p .cleared (away-some a)) z)

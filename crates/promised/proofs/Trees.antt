@@ -25,7 +25,8 @@ use Rattle.derivation.proofs.Theorem.{Gives, gives-exactly}
 use Rattle.track.specs.Track.{Track}
 use Rattle.xml.specs.Reading.{Placed, strings, lay, raw, readOut, stringsOf}
 use Rattle.xml.specs.Where.{documentPlaced}
-use Rattle.xml.specs.Promise.{numberOf, placeOf, Tables, tables, Takes, TurnsAway, placesOf, Parsed}
+use Rattle.tree.specs.Answers.{numberOf, placeOf}
+use Rattle.xml.specs.Promise.{Tables, tables, Takes, TurnsAway, placesOf, Parsed}
 use Rattle.xml.proofs.Parsing.{raw-enough}
 use Rattle.xml.proofs.Derived.{placed-as-derived}
 use Rattle.xml.proofs.Lengths.{read-placed}

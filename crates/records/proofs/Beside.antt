@@ -14,7 +14,8 @@ use Rattle.scan.proofs.Stores.{sets-append}
 use Rattle.track.specs.declared.values.Extra.{Extra}
 use Rattle.track.specs.declared.values.Rows.{Rows}
 use Rattle.track.specs.Tables.{zeroFloat}
-use Rattle.track.specs.Layout.{each, joinedCells, filledTimes, filledSizes, cueTimes, styleSize, segmentSize, extraCells, layExtras, Sized, PlacedStyle, PlacedCue}
+use Rattle.track.specs.Layout.{each, joinedCells, filledTimes, filledSizes, cueTimes, styleSize, segmentSize, extraCells, layExtras, Sized}
+use Rattle.track.specs.Layout.{PlacedStyle, PlacedCue}
 use Rattle.records.proofs.RowLaws.{filled-more, joined-append, joined-length, extra-wide}
 
 -- ---- lists, cell by cell
@@ -31,7 +32,8 @@ module _ {A B : Type 0} (g : A → B) where
 
   -- a cell more in a table that is filled up
   pub cell-added : (z : B) (n : ℕ) (l : List A) (x : A) → length l + 1 ≤ n
-      → let a = each g l in let b = each g (l ++ (x ∷ [])) in sets (a ++ replicate (n - length a) z) (length l) (g x ∷ []) ≡ b ++ replicate (n - length b) z
+      → let a = each g l in let b = each g (l ++ (x ∷ [])) in
+      sets (a ++ replicate (n - length a) z) (length l) (g x ∷ []) ≡ b ++ replicate (n - length b) z
   unfolding each
   cell-added z n l x h =
       let e : length (each g l) ≡ length l = each-length l in
@@ -81,16 +83,19 @@ segment-size-added n l x b h =
     let a = each sizedSize l in
     let e : length a ≡ length l = each-length sizedSize l in
     let m : length (filledSizes n a) ≡ n = length-append a (replicate (n - length a) zeroFloat) ∙ rw length-replicate (omega arith) in
-    sets-left (sizedSize x ∷ []) (filledSizes n a) b (length l) (omega (arith, m)) ∙ ap (λ (s : List Float). s ++ b) (cell-added sizedSize zeroFloat n l x h)
+    sets-left (sizedSize x ∷ []) (filledSizes n a) b (length l) (omega (arith, m))
+    ∙ ap (λ (s : List Float). s ++ b) (cell-added sizedSize zeroFloat n l x h)
 
 module _ (s : List Float) (long : length s ≡ 16384) where
   pub style-size-added : (n : ℕ) (l : List PlacedStyle) (x : PlacedStyle) → length l + 1 ≤ n
       → sets (s ++ filledSizes n (each styleSize l)) (16384 + length l) (styleSize x ∷ []) ≡ s ++ filledSizes n (each styleSize (l ++ (x ∷ [])))
   style-size-added n l x h =
-      rw (← long, sets-right (styleSize x ∷ []) s (filledSizes n (each styleSize l)) (length l)) (ap (λ (b : List Float). s ++ b) (cell-added styleSize zeroFloat n l x h))
+      rw (← long, sets-right (styleSize x ∷ []) s (filledSizes n (each styleSize l)) (length l))
+      (ap (λ (b : List Float). s ++ b) (cell-added styleSize zeroFloat n l x h))
 
 -- ---- extras
-pub extras-added : (t : List ℕ) (x : Rows) (l : List Extra) (e : Extra) → sets (layExtras t x l) ((x .first + length l) * 3) (extraCells e) ≡ layExtras t x (l ++ (e ∷ []))
+pub extras-added : (t : List ℕ) (x : Rows) (l : List Extra) (e : Extra)
+    → sets (layExtras t x l) ((x .first + length l) * 3) (extraCells e) ≡ layExtras t x (l ++ (e ∷ []))
 unfolding layExtras joinedCells
 extras-added t x l e =
     let a = joinedCells extraCells l in

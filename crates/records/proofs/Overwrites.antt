@@ -20,7 +20,8 @@ sets-over (x ∷ b) (y ∷ d) c t i h =
     rw (set-sets (b ++ c) (set t i x) i (suc i) y (omega arith), set-set t i x y) (sets-over b d c (set t i y) (suc i) (omega arith))
 
 -- cells over those that follow a kind and a number of rows
-pub kind-over : (b d c t t′ t″ : List ℕ) (i k n : ℕ) → t′ ≡ sets t i (k ∷ n ∷ (b ++ c)) → t″ ≡ sets t′ (i + 2) d → length b ≡ length d → t″ ≡ sets t i (k ∷ n ∷ (d ++ c))
+pub kind-over : (b d c t t′ t″ : List ℕ) (i k n : ℕ) → t′ ≡ sets t i (k ∷ n ∷ (b ++ c)) → t″ ≡ sets t′ (i + 2) d → length b ≡ length d
+    → t″ ≡ sets t i (k ∷ n ∷ (d ++ c))
 kind-over b d c t t′ t″ i k n e f h = f ∙ rw (e, add-two) (sets-over b d c (set (set t i k) (suc i) n) (suc (suc i)) h)
 
 pub font-wide : (x : Font) → length (fontCells x) ≡ 6

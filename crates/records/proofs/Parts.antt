@@ -12,7 +12,7 @@ use lib.Signed.{mag}
 use mir.Facts.{toZ-ofZ}
 use mir.Syntax.{w64}
 use mir.Val.{hbits, toZ, ofZ}
-use Rattle.decimals.proofs.Tests.{both}
+use Rattle.scan.proofs.Every.{both}
 use Rattle.track.specs.Meaning.{isColor, areThree, isByte}
 
 pub color-bytes : (t : List ℕ) (i : ℕ) → isColor t i ≡ true → getD t i 0 ≡ 1
@@ -21,9 +21,9 @@ unfolding isColor areThree isByte
 color-bytes t i h e =
     let two : i + 1 + 1 ≡ i + 2 = omega arith in
     let three : i + 1 + 2 ≡ i + 3 = omega arith in
-    let a = both _ _ (rw e at h) in
-    let b = both _ _ (a .0) in
-    let d = both _ _ (b .0) in
+    let a = both (rw e at h) in
+    let b = both (a .0) in
+    let d = both (b .0) in
     (ltb-true _ _ (d .0), ltb-true _ _ (rw two at (d .1)), ltb-true _ _ (rw three at (b .1)), ltb-true _ _ (a .1))
 
 -- whatever is said of cells past the end

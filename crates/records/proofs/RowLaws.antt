@@ -50,7 +50,8 @@ module _ {A : Type 0} (f : A → List ℕ) (w : ℕ) (wide : (x : A) → length 
       rw (length-append, suc-mul) (omega arith)
 
   -- a row more
-  pub row-added : (n : ℕ) (l : List A) (x : A) → length l * w + w ≤ n → sets (filled n (joinedCells f l)) (length l * w) (f x) ≡ filled n (joinedCells f (l ++ (x ∷ [])))
+  pub row-added : (n : ℕ) (l : List A) (x : A) → length l * w + w ≤ n
+      → sets (filled n (joinedCells f l)) (length l * w) (f x) ≡ filled n (joinedCells f (l ++ (x ∷ [])))
   unfolding joinedCells
   row-added n l x h =
       let e = wide x in
@@ -59,7 +60,8 @@ module _ {A : Type 0} (f : A → List ℕ) (w : ℕ) (wide : (x : A) → length 
       rw (← k, j) (filled-more 0 (joinedCells f l) (f x) n (omega arith))
 
   -- and there is one more
-  pub table-grown : (most : ℕ) (l : List A) (x : A) (t t′ : List ℕ) (m : ℕ) → t ≡ filled (most * w) (joinedCells f l) → AddPost most w (f x) t t′ (length l) (Added.Next m)
+  pub table-grown : (most : ℕ) (l : List A) (x : A) (t t′ : List ℕ) (m : ℕ) → t ≡ filled (most * w) (joinedCells f l)
+      → AddPost most w (f x) t t′ (length l) (Added.Next m)
       → (t′ ≡ filled (most * w) (joinedCells f (l ++ (x ∷ [])))) × (m ≡ length (l ++ (x ∷ [])))
   table-grown most l x t t′ m e p =
       let h : suc (length l) * w ≤ most * w = mul-le-mul-right w (p .0) in

@@ -23,7 +23,8 @@ module _ {A : Type 0} where
   -- cells over as many others
   pub sets-at : (p a b r : List A) (i : ℕ) → length p ≡ i → length a ≡ length b → sets (p ++ (a ++ r)) i b ≡ p ++ (b ++ r)
   sets-at p a b r i h e =
-      let last : drop (i + length b) (p ++ (a ++ r)) ≡ r = rw (← (append-assoc p a r)) (drop-at (p ++ a) r (i + length b) (rw length-append (omega arith))) in
+      let last : drop (i + length b) (p ++ (a ++ r)) ≡ r =
+      rw (← (append-assoc p a r)) (drop-at (p ++ a) r (i + length b) (rw length-append (omega arith))) in
       sets-eq b (p ++ (a ++ r)) i (simp length-append (omega arith)) ∙ rw (take-at p (a ++ r) i h, last, append-assoc)
 
   -- what is stored after a run
@@ -32,7 +33,8 @@ module _ {A : Type 0} where
   sets-after (x ∷ a) b t i = rw (add-suc i (length a), ← (suc-add i (length a))) (sets-after a b (set t i x) (suc i))
 
   -- the body is moved by as many cells as the head has, and the head put before it
-  pub put-before : (pre body head rest t t′ t″ : List A) (at by : ℕ) → t ≡ pre ++ (body ++ rest) → length pre ≡ at → length head ≡ by → by ≤ length rest
+  pub put-before : (pre body head rest t t′ t″ : List A) (at by : ℕ) → t ≡ pre ++ (body ++ rest) → length pre ≡ at → length head ≡ by
+      → by ≤ length rest
       → t′ ≡ sets t (at + by) (take (length body) (drop at t)) → t″ ≡ sets t′ at head → t″ ≡ pre ++ (head ++ (body ++ drop by rest))
   put-before pre body head rest t t′ t″ at by e p h k e′ e″ =
       let m : List A = body ++ rest in
@@ -42,10 +44,13 @@ module _ {A : Type 0} where
       let la : length a ≡ length body = length-take-le (length body) (drop by m) over in
       let lt : length (take by m) ≡ by = length-take-le by m all in
       let piece : take (length body) (drop at t) ≡ body = rw (e, drop-at pre m at p) (take-append-seam body rest) in
-      let end : drop (length body) (drop by m) ≡ drop by rest = drop-drop (length body) by m ∙ rw (add-comm by (length body)) (drop-append-add body rest by) in
+      let end : drop (length body) (drop by m) ≡ drop by rest =
+      drop-drop (length body) by m ∙ rw (add-comm by (length body)) (drop-append-add body rest by) in
       let parts : m ≡ take by m ++ (a ++ drop by rest) =
-      sym (take-append-drop by m) ∙ ap (λ (l : List A). take by m ++ l) (sym (take-append-drop (length body) (drop by m)) ∙ ap (λ (l : List A). a ++ l) end) in
-      let whole : t ≡ (pre ++ take by m) ++ (a ++ drop by rest) = e ∙ ap (λ (l : List A). pre ++ l) parts ∙ sym (append-assoc pre (take by m) (a ++ drop by rest)) in
+      sym (take-append-drop by m) ∙ ap (λ (l : List A). take by m ++ l)
+      (sym (take-append-drop (length body) (drop by m)) ∙ ap (λ (l : List A). a ++ l) end) in
+      let whole : t ≡ (pre ++ take by m) ++ (a ++ drop by rest) =
+      e ∙ ap (λ (l : List A). pre ++ l) parts ∙ sym (append-assoc pre (take by m) (a ++ drop by rest)) in
       let moved : t′ ≡ (pre ++ take by m) ++ (body ++ drop by rest) =
       e′ ∙ ap (λ (l : List A). sets t (at + by) l) piece ∙ ap (λ (l : List A). sets l (at + by) body) whole
       ∙ sets-at (pre ++ take by m) a body (drop by rest) (at + by) (rw length-append (omega arith)) la in
@@ -53,12 +58,14 @@ module _ {A : Type 0} where
       ∙ sets-at pre (take by m) head (body ++ drop by rest) at p (lt ∙ sym h)
 
   -- a row after the body
-  pub put-after : (pre body row rest t t′ : List A) (n w : ℕ) → t ≡ pre ++ (body ++ rest) → length pre + length body ≡ n → length row ≡ w → w ≤ length rest
+  pub put-after : (pre body row rest t t′ : List A) (n w : ℕ) → t ≡ pre ++ (body ++ rest) → length pre + length body ≡ n → length row ≡ w
+      → w ≤ length rest
       → t′ ≡ sets t n row → t′ ≡ pre ++ ((body ++ row) ++ drop w rest)
   put-after pre body row rest t t′ n w e p h k e′ =
       let l : length (take w rest) ≡ length row = length-take-le w rest k ∙ sym h in
       let whole : t ≡ (pre ++ body) ++ (take w rest ++ drop w rest) = e ∙ rw (take-append-drop w rest, append-assoc) in
-      e′ ∙ ap (λ (x : List A). sets x n row) whole ∙ sets-at (pre ++ body) (take w rest) row (drop w rest) n (rw length-append p) l ∙ simp append-assoc
+      e′ ∙ ap (λ (x : List A). sets x n row) whole ∙ sets-at (pre ++ body) (take w rest) row (drop w rest) n (rw length-append p) l
+      ∙ simp append-assoc
 
 -- ---- segments in preorder
 pub preorder-joined : (f g : Segments Span) → preorder (joined f g) ≡ preorder f ++ preorder g
@@ -71,7 +78,8 @@ preorder-joined (track.wrap w c x) g = rw (preorder-joined x g, append-assoc)
 
 pub rows-joined : (f g : Segments Span) → segmentRows (joined f g) ≡ segmentRows f + segmentRows g
 rows-joined f g =
-    let e : length (preorder (joined f g)) ≡ length (preorder f) + length (preorder g) = rw (preorder-joined f g) (length-append (preorder f) (preorder g)) in
+    let e : length (preorder (joined f g)) ≡ length (preorder f) + length (preorder g) =
+    rw (preorder-joined f g) (length-append (preorder f) (preorder g)) in
     rw (rows-many (joined f g), rows-many f, rows-many g) at e
 
 pub joined-done : {S : Type 0} (f : Segments S) → joined f track.done ≡ f
@@ -150,30 +158,36 @@ module _ {A : Type 0} (g : Sized → List A) where
         (put-before pre (laid g (preorder f)) (laid g r) rest t t′ t″ (at * w) (length r * w) e p (laid-length r) k (rw (next, many) at e′) e″)
 
     -- one wrapper
-    pub wrap-rows : (pre rest t t′ t″ : List A) (x : Wrapper Span) (f : Segments Span) (at end : ℕ) → t ≡ pre ++ (laid g (preorder f) ++ rest) → length pre ≡ at * w
+    pub wrap-rows : (pre rest t t′ t″ : List A) (x : Wrapper Span) (f : Segments Span) (at end : ℕ) → t ≡ pre ++ (laid g (preorder f) ++ rest)
+        → length pre ≡ at * w
         → end ≡ at + segmentRows f → w ≤ length rest → t′ ≡ sets t ((at + 1) * w) (take (end * w - at * w) (drop (at * w) t))
         → t″ ≡ sets t′ (at * w) (g (wrapperRow x f)) → t″ ≡ pre ++ (laid g (preorder (track.wrap x f track.done)) ++ drop w rest)
     unfolding preorder
     wrap-rows pre rest t t′ t″ x f at end e p n k e′ e″ =
         let o : preorder (track.wrap x f track.done) ≡ (wrapperRow x f ∷ []) ++ preorder f = rw (append-nil (preorder f)) in
-        rw (one-mul w) at (before-rows pre rest t t′ t″ (wrapperRow x f ∷ []) f (track.wrap x f track.done) at end o e p n (rw (one-mul w) k) e′ (rw (laid-one (wrapperRow x f)) e″))
+        rw (one-mul w) at (before-rows pre rest t t′ t″ (wrapperRow x f ∷ []) f (track.wrap x f track.done) at end o e p n (rw (one-mul w) k) e′
+        (rw (laid-one (wrapperRow x f)) e″))
 
     -- several, the first outermost
-    pub wrap-all : (pre rest t t′ t″ : List A) (l : List (Wrapper Span)) (f : Segments Span) (at end : ℕ) → t ≡ pre ++ (laid g (preorder f) ++ rest) → length pre ≡ at * w
+    pub wrap-all : (pre rest t t′ t″ : List A) (l : List (Wrapper Span)) (f : Segments Span) (at end : ℕ) → t ≡ pre ++ (laid g (preorder f) ++ rest)
+        → length pre ≡ at * w
         → end ≡ at + segmentRows f → length l * w ≤ length rest → t′ ≡ sets t ((at + length l) * w) (take (end * w - at * w) (drop (at * w) t))
         → t″ ≡ sets t′ (at * w) (laid g (wrapperRows l (segmentRows f))) → t″ ≡ pre ++ (laid g (preorder (wrapped l f)) ++ drop (length l * w) rest)
     wrap-all pre rest t t′ t″ l f at end e p n k e′ e″ =
         let many : length (wrapperRows l (segmentRows f)) ≡ length l = wrappers-length l (segmentRows f) in
-        rw many at (before-rows pre rest t t′ t″ (wrapperRows l (segmentRows f)) f (wrapped l f) at end (preorder-wrapped l f) e p n (rw many k) (rw many e′) e″)
+        rw many at (before-rows pre rest t t′ t″ (wrapperRows l (segmentRows f)) f (wrapped l f) at end (preorder-wrapped l f) e p n (rw many k)
+        (rw many e′) e″)
 
     -- a row put after them
-    pub add-row : (pre rest t t′ : List A) (f h : Segments Span) (x : Sized) (at n : ℕ) → preorder h ≡ x ∷ [] → t ≡ pre ++ (laid g (preorder f) ++ rest)
+    pub add-row : (pre rest t t′ : List A) (f h : Segments Span) (x : Sized) (at n : ℕ) → preorder h ≡ x ∷ []
+        → t ≡ pre ++ (laid g (preorder f) ++ rest)
         → length pre ≡ at * w → n ≡ at + segmentRows f → w ≤ length rest → t′ ≡ sets t (n * w) (g x)
         → t′ ≡ pre ++ (laid g (preorder (joined f h)) ++ drop w rest)
     add-row pre rest t t′ f h x at n o e p m k e′ =
         let wide-all = rows-length f in
         let all : n * w ≡ at * w + segmentRows f * w = rw (m, add-mul at (segmentRows f) w) in
-        let rows : laid g (preorder (joined f h)) ≡ laid g (preorder f) ++ g x = rw (preorder-joined f h, laid-append (preorder f) (preorder h), o, laid-one x) in
+        let rows : laid g (preorder (joined f h)) ≡ laid g (preorder f) ++ g x =
+        rw (preorder-joined f h, laid-append (preorder f) (preorder h), o, laid-one x) in
         rw rows (put-after pre (laid g (preorder f)) (g x) rest t t′ (n * w) w e (omega arith) (wide x) k e′)
 
 -- ---- in the three tables
@@ -185,14 +199,16 @@ laid-cells (x ∷ l) = rw (laid-cells l)
 module _ (pre rest t t′ : List ℕ) (f : Segments Span) (at n : ℕ) (e : t ≡ pre ++ (cellsOf (preorder f) ++ rest)) (p : length pre ≡ at * 8)
     (m : n ≡ at + segmentRows f) where
   -- `shift_segments` by one and `put_segment` of a wrapper
-  pub wrap-cells : (t″ : List ℕ) (x : Wrapper Span) → 8 ≤ length rest → t′ ≡ sets t ((at + 1) * 8) (part (at * 8) (n * 8) t) → t″ ≡ sets t′ (at * 8) (rowCells (wrapperRow x f))
+  pub wrap-cells : (t″ : List ℕ) (x : Wrapper Span) → 8 ≤ length rest → t′ ≡ sets t ((at + 1) * 8) (part (at * 8) (n * 8) t)
+      → t″ ≡ sets t′ (at * 8) (rowCells (wrapperRow x f))
       → t″ ≡ pre ++ (cellsOf (preorder (track.wrap x f track.done)) ++ drop 8 rest)
   wrap-cells t″ x k e′ e″ =
       rw (← (laid-cells (preorder (track.wrap x f track.done))))
       (wrap-rows rowCells 8 (λ y. segment-wide (y .segment) (y .rows)) pre rest t t′ t″ x f at n (rw (laid-cells (preorder f)) e) p m k e′ e″)
 
   -- the same by as many as there are wrappers
-  pub wrap-all-cells : (t″ : List ℕ) (l : List (Wrapper Span)) → length l * 8 ≤ length rest → t′ ≡ sets t ((at + length l) * 8) (part (at * 8) (n * 8) t)
+  pub wrap-all-cells : (t″ : List ℕ) (l : List (Wrapper Span)) → length l * 8 ≤ length rest
+      → t′ ≡ sets t ((at + length l) * 8) (part (at * 8) (n * 8) t)
       → t″ ≡ sets t′ (at * 8) (cellsOf (wrapperRows l (segmentRows f))) → t″ ≡ pre ++ (cellsOf (preorder (wrapped l f)) ++ drop (length l * 8) rest)
   wrap-all-cells t″ l k e′ e″ =
       rw (← (laid-cells (preorder (wrapped l f))))
@@ -218,25 +234,31 @@ laid-each v (x ∷ l) = rw (laid-each v l)
 pub each-joined : {A : Type 0} (v : Sized → A) (f g : Segments Span) → each v (preorder (joined f g)) ≡ each v (preorder f) ++ each v (preorder g)
 each-joined v f g = rw (preorder-joined f g) (each-append v (preorder f) (preorder g))
 
-module _ {A : Type 0} (v : Sized → A) (pre rest t t′ : List A) (f : Segments Span) (at n : ℕ) (e : t ≡ pre ++ (each v (preorder f) ++ rest)) (p : length pre ≡ at)
+module _ {A : Type 0} (v : Sized → A) (pre rest t t′ : List A) (f : Segments Span) (at n : ℕ) (e : t ≡ pre ++ (each v (preorder f) ++ rest))
+    (p : length pre ≡ at)
     (m : n ≡ at + segmentRows f) where
-  pub wrap-each : (t″ : List A) (x : Wrapper Span) → 1 ≤ length rest → t′ ≡ sets t (at + 1) (take (n - at) (drop at t)) → t″ ≡ sets t′ at (v (wrapperRow x f) ∷ [])
+  pub wrap-each : (t″ : List A) (x : Wrapper Span) → 1 ≤ length rest → t′ ≡ sets t (at + 1) (take (n - at) (drop at t))
+      → t″ ≡ sets t′ at (v (wrapperRow x f) ∷ [])
       → t″ ≡ pre ++ (each v (preorder (track.wrap x f track.done)) ++ drop 1 rest)
   wrap-each t″ x k e′ e″ =
       rw (← (laid-each v (preorder (track.wrap x f track.done))))
-      (wrap-rows (λ (y : Sized). v y ∷ []) 1 (λ y. refl) pre rest t t′ t″ x f at n (rw (laid-each v (preorder f)) e) (rw mul-one p) m k (simp mul-one e′) (rw mul-one e″))
+      (wrap-rows (λ (y : Sized). v y ∷ []) 1 (λ y. refl) pre rest t t′ t″ x f at n (rw (laid-each v (preorder f)) e) (rw mul-one p) m k
+      (simp mul-one e′) (rw mul-one e″))
 
   pub wrap-all-each : (t″ : List A) (l : List (Wrapper Span)) → length l ≤ length rest → t′ ≡ sets t (at + length l) (take (n - at) (drop at t))
       → t″ ≡ sets t′ at (each v (wrapperRows l (segmentRows f))) → t″ ≡ pre ++ (each v (preorder (wrapped l f)) ++ drop (length l) rest)
   wrap-all-each t″ l k e′ e″ =
       rw (← (laid-each v (preorder (wrapped l f))))
-      (rw (mul-one (length l)) at (wrap-all (λ (y : Sized). v y ∷ []) 1 (λ y. refl) pre rest t t′ t″ l f at n (rw (laid-each v (preorder f)) e) (rw mul-one p) m
+      (rw (mul-one (length l)) at (wrap-all (λ (y : Sized). v y ∷ []) 1 (λ y. refl) pre rest t t′ t″ l f at n (rw (laid-each v (preorder f)) e)
+      (rw mul-one p) m
       (rw mul-one k) (simp mul-one e′) (rw (mul-one at, laid-each v (wrapperRows l (segmentRows f))) e″)))
 
-  pub add-each : (h : Segments Span) (x : Sized) → preorder h ≡ x ∷ [] → 1 ≤ length rest → t′ ≡ sets t n (v x ∷ []) → t′ ≡ pre ++ (each v (preorder (joined f h)) ++ drop 1 rest)
+  pub add-each : (h : Segments Span) (x : Sized) → preorder h ≡ x ∷ [] → 1 ≤ length rest → t′ ≡ sets t n (v x ∷ [])
+      → t′ ≡ pre ++ (each v (preorder (joined f h)) ++ drop 1 rest)
   add-each h x o k e′ =
       rw (← (laid-each v (preorder (joined f h))))
-      (add-row (λ (y : Sized). v y ∷ []) 1 (λ y. refl) pre rest t t′ f h x at n o (rw (laid-each v (preorder f)) e) (rw mul-one p) m k (rw mul-one e′))
+      (add-row (λ (y : Sized). v y ∷ []) 1 (λ y. refl) pre rest t t′ f h x at n o (rw (laid-each v (preorder f)) e) (rw mul-one p) m k
+      (rw mul-one e′))
 
 -- those that have one row
 pub text-one : (s : Span) → preorder (track.text s track.done) ≡ record { segment = Segment.Text s; rows = 1 } ∷ []

@@ -11,7 +11,8 @@ use Rattle.track.specs.Track.{Wrapper, Segments, segmentRows}
 use Rattle.track.specs.Track as track
 use Rattle.track.specs.Tables.{zeroFloat}
 use Rattle.track.specs.Layout.{Sized, wrapperOf, preorder, joinedCells, each, segmentTime, segmentSize}
-use Rattle.records.specs.Siblings.{joined, rowCells, cellsOf, timesOf, floatsOf, Three, Stands, Room, later, andThese, andCleared, Shifted, Put, Dropped}
+use Rattle.records.specs.Siblings.{joined, rowCells, cellsOf, timesOf, floatsOf, Three, Stands, Room, later, andThese, andCleared, Shifted}
+use Rattle.records.specs.Siblings.{Put, Dropped}
 use Rattle.records.proofs.RowLaws.{joined-length, segment-wide}
 use Rattle.records.proofs.Beside.{each-length}
 use Rattle.track.proofs.SegmentsLaid.{rows-many}
@@ -32,7 +33,8 @@ each-rows v f = each-length v (preorder f) ∙ rows-many f
 
 -- none, at a row
 pub stands-start : (pre rest t : Three) (at : ℕ) → (length (pre .cells) ≡ at * 8) × (length (pre .times) ≡ at) × (length (pre .floats) ≡ at)
-    → t .cells ≡ pre .cells ++ rest .cells → t .times ≡ pre .times ++ rest .times → t .floats ≡ pre .floats ++ rest .floats → Stands pre rest at at track.done t
+    → t .cells ≡ pre .cells ++ rest .cells → t .times ≡ pre .times ++ rest .times → t .floats ≡ pre .floats ++ rest .floats
+    → Stands pre rest at at track.done t
 unfolding segmentRows preorder joinedCells each
 stands-start pre rest t at l a b c = record { count = omega arith; before = l; in-cells = a; in-times = b; in-floats = c }
 
@@ -54,9 +56,15 @@ module _ (pre rest : Three) (at n : ℕ) (f : Segments Span) (t : Three) (s : St
       record {
         count = omega (arith, s .count);
         before = s .before;
-        in-cells = wrap-cells (pre .cells) (rest .cells) (t .cells) (t′ .cells) f at n (s .in-cells) (s .before .0) (s .count) (t″ .cells) x (r .in-cells) (m .in-cells) (p .in-cells);
-        in-times = wrap-each timeOf (pre .times) (rest .times) (t .times) (t′ .times) f at n (s .in-times) (s .before .1) (s .count) (t″ .times) x (r .in-times) (m .in-times) (p .in-times);
-        in-floats = wrap-each floatOf (pre .floats) (rest .floats) (t .floats) (t′ .floats) f at n (s .in-floats) (s .before .2) (s .count) (t″ .floats) x (r .in-floats) (m .in-floats) (p .in-floats);
+        in-cells =
+            wrap-cells (pre .cells) (rest .cells) (t .cells) (t′ .cells) f at n (s .in-cells) (s .before .0) (s .count) (t″ .cells) x (r .in-cells)
+            (m .in-cells) (p .in-cells);
+        in-times =
+            wrap-each timeOf (pre .times) (rest .times) (t .times) (t′ .times) f at n (s .in-times) (s .before .1) (s .count) (t″ .times) x
+            (r .in-times) (m .in-times) (p .in-times);
+        in-floats =
+            wrap-each floatOf (pre .floats) (rest .floats) (t .floats) (t′ .floats) f at n (s .in-floats) (s .before .2) (s .count) (t″ .floats) x
+            (r .in-floats) (m .in-floats) (p .in-floats);
       }
 
   -- one row more
@@ -67,9 +75,15 @@ module _ (pre rest : Three) (at n : ℕ) (f : Segments Span) (t : Three) (s : St
       record {
         count = omega (arith, s .count, rows-joined f h);
         before = s .before;
-        in-cells = add-cells (pre .cells) (rest .cells) (t .cells) (t′ .cells) f at n (s .in-cells) (s .before .0) (s .count) h x o (r .in-cells) (p .in-cells);
-        in-times = add-each timeOf (pre .times) (rest .times) (t .times) (t′ .times) f at n (s .in-times) (s .before .1) (s .count) h x o (r .in-times) (p .in-times);
-        in-floats = add-each floatOf (pre .floats) (rest .floats) (t .floats) (t′ .floats) f at n (s .in-floats) (s .before .2) (s .count) h x o (r .in-floats) (p .in-floats);
+        in-cells =
+            add-cells (pre .cells) (rest .cells) (t .cells) (t′ .cells) f at n (s .in-cells) (s .before .0) (s .count) h x o (r .in-cells)
+            (p .in-cells);
+        in-times =
+            add-each timeOf (pre .times) (rest .times) (t .times) (t′ .times) f at n (s .in-times) (s .before .1) (s .count) h x o (r .in-times)
+            (p .in-times);
+        in-floats =
+            add-each floatOf (pre .floats) (rest .floats) (t .floats) (t′ .floats) f at n (s .in-floats) (s .before .2) (s .count) h x o
+            (r .in-floats) (p .in-floats);
       }
 
   -- none yet, after these
@@ -85,7 +99,8 @@ module _ (pre rest : Three) (at n : ℕ) (f : Segments Span) (t : Three) (s : St
       (s .in-floats ∙ sym (append-assoc (pre .floats) (floatsOf (preorder f)) (rest .floats)))
 
   -- those that stand after these, with them
-  pub stands-join : (rest′ : Three) (m : ℕ) (g : Segments Span) (t′ : Three) → Stands (andThese pre f) rest′ n m g t′ → Stands pre rest′ at m (joined f g) t′
+  pub stands-join : (rest′ : Three) (m : ℕ) (g : Segments Span) (t′ : Three) → Stands (andThese pre f) rest′ n m g t′
+      → Stands pre rest′ at m (joined f g) t′
   stands-join rest′ m g t′ s′ =
       record {
         count = omega (arith, s .count, s′ .count, rows-joined f g);

@@ -172,8 +172,8 @@ fn put_id(out: &mut [u8], at: usize, ids: &[u32], cell: usize, text: &[u8], stri
     if ids[cell + 3] != 0 {
         return put(out, at, 9);
     }
-    let place = ids[cell + 1] as usize;
-    let len = ids[cell + 2] as usize;
+    let place = scan::get(ids, cell + 1);
+    let len = scan::get(ids, cell + 2);
     match ids[cell] {
         0 => put_part(out, at, text, place, len),
         1 => put_part(out, at, strings, place, len),

@@ -16,7 +16,89 @@ fn index(text: &[u8]) -> usize {
     crate::fields::byte(text, 0) as usize * 256 + crate::fields::byte(text, 1) as usize
 }
 
-// What a query of this kind answers. The tables of 32 bits are one, those of times too, and strings and texts.
+fn asked(
+    kind: u8,
+    text: &[u8],
+    head: &[u32],
+    params: &[u32],
+    styles: &[u32],
+    regions: &[u32],
+    cues: &[u32],
+    times: &[i64],
+    segments: &[u32],
+    reveal: &[i64],
+    sizes: &[f32],
+    extras: &[u32],
+    strings: &[u8],
+    texts: &[u8],
+    ids: &mut [u32],
+) -> Resolved {
+    match kind {
+        b'V' => queries::resolve_referenced_style(
+            text, head, params, styles, regions, cues, times, segments, reveal, sizes, extras, strings, texts, ids,
+        ),
+        b'R' => queries::region_style(
+            text, head, params, styles, regions, cues, times, segments, reveal, sizes, extras, strings, texts, ids,
+        ),
+        _ => queries::effective_style_for_cue_index(
+            head,
+            params,
+            styles,
+            regions,
+            cues,
+            times,
+            segments,
+            reveal,
+            sizes,
+            extras,
+            strings,
+            texts,
+            index(text),
+            ids,
+        ),
+    }
+}
+
+// Strings and texts are one table.
+fn asked_bytes(
+    kind: u8,
+    text: &[u8],
+    head: &[u32],
+    params: &[u32],
+    styles: &[u32],
+    regions: &[u32],
+    cues: &[u32],
+    times: &[i64],
+    segments: &[u32],
+    reveal: &[i64],
+    sizes: &[f32],
+    extras: &[u32],
+    bytes: &[u8],
+    ids: &mut [u32],
+) -> Resolved {
+    if bytes.len() < 131072 {
+        return too_short();
+    }
+    asked(
+        kind,
+        text,
+        head,
+        params,
+        styles,
+        regions,
+        cues,
+        times,
+        segments,
+        reveal,
+        sizes,
+        extras,
+        &bytes[0..65536],
+        &bytes[65536..131072],
+        ids,
+    )
+}
+
+// What a query of this kind answers. The tables of 32 bits are one, and those of times.
 pub fn ask(
     kind: u8,
     text: &[u8],
@@ -32,57 +114,20 @@ pub fn ask(
     if times.len() < 20480 {
         return too_short();
     }
-    if bytes.len() < 131072 {
-        return too_short();
-    }
-    match kind {
-        b'V' => queries::resolve_referenced_style(
-            text,
-            &cells[..10],
-            &cells[10..266],
-            &cells[266..7178],
-            &cells[7178..8202],
-            &cells[8202..30730],
-            &times[..4096],
-            &cells[30730..161802],
-            &times[4096..20480],
-            sizes,
-            &cells[161802..186378],
-            &bytes[..65536],
-            &bytes[65536..131072],
-            ids,
-        ),
-        b'R' => queries::region_style(
-            text,
-            &cells[..10],
-            &cells[10..266],
-            &cells[266..7178],
-            &cells[7178..8202],
-            &cells[8202..30730],
-            &times[..4096],
-            &cells[30730..161802],
-            &times[4096..20480],
-            sizes,
-            &cells[161802..186378],
-            &bytes[..65536],
-            &bytes[65536..131072],
-            ids,
-        ),
-        _ => queries::effective_style_for_cue_index(
-            &cells[..10],
-            &cells[10..266],
-            &cells[266..7178],
-            &cells[7178..8202],
-            &cells[8202..30730],
-            &times[..4096],
-            &cells[30730..161802],
-            &times[4096..20480],
-            sizes,
-            &cells[161802..186378],
-            &bytes[..65536],
-            &bytes[65536..131072],
-            index(text),
-            ids,
-        ),
-    }
+    asked_bytes(
+        kind,
+        text,
+        &cells[0..10],
+        &cells[10..266],
+        &cells[266..7178],
+        &cells[7178..8202],
+        &cells[8202..30730],
+        &times[0..4096],
+        &cells[30730..161802],
+        &times[4096..20480],
+        sizes,
+        &cells[161802..186378],
+        bytes,
+        ids,
+    )
 }

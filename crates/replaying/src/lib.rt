@@ -1,6 +1,7 @@
 // What the programs that replay recorded answers of the Rust have in common: a line read, and lines
 // counted. A line is a kind, the bytes that were given and the bytes that the Rust answered, in
 // hexadecimal, `-` for none.
+ghost use mathlib.Core.Path.{_≡_};
 ghost use Prim.Native.Nat.{_+_, _^_, _≤_, _<_};
 ghost use lib.ListN.{length};
 use libc::STDOUT_FILENO;
@@ -20,7 +21,7 @@ pub struct Line {
 }
 
 pub fn no_lines() -> Tally
-    ensures { λ r. ⌜ r .agree + r .differ ≤ 0 ⌝ }
+    ensures { λ r. ⌜ (r .agree ≡ 0) × (r .differ ≡ 0) ⌝ }
 {
     Tally {
         agree: 0,
@@ -85,7 +86,7 @@ pub fn read_line(line: &[u8], given: &mut [u8], told: &mut [u8]) -> Line
 }
 
 fn no_line() -> Line
-    ensures { λ r. ⌜ (r .given ≤ 0) × (r .told ≤ 0) ⌝ }
+    ensures { λ r. ⌜ (r .given ≡ 0) × (r .told ≡ 0) ⌝ }
 {
     Line {
         whole: false,

@@ -10,19 +10,20 @@ use mathlib.Core.List.{List}
 use native.Mathlib.Omega.{arith}
 use native.Mathlib.Nat.{add-zero, zero-add}
 use lib.ListN.{getD, take}
-use Rattle.decimals.proofs.Tests.{both}
+use Rattle.scan.proofs.Every.{both}
 use Rattle.track.specs.Tables.{Tables, cell, paramCount, styleCount, regionCount, cueCount, segmentCount, stringsUsed, textsUsed}
-use Rattle.track.specs.Meaning.{isOptional, isParam, isStyle, isRegion, isCue, areCues, allRows, withinLimits, isUtf8, bytesMean, rowsMean, isTrack}
+use Rattle.track.specs.Meaning.{isOptional, isParam, isStyle, isRegion, isCue, areCues, allRows, withinLimits, isUtf8, bytesMean, rowsMean}
+use Rattle.track.specs.Meaning.{isTrack}
 use Rattle.track.proofs.StringLaws.{three, four}
 use Rattle.track.proofs.CueRows.{cue-row}
 
 pub all-row : (p : ℕ → Bool) (n i j : ℕ) → allRows p n i ≡ true → j < n → p (i + j) ≡ true
 unfolding allRows
 all-row p zero i j h l = absurd (omega arith)
-all-row p (suc n) i zero h l = rw (add-zero i) (both (p i) (allRows p n (i + 1)) h .0)
+all-row p (suc n) i zero h l = rw (add-zero i) (both {a = p i} {b = allRows p n (i + 1)} h .0)
 all-row p (suc n) i (suc j) h l =
     let q : i + suc j ≡ i + 1 + j = omega arith in
-    rw q (all-row p n (i + 1) j (both (p i) (allRows p n (i + 1)) h .1) (omega arith))
+    rw q (all-row p n (i + 1) j (both {a = p i} {b = allRows p n (i + 1)} h .1) (omega arith))
 
 module _ (T : Tables) where
   abbrev pub usedStrings : List ℕ
@@ -36,15 +37,18 @@ module _ (T : Tables) where
         × (rowsMean (T .head) (T .params) (T .styles) (T .regions) (T .sizes) (T .extras) usedStrings ≡ true)
         × (areCues (T .cues) (T .extras) (T .segments) (T .sizes) usedStrings usedTexts (segmentCount (T .head)) 0 (cueCount (T .head)) 0 ≡ true)
     unfolding isTrack
-    parts = four (withinLimits (T .head)) (bytesMean (T .head) usedStrings usedTexts) (rowsMean (T .head) (T .params) (T .styles) (T .regions) (T .sizes) (T .extras) usedStrings)
+    parts = four (withinLimits (T .head)) (bytesMean (T .head) usedStrings usedTexts)
+        (rowsMean (T .head) (T .params) (T .styles) (T .regions) (T .sizes) (T .extras) usedStrings)
         (areCues (T .cues) (T .extras) (T .segments) (T .sizes) usedStrings usedTexts (segmentCount (T .head)) 0 (cueCount (T .head)) 0) h
 
     pub limits-ok : withinLimits (T .head) ≡ true
     limits-ok = parts .0
 
-    bytes : (isUtf8 usedStrings ≡ true) × (isUtf8 usedTexts ≡ true) × (isOptional usedStrings (getD (T .head) 5 0) (getD (T .head) 6 0) (getD (T .head) 7 0) ≡ true)
+    bytes : (isUtf8 usedStrings ≡ true) × (isUtf8 usedTexts ≡ true)
+        × (isOptional usedStrings (getD (T .head) 5 0) (getD (T .head) 6 0) (getD (T .head) 7 0) ≡ true)
     unfolding bytesMean
-    bytes = three (isUtf8 usedStrings) (isUtf8 usedTexts) (isOptional usedStrings (getD (T .head) 5 0) (getD (T .head) 6 0) (getD (T .head) 7 0)) (parts .1)
+    bytes = three (isUtf8 usedStrings) (isUtf8 usedTexts) (isOptional usedStrings (getD (T .head) 5 0) (getD (T .head) 6 0) (getD (T .head) 7 0))
+        (parts .1)
 
     pub strings-ok : isUtf8 usedStrings ≡ true
     strings-ok = bytes .0
@@ -59,7 +63,8 @@ module _ (T : Tables) where
         × (allRows (isStyle (T .styles) (T .sizes) (T .extras) usedStrings) (styleCount (T .head)) 0 ≡ true)
         × (allRows (isRegion (T .regions) (T .extras) usedStrings) (regionCount (T .head)) 0 ≡ true)
     unfolding rowsMean
-    rows = three (allRows (isParam (T .params) usedStrings) (paramCount (T .head)) 0) (allRows (isStyle (T .styles) (T .sizes) (T .extras) usedStrings) (styleCount (T .head)) 0)
+    rows = three (allRows (isParam (T .params) usedStrings) (paramCount (T .head)) 0)
+        (allRows (isStyle (T .styles) (T .sizes) (T .extras) usedStrings) (styleCount (T .head)) 0)
         (allRows (isRegion (T .regions) (T .extras) usedStrings) (regionCount (T .head)) 0) (parts .2)
 
     module _ (i : ℕ) where
@@ -76,4 +81,5 @@ module _ (T : Tables) where
       pub cue-ok : i < cueCount (T .head)
           → (isCue (T .cues) (T .extras) (T .segments) (T .sizes) usedStrings usedTexts (segmentCount (T .head)) (cell 11 (T .cues) i 7) i ≡ true)
           × (cell 11 (T .cues) i 7 + cell 11 (T .cues) i 8 ≤ segmentCount (T .head))
-      cue-ok l = rw (zero-add i) at (cue-row (T .cues) (T .extras) (T .segments) (T .sizes) usedStrings usedTexts (segmentCount (T .head)) 0 (cueCount (T .head)) 0 i (parts .3) l)
+      cue-ok l = rw (zero-add i) at (cue-row (T .cues) (T .extras) (T .segments) (T .sizes) usedStrings usedTexts (segmentCount (T .head)) 0
+          (cueCount (T .head)) 0 i (parts .3) l)

@@ -10,7 +10,7 @@ use mathlib.Core.List.{List}
 use lib.ListN.{length, getD, take}
 use lib.Dec.{leb}
 use borrow.Author.Tests.{leb-true, le-leb}
-use Rattle.decimals.proofs.Tests.{both}
+use Rattle.scan.proofs.Every.{both}
 use Rattle.track.specs.Tables.{Tables, lengths, LongEnough, cueCount, segmentCount, stringsUsed, textsUsed}
 use Rattle.track.specs.Meaning.{areCues, withinLimits, bytesMean, rowsMean, isTrack}
 use Rattle.track.specs.Steps.{rowsFull, restFull, isFull}
@@ -52,7 +52,7 @@ pub rest-long : (t r f z y : ℕ) → restFull t r f z y ≡ true → RestLong t
 unfolding restFull
 rest-long t r f z y w =
     let x = four (leb 4096 t && leb 16384 r) (leb 16640 f) (leb 65536 z) (leb 65536 y) w in
-    let v = both (leb 4096 t) (leb 16384 r) (x .0) in
+    let v = both {a = leb 4096 t} {b = leb 16384 r} (x .0) in
     record {
       times = leb-true 4096 t (v .0);
       reveal = leb-true 16384 r (v .1);
@@ -89,7 +89,8 @@ limits-low t w =
 -- ---- the tests in their order
 module _ (T : Tables) where
   abbrev rowsOk : Bool
-  rowsOk = rowsFull (length (T .head)) (length (T .params)) (length (T .styles)) (length (T .regions)) (length (T .cues)) (length (T .segments)) (length (T .extras))
+  rowsOk = rowsFull (length (T .head)) (length (T .params)) (length (T .styles)) (length (T .regions)) (length (T .cues)) (length (T .segments))
+      (length (T .extras))
 
   abbrev restOk : Bool
   restOk = restFull (length (T .times)) (length (T .reveal)) (length (T .sizes)) (length (T .strings)) (length (T .texts))
@@ -110,7 +111,7 @@ module _ (T : Tables) where
   pub full-long : isFull T ≡ true → LongEnough (lengths T)
   unfolding isFull
   full-long e =
-      let w = both rowsOk restOk e in
+      let w = both {a = rowsOk} {b = restOk} e in
       let a = rows-long _ _ _ _ _ _ _ (w .0) in
       let b = rest-long _ _ _ _ _ (w .1) in
       record {

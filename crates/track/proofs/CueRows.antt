@@ -12,7 +12,7 @@ use native.Mathlib.Nat.{add-zero}
 use lib.Dec.{eqb}
 use lib.Ieee.{Float}
 use borrow.Author.Tests.{eq-eqb, ne-eqb, le-leb, lt-leb}
-use Rattle.decimals.proofs.Tests.{both}
+use Rattle.scan.proofs.Every.{both}
 use Rattle.track.specs.Tables.{cell}
 use Rattle.track.specs.Meaning.{cueValues, areSegments, isCue, areCues}
 use Rattle.track.proofs.RowParts.{cue-parts}
@@ -30,7 +30,8 @@ module _ (t e g : List ℕ) (f : List Float) (z y : List ℕ) (most from i : ℕ
   unfolding isCue
   cue-room-not h = rw (lt-leb (from + cell 11 t i 8) most h, and-false (cueValues t e z i && eqb (cell 11 t i 7) from))
 
-  pub cue-is : cueValues t e z i ≡ true → cell 11 t i 7 ≡ from → from + cell 11 t i 8 ≤ most → isCue t e g f z y most from i ≡ areSegments g f z y 512 (cell 11 t i 8) from
+  pub cue-is : cueValues t e z i ≡ true → cell 11 t i 7 ≡ from → from + cell 11 t i 8 ≤ most
+      → isCue t e g f z y most from i ≡ areSegments g f z y 512 (cell 11 t i 8) from
   unfolding isCue
   cue-is v w h = rw (v, eq-eqb (cell 11 t i 7) from w, le-leb (from + cell 11 t i 8) most h)
 
@@ -69,7 +70,9 @@ module _ (t e g : List ℕ) (f : List Float) (z y : List ℕ) (most : ℕ) where
   unfolding areCues
   cue-row from zero i j h l = absurd (omega arith)
   cue-row from (suc n) i zero h l =
-      rw (add-zero i) (cue-here t e g f z y most from i (both (isCue t e g f z y most from i) (areCues t e g f z y most (from + cell 11 t i 8) n (i + 1)) h .0))
+      rw (add-zero i) (cue-here t e g f z y most from i (both {a = isCue t e g f z y most from i}
+      {b = areCues t e g f z y most (from + cell 11 t i 8) n (i + 1)} h .0))
   cue-row from (suc n) i (suc j) h l =
       let q : i + suc j ≡ i + 1 + j = omega arith in
-      rw q (cue-row (from + cell 11 t i 8) n (i + 1) j (both (isCue t e g f z y most from i) (areCues t e g f z y most (from + cell 11 t i 8) n (i + 1)) h .1) (omega arith))
+      rw q (cue-row (from + cell 11 t i 8) n (i + 1) j (both {a = isCue t e g f z y most from i}
+      {b = areCues t e g f z y most (from + cell 11 t i 8) n (i + 1)} h .1) (omega arith))

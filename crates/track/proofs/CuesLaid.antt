@@ -60,7 +60,8 @@ record Parts (t : List ℕ) (p : ℕ) (x : Cue) : Type 0 where
 parts : (t : List ℕ) (p : ℕ) (x : Cue) → Reads 0 t p (cueCells x) → Parts t p x
 unfolding cueCells
 parts t p x h =
-    let q = four t p 3 3 3 (optionalCells (x .«has_style») (x .style)) (optionalCells (x .«has_region») (x .region)) (flag (x .preserve) ∷ rowsCells (x .segments))
+    let q = four t p 3 3 3 (optionalCells (x .«has_style») (x .style)) (optionalCells (x .«has_region») (x .region))
+    (flag (x .preserve) ∷ rowsCells (x .segments))
     (rowsCells (x .extras)) (optional-long (x .«has_style») (x .style)) (optional-long (x .«has_region») (x .region)) refl h in
     record {
       style = q .0;
@@ -166,10 +167,13 @@ module _ (T : Tables) (z y : List ℕ) (most : ℕ) where
         )
 
   pub cues-read :
-      (l : List PlacedCue) (from i : ℕ) → Reads 0 (T .cues) (i * 11) (joinedCells (λ x. cueCells (x .cue)) l) → Reads (pos 0) (T .times) (i * 2) (cueTimes l)
-      → All (λ x. Reads 0 (T .extras) (x .cue .extras .first * 3) (cellsOf (x .extras))) l → Stand (T .segments) (T .reveal) (T .sizes) from (allSegments l)
+      (l : List PlacedCue) (from i : ℕ) → Reads 0 (T .cues) (i * 11) (joinedCells (λ x. cueCells (x .cue)) l)
+      → Reads (pos 0) (T .times) (i * 2) (cueTimes l)
+      → All (λ x. Reads 0 (T .extras) (x .cue .extras .first * 3) (cellsOf (x .extras))) l
+      → Stand (T .segments) (T .reveal) (T .sizes) from (allSegments l)
       → All (CueFits z y) l → InTurn from l → from + length (allSegments l) ≡ most
-      → (areCues (T .cues) (T .extras) (T .segments) (T .sizes) z y most from (length l) i ≡ true) × (rowsFrom (cueIn T) (length l) i ≡ each (shownCue (T .strings) (T .texts)) l)
+      → (areCues (T .cues) (T .extras) (T .segments) (T .sizes) z y most from (length l) i ≡ true)
+      × (rowsFrom (cueIn T) (length l) i ≡ each (shownCue (T .strings) (T .texts)) l)
   unfolding areCues joinedCells rowsFrom each allSegments
   cues-read [] from i c t e g f n m = (eq-eqb from most (omega arith), refl)
   cues-read (x ∷ l) from i c t e g f n m =
@@ -190,5 +194,6 @@ module _ (T : Tables) (z y : List ℕ) (most : ℕ) where
         room = omega arith;
       } in
       let q = cues-read l (from + w) (i + 1) (reads-rest 0 (T .cues) (i * 11) (cueCells (x .cue)) _ c ((i + 1) * 11) (omega arith))
-      (reads-rest (pos 0) (T .times) (i * 2) (x .cue .start ∷ x .cue .end ∷ []) (cueTimes l) t ((i + 1) * 2) v) (e .1) (b .1) (f .1) (n .2) (omega arith) in
+      (reads-rest (pos 0) (T .times) (i * 2) (x .cue .start ∷ x .cue .end ∷ []) (cueTimes l) t ((i + 1) * 2) v) (e .1) (b .1) (f .1) (n .2)
+      (omega arith) in
       (rw (cue-fits from i x s (f .0), rows-are from i x s (f .0)) (q .0), rw (cue-means from i x s (f .0), q .1))

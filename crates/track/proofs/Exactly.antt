@@ -70,7 +70,8 @@ module _ (T : Tables) where
       → (¬ LongEnough (lengths T) → checkOf T ≡ refusedAs 1 → A) → A
   ways a b c =
       by-test (isFull T)
-      (λ f. by-test (isTrack T) (λ e. a (full-long T f) (track-some T e) (check-track T f e)) (λ e. b (full-long T f) (track-none T e) (check-none T f e)))
+      (λ f. by-test (isTrack T) (λ e. a (full-long T f) (track-some T e) (check-track T f e))
+      (λ e. b (full-long T f) (track-none T e) (check-none T f e)))
       (λ f. c (λ l. no (sym (long-full T l) ∙ f)) (check-short T f))
 
   kept : Checked T (checkOf T)

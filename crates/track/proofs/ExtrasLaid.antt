@@ -16,7 +16,8 @@ use Rattle.track.specs.declared.values.Extra.{Extra}
 use Rattle.track.specs.declared.values.Rows.{Rows}
 use Rattle.track.specs.Tables.{Tables, cell, rowsFrom, extraAt}
 use Rattle.track.specs.Meaning.{isExtra, areExtras, hasExtras, extraIn}
-use Rattle.track.specs.Layout.{joinedCells, each, extraCells, layExtras, styleExtras, regionExtras, cueExtras, Placed, PlacedStyle, PlacedRegion, PlacedCue}
+use Rattle.track.specs.Layout.{joinedCells, each, extraCells, layExtras, styleExtras, regionExtras, cueExtras, Placed, PlacedStyle}
+use Rattle.track.specs.Layout.{PlacedRegion, PlacedCue}
 use Rattle.track.specs.Placing.{All, Rising, ExtrasFit, shownExtra, Laid, laidStyle, laidRegion, laidCue, laid, Apart, AllApart}
 use Rattle.track.proofs.ReadBack.{Reads, reads-rest, reads-set, reads-kept}
 
@@ -38,7 +39,8 @@ module _ (T : Tables) (z : List ℕ) (most : ℕ) where
       let a : cell 3 (T .extras) i 0 ≡ x .number = h 0 (omega arith) in
       let b : cell 3 (T .extras) i 1 ≡ x .value .place = h 1 (omega arith) in
       let c : cell 3 (T .extras) i 2 ≡ x .value .len = h 2 (omega arith) in
-      let q = list-read l (x .number + 1) (i + 1) (reads-rest 0 (T .extras) (i * 3) (extraCells x) (cellsOf l) h ((i + 1) * 3) (omega arith)) (r .3) in
+      let q = list-read l (x .number + 1) (i + 1) (reads-rest 0 (T .extras) (i * 3) (extraCells x) (cellsOf l) h ((i + 1) * 3) (omega arith))
+      (r .3) in
       (rw (a, b, c, le-leb least (x .number) (r .0), lt-ltb (x .number) most (r .1), r .2, q .0), rw (a, b, c, q .1))
 
   pub extras-read : (x : Rows) (l : List Extra) → ExtrasFit z most x l → Reads 0 (T .extras) (x .first * 3) (cellsOf l)

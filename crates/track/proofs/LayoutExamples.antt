@@ -19,7 +19,8 @@ use Rattle.track.specs.Track as track
 use Rattle.track.specs.Tables.{Lengths, span, rowsOf, zeroFloat}
 use Rattle.track.specs.Meaning.{isSpan, every, isUtf8, lookIn, trackIn}
 use Rattle.track.specs.Layout.{Placed, each, preorder, wrapperOf, allSegments, layout}
-use Rattle.track.specs.Placing.{Fits, depth, laid, laidStyle, laidRegion, laidCue, shownExtra, shownParam, shownChain, shownStyle, shownRegion, shownWrapper, shownSegments, shownCue, shown}
+use Rattle.track.specs.Placing.{Fits, depth, laid, laidStyle, laidRegion, laidCue, shownExtra, shownParam, shownChain, shownStyle}
+use Rattle.track.specs.Placing.{shownRegion, shownWrapper, shownSegments, shownCue, shown}
 use Rattle.track.proofs.LayoutLaws.{layout-means}
 
 -- e n s r, and A B
@@ -77,7 +78,8 @@ small = record {
 }
 
 pub small-fits : Fits small letters words 4 2
-unfolding small laid laidStyle laidRegion laidCue each segmentRows preorder wrapperOf allSegments depth isSpan boundary every attrNameByte stringAt isUtf8 utf8End loop go sequenceAt firstFit fitsAt
+unfolding small laid laidStyle laidRegion laidCue each segmentRows preorder wrapperOf allSegments depth isSpan boundary every attrNameByte stringAt
+    isUtf8 utf8End loop go sequenceAt firstFit fitsAt
 small-fits = record {
   few-params = omega arith;
   few-styles = omega arith;

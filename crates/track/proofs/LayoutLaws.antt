@@ -18,12 +18,16 @@ use Rattle.track.specs.declared.strings.Span.{Span}
 use Rattle.track.specs.Tables.{Tables, Lengths, lengths, LongEnough, zeroFloat, sizeCell, rowsFrom}
 use Rattle.track.specs.declared.check.Check.{Check}
 use Rattle.track.specs.Steps.{checkOf}
-use Rattle.track.specs.Meaning.{isParam, isStyle, isRegion, areCues, allRows, withinLimits, bytesMean, rowsMean, isTrack, paramIn, styleIn, regionIn, cueIn, trackAt, trackIn}
-use Rattle.track.specs.Layout.{joinedCells, each, optionalCells, paramCells, styleCells, regionCells, cueCells, cueTimes, styleSize, allSegments, filledSizes, Placed, PlacedStyle, headCells, layout}
-use Rattle.track.specs.Placing.{All, ParamFits, StyleFits, RegionFits, CueFits, Fits, laidStyle, laidRegion, laidCue, laid, shownParam, shownStyle, shownRegion, shownCue, shown}
+use Rattle.track.specs.Meaning.{isParam, isStyle, isRegion, areCues, allRows, withinLimits, bytesMean, rowsMean, isTrack, paramIn, styleIn}
+use Rattle.track.specs.Meaning.{regionIn, cueIn, trackAt, trackIn}
+use Rattle.track.specs.Layout.{joinedCells, each, optionalCells, paramCells, styleCells, regionCells, cueCells, cueTimes, styleSize}
+use Rattle.track.specs.Layout.{allSegments, filledSizes, Placed, PlacedStyle, headCells, layout}
+use Rattle.track.specs.Placing.{All, ParamFits, StyleFits, RegionFits, CueFits, Fits, laidStyle, laidRegion, laidCue, laid, shownParam}
+use Rattle.track.specs.Placing.{shownStyle, shownRegion, shownCue, shown}
 use Rattle.track.proofs.Answers.{long-full}
 use Rattle.track.proofs.Exactly.{check-track}
-use Rattle.track.proofs.ReadBack.{Reads, AllAt, reads-here, reads-after, reads-first, reads-rest, rows-at, at-both, rows-mean, all-append, all-each, all-join, each-all, all-both, each-many}
+use Rattle.track.proofs.ReadBack.{Reads, AllAt, reads-here, reads-after, reads-first, reads-rest, rows-at, at-both, rows-mean, all-append}
+use Rattle.track.proofs.ReadBack.{all-each, all-join, each-all, all-both, each-many}
 use Rattle.track.proofs.ExtrasLaid.{Sits, Stays, extrasLaid, laid-long, laid-extras}
 use Rattle.track.proofs.RowsLaid.{OptionalRead, optional-long, optional-read, param-read, region-read, style-read, style-long}
 use Rattle.track.proofs.SegmentsLaid.{Stand, cellsIn, timeIn, sizeIn}
@@ -50,13 +54,17 @@ pub record Holds (T : Tables) (k : Placed) (u v : ℕ) : Type 0 where
 
 -- ---- what they mean
 -- sizes of styles, one by one
-sizes-at : (f : List Float) (l : List PlacedStyle) (i : ℕ) → Reads zeroFloat f (16384 + i) (each styleSize l) → AllAt (λ i x. sizeCell f (16384 + i) ≡ styleSize x) i l
+sizes-at : (f : List Float) (l : List PlacedStyle) (i : ℕ) → Reads zeroFloat f (16384 + i) (each styleSize l)
+    → AllAt (λ i x. sizeCell f (16384 + i) ≡ styleSize x) i l
 unfolding each
 sizes-at f [] i h = tt
 sizes-at f (x ∷ l) i h =
     let e : 16384 + i + 0 ≡ 16384 + i = omega arith in
-    let e′ : 16384 + (i + 1) ≡ 16384 + i + 1 = omega arith in
-    (rw e at (h 0 (omega arith)), sizes-at f l (i + 1) (reads-rest zeroFloat f (16384 + i) (styleSize x ∷ []) (each styleSize l) h (16384 + (i + 1)) e′))
+    let e′ : 16384 + (i + 1) ≡ 16384 + i + 1 = omega arith in (
+      rw e at (h 0 (omega arith)),
+      sizes-at f l (i + 1)
+          (reads-rest zeroFloat f (16384 + i) (styleSize x ∷ []) (each styleSize l) h (16384 + (i + 1)) e′),
+    )
 
 module _ (T : Tables) (k : Placed) (u v : ℕ) (h : Holds T k u v) (f : Fits k (T .strings) (T .texts) u v) where
   abbrev usedStrings : List ℕ
@@ -83,7 +91,8 @@ module _ (T : Tables) (k : Placed) (u v : ℕ) (h : Holds T k u v) (f : Fits k (
       × (rowsFrom (paramIn T) (length (k .params)) 0 ≡ each (shownParam (T .strings)) (k .params))
   unfolding paramCells
   params-read =
-      rows-mean (λ i x. Reads 0 (T .params) (i * 4) (paramCells x)) (ParamFits usedStrings) (isParam (T .params) usedStrings) (paramIn T) (shownParam (T .strings))
+      rows-mean (λ i x. Reads 0 (T .params) (i * 4) (paramCells x)) (ParamFits usedStrings) (isParam (T .params) usedStrings) (paramIn T)
+      (shownParam (T .strings))
       (param-read T usedStrings) (k .params) 0 (rows-at 4 paramCells (λ x. refl) (T .params) (k .params) 0 (h .params)) (f .params)
 
   regions-read :
@@ -92,7 +101,8 @@ module _ (T : Tables) (k : Placed) (u v : ℕ) (h : Holds T k u v) (f : Fits k (
   unfolding regionCells laidRegion
   regions-read =
       rows-mean (λ i x. Reads 0 (T .regions) (i * 4) (regionCells (x .region))) (λ x. Stays (T .extras) (laidRegion x) × RegionFits usedStrings x)
-      (isRegion (T .regions) (T .extras) usedStrings) (regionIn T) (shownRegion (T .strings)) (λ i x a b. region-read T usedStrings i x a (b .0) (b .1)) (k .regions) 0
+      (isRegion (T .regions) (T .extras) usedStrings) (regionIn T) (shownRegion (T .strings))
+      (λ i x a b. region-read T usedStrings i x a (b .0) (b .1)) (k .regions) 0
       (rows-at 4 (λ x. regionCells (x .region)) (λ x. refl) (T .regions) (k .regions) 0 (h .regions))
       (all-both (λ x. Stays (T .extras) (laidRegion x)) (RegionFits usedStrings) (k .regions) (extras-of .1) (f .regions))
 
@@ -104,14 +114,18 @@ module _ (T : Tables) (k : Placed) (u v : ℕ) (h : Holds T k u v) (f : Fits k (
       let row : ℕ → PlacedStyle → Type 0 = λ i x. Reads 0 (T .styles) (i * 27) (styleCells (x .style)) in
       let size : ℕ → PlacedStyle → Type 0 = λ i x. sizeCell (T .sizes) (16384 + i) ≡ styleSize x in
       rows-mean (λ i x. row i x × size i x) (λ x. Stays (T .extras) (laidStyle x) × StyleFits usedStrings x)
-      (isStyle (T .styles) (T .sizes) (T .extras) usedStrings) (styleIn T) (shownStyle (T .strings)) (λ i x a b. style-read T usedStrings i x (a .0) (b .1) (a .1) (b .0)) (k .styles) 0
-      (at-both row size (k .styles) 0 (rows-at 27 (λ x. styleCells (x .style)) (λ x. style-long (x .style)) (T .styles) (k .styles) 0 (h .styles)) (sizes-at (T .sizes) (k .styles) 0 (h .sizes)))
+      (isStyle (T .styles) (T .sizes) (T .extras) usedStrings) (styleIn T) (shownStyle (T .strings))
+      (λ i x a b. style-read T usedStrings i x (a .0) (b .1) (a .1) (b .0)) (k .styles) 0
+      (at-both row size (k .styles) 0 (rows-at 27 (λ x. styleCells (x .style)) (λ x. style-long (x .style)) (T .styles) (k .styles) 0 (h .styles))
+      (sizes-at (T .sizes) (k .styles) 0 (h .sizes)))
       (all-both (λ x. Stays (T .extras) (laidStyle x)) (StyleFits usedStrings) (k .styles) (extras-of .0) (f .styles))
 
-  cues-mean : (areCues (T .cues) (T .extras) (T .segments) (T .sizes) usedStrings usedTexts (length (allSegments (k .cues))) 0 (length (k .cues)) 0 ≡ true)
+  cues-mean : (areCues (T .cues) (T .extras) (T .segments) (T .sizes) usedStrings usedTexts (length (allSegments (k .cues))) 0 (length (k .cues)) 0
+      ≡ true)
       × (rowsFrom (cueIn T) (length (k .cues)) 0 ≡ each (shownCue (T .strings) (T .texts)) (k .cues))
   unfolding laidCue
-  cues-mean = cues-read T usedStrings usedTexts (length (allSegments (k .cues))) (k .cues) 0 0 (h .cues) (h .times) (extras-of .2) (h .segments) (f .cues) (f .in-turn) (zero-add _)
+  cues-mean = cues-read T usedStrings usedTexts (length (allSegments (k .cues))) (k .cues) 0 0 (h .cues) (h .times) (extras-of .2) (h .segments)
+      (f .cues) (f .in-turn) (zero-add _)
 
   lang-read : OptionalRead (T .head) 5 (T .strings) usedStrings (k .«has_lang») (k .lang)
   lang-read = optional-read (T .head) 5 (T .strings) usedStrings (k .«has_lang») (k .lang) (h .lang) (f .lang)
@@ -225,7 +239,13 @@ layout-holds n k z y u v l f =
       regions = reads-here 0 (joinedCells (λ x. regionCells (x .region)) (k .regions)) _;
       cues = reads-here 0 (joinedCells (λ x. cueCells (x .cue)) (k .cues)) _;
       times = reads-here (pos 0) (cueTimes (k .cues)) _;
-      segments = record { cells = reads-here 0 (joinedCells cellsIn g) _; times = reads-here (pos 0) (each timeIn g) _; sizes = sizes-first 16384 (n .sizes - 16384) a b e };
+      segments =
+          record {
+            cells = reads-here 0 (joinedCells cellsIn g) _;
+            times = reads-here (pos 0) (each timeIn g) _;
+            sizes = sizes-first 16384
+                (n .sizes - 16384) a b e;
+          };
       sizes = sizes-next 16384 (n .sizes - 16384) a b e;
       extras = laid-extras k (replicate (n .extras) 0) (omega (arith, length-replicate {A = ℕ} (n .extras) 0)) (rows-sit k z y u v f) (f .apart);
     }

@@ -42,7 +42,8 @@ module _ {A : Type 0} (d : A) where
 
 pub reads-set : (t w : List ℕ) (p : ℕ) → p + length w ≤ length t → Reads 0 (sets t p w) p w
 reads-set t w p h k l =
-    sym (getD-drop p (sets t p w) k 0) ∙ (sym (getD-take (length w) (drop p (sets t p w)) k 0 l) ∙ ap (λ (x : List ℕ). getD x k 0) (sets-part w t p h))
+    sym (getD-drop p (sets t p w) k 0) ∙ (sym (getD-take (length w) (drop p (sets t p w)) k 0 l)
+    ∙ ap (λ (x : List ℕ). getD x k 0) (sets-part w t p h))
 
 pub reads-kept :
     (t w c : List ℕ) (q p : ℕ) → (0 < length c → 0 < length w → (p + length c ≤ q) ⊎ (q + length w ≤ p)) → Reads 0 t p c → Reads 0 (sets t q w) p c
@@ -95,7 +96,8 @@ at-both P Q (x ∷ l) i h g = ((h .0, g .0), at-both P Q l (i + 1) (h .1) (g .1)
 -- the test p and the value v of rows, where they are known of each
 module _ {A B : Type 0} (P : ℕ → A → Type 0) (Q : A → Type 0) (p : ℕ → Bool) (v : ℕ → B) (s : A → B) where
   pub rows-mean :
-      ((i : ℕ) (x : A) → P i x → Q x → (p i ≡ true) × (v i ≡ s x)) → (l : List A) (i : ℕ) → AllAt P i l → All Q l → (allRows p (length l) i ≡ true) × (rowsFrom v (length l) i ≡ each s l)
+      ((i : ℕ) (x : A) → P i x → Q x → (p i ≡ true) × (v i ≡ s x)) → (l : List A) (i : ℕ) → AllAt P i l → All Q l
+      → (allRows p (length l) i ≡ true) × (rowsFrom v (length l) i ≡ each s l)
   unfolding allRows rowsFrom each
   rows-mean f [] i h g = (refl, refl)
   rows-mean f (x ∷ l) i h g =

@@ -52,7 +52,8 @@ module _ (t z : List ℕ) (most : ℕ) where
     unfolding areExtras
     extras-stop h e = rw (more h, e)
 
-    pub extras-next : i < end → isExtra t z most least i ≡ true → areExtras t z most least (end - i) i ≡ areExtras t z most (getD t (i * 3) 0 + 1) (end - (i + 1)) (i + 1)
+    pub extras-next : i < end → isExtra t z most least i ≡ true
+        → areExtras t z most least (end - i) i ≡ areExtras t z most (getD t (i * 3) 0 + 1) (end - (i + 1)) (i + 1)
     unfolding areExtras cell
     extras-next h e = rw (more h, e, add-zero (i * 3))
 

@@ -14,9 +14,10 @@ use lib.Ieee.{Float}
 use borrow.Author.Tests.{eqb-true, leb-true, ltb-true}
 use Rattle.scan.specs.Bytes.{attrNameByte}
 use Rattle.scan.specs.Part.{stringAt}
-use Rattle.decimals.proofs.Tests.{both}
+use Rattle.scan.proofs.Every.{both}
 use Rattle.track.specs.Tables.{cell, sizeCell}
-use Rattle.track.specs.Meaning.{isSpan, isOptional, isFlag, isColor, isSizeAt, isExtra, areExtras, hasExtras, every, isParam, styleStrings, styleValues, styleFlags, isStyle, isRegion, areSegments, cueValues, isCue}
+use Rattle.track.specs.Meaning.{isSpan, isOptional, isFlag, isColor, isSizeAt, isExtra, areExtras, hasExtras, every, isParam, styleStrings}
+use Rattle.track.specs.Meaning.{styleValues, styleFlags, isStyle, isRegion, areSegments, cueValues, isCue}
 use Rattle.track.proofs.StringLaws.{three, four}
 
 pub record ParamParts (t z : List ℕ) (i : ℕ) : Type 0 where
@@ -49,11 +50,12 @@ pub style-parts : (t : List ℕ) (f : List Float) (e z : List ℕ) (i : ℕ) →
 unfolding isStyle styleStrings styleValues styleFlags isFlag cell
 style-parts t f e z i h =
     let c : ℕ → ℕ = λ j. getD t (i * 27 + j) 0 in
-    let a = four (styleStrings t z (i * 27)) (styleValues t (sizeCell f (16384 + i)) (i * 27)) (styleFlags t (i * 27)) (hasExtras e z 46 (c 25) (c 26)) h in
+    let a = four (styleStrings t z (i * 27)) (styleValues t (sizeCell f (16384 + i)) (i * 27)) (styleFlags t (i * 27))
+    (hasExtras e z 46 (c 25) (c 26)) h in
     let b = three (isSpan z (getD t (i * 27) 0) (c 1)) (isSpan z (c 2) (c 3)) (isOptional z (c 14) (c 15) (c 16)) (a .0) in
     let v = three (isColor t (i * 27 + 4)) (isColor t (i * 27 + 9)) (isSizeAt (c 17) (c 18) (c 19) (sizeCell f (16384 + i))) (a .1) in
     let w = four (leb (c 20) 1 && leb (c 21) 1) (leb (c 22) 1) (leb (c 23) 1) (leb (c 24) 4) (a .2) in
-    let x = both (leb (c 20) 1) (leb (c 21) 1) (w .0) in
+    let x = both {a = leb (c 20) 1} {b = leb (c 21) 1} (w .0) in
     record {
       name = rw (add-zero (i * 27)) (b .0);
       chain = b .1;
@@ -77,7 +79,7 @@ pub region-parts : (t e z : List ℕ) (i : ℕ) → isRegion t e z i ≡ true �
 unfolding isRegion
 region-parts t e z i h =
     let c : ℕ → ℕ = cell 4 t i in
-    let a = both (isSpan z (c 0) (c 1)) (hasExtras e z 53 (c 2) (c 3)) h in
+    let a = both {a = isSpan z (c 0) (c 1)} {b = hasExtras e z 53 (c 2) (c 3)} h in
     record { id = a .0; extras = a .1 }
 
 pub record CueParts (t e g : List ℕ) (f : List Float) (z y : List ℕ) (most from i : ℕ) : Type 0 where
@@ -89,7 +91,8 @@ pub record CueParts (t e g : List ℕ) (f : List Float) (z y : List ℕ) (most f
   pub within : from + cell 11 t i 8 ≤ most
   pub segments : areSegments g f z y 512 (cell 11 t i 8) from ≡ true
 
-pub cue-parts : (t e g : List ℕ) (f : List Float) (z y : List ℕ) (most from i : ℕ) → isCue t e g f z y most from i ≡ true → CueParts t e g f z y most from i
+pub cue-parts : (t e g : List ℕ) (f : List Float) (z y : List ℕ) (most from i : ℕ) → isCue t e g f z y most from i ≡ true
+    → CueParts t e g f z y most from i
 unfolding isCue cueValues isFlag
 cue-parts t e g f z y most from i h =
     let c : ℕ → ℕ = cell 11 t i in
@@ -118,10 +121,11 @@ module _ (t z : List ℕ) (most : ℕ) where
       let a = three (leb least (cell 3 t i 0)) (ltb (cell 3 t i 0) most) (isSpan z (cell 3 t i 1) (cell 3 t i 2)) h in
       record { after = leb-true least (cell 3 t i 0) (a .0); listed = ltb-true (cell 3 t i 0) most (a .1); value = a .2 }
 
-  pub first-extra : (least n i : ℕ) → areExtras t z most least (suc n) i ≡ true → ExtraParts t z most least i × (areExtras t z most (cell 3 t i 0 + 1) n (i + 1) ≡ true)
+  pub first-extra : (least n i : ℕ) → areExtras t z most least (suc n) i ≡ true
+      → ExtraParts t z most least i × (areExtras t z most (cell 3 t i 0 + 1) n (i + 1) ≡ true)
   unfolding areExtras
   first-extra least n i h =
-      let a = both (isExtra t z most least i) (areExtras t z most (cell 3 t i 0 + 1) n (i + 1)) h in
+      let a = both {a = isExtra t z most least i} {b = areExtras t z most (cell 3 t i 0 + 1) n (i + 1)} h in
       (is-extra-parts least i (a .0), a .1)
 
   some-extra : (least n i j : ℕ) → areExtras t z most least n i ≡ true → j < n → ExtraParts t z most 0 (i + j)
@@ -136,11 +140,11 @@ module _ (t z : List ℕ) (most : ℕ) where
   module _ (first n : ℕ) (h : hasExtras t z most first n ≡ true) where
     pub extras-within : first + n ≤ 8192
     unfolding hasExtras
-    extras-within = leb-true (first + n) 8192 (both (leb (first + n) 8192) (areExtras t z most 0 n first) h .0)
+    extras-within = leb-true (first + n) 8192 (both {a = leb (first + n) 8192} {b = areExtras t z most 0 n first} h .0)
 
     pub extras-are : areExtras t z most 0 n first ≡ true
     unfolding hasExtras
-    extras-are = both (leb (first + n) 8192) (areExtras t z most 0 n first) h .1
+    extras-are = both {a = leb (first + n) 8192} {b = areExtras t z most 0 n first} h .1
 
     pub extra-parts : (j : ℕ) → j < n → ExtraParts t z most 0 (first + j)
     extra-parts j l = some-extra 0 n first j extras-are l

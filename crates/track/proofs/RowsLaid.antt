@@ -21,8 +21,10 @@ use Rattle.track.specs.declared.values.Align.{Align}
 use Rattle.track.specs.declared.values.Look.{Look}
 use Rattle.track.specs.declared.values.Style.{Style}
 use Rattle.track.specs.Tables.{Tables, cell, span, optional, sizeCell, paramAt, regionAt, styleAt, colorAt, sizeAt, alignAt, lookAt}
-use Rattle.track.specs.Meaning.{isOptional, isByte, areThree, isColor, isSizeAt, isFlag, isParam, isRegion, isStyle, styleStrings, styleValues, styleFlags, bytesAt, given, lookIn, paramIn, regionIn, styleIn}
-use Rattle.track.specs.Layout.{flag, spanCells, optionalCells, colorCells, sizeCells, sizeValue, styleSize, alignCell, paramCells, regionCells, flagCells, lookCells, styleCells, PlacedStyle, PlacedRegion}
+use Rattle.track.specs.Meaning.{isOptional, isByte, areThree, isColor, isSizeAt, isFlag, isParam, isRegion, isStyle, styleStrings}
+use Rattle.track.specs.Meaning.{styleValues, styleFlags, bytesAt, given, lookIn, paramIn, regionIn, styleIn}
+use Rattle.track.specs.Layout.{flag, spanCells, optionalCells, colorCells, sizeCells, sizeValue, styleSize, alignCell, paramCells}
+use Rattle.track.specs.Layout.{regionCells, flagCells, lookCells, styleCells, PlacedStyle, PlacedRegion}
 use Rattle.track.specs.Placing.{WithinIf, ColorIf, SizeIf, ParamFits, RegionFits, StyleFits, shownParam, shownRegion, shownStyle, shownChain}
 use Rattle.track.proofs.ReadBack.{Reads, reads-first, reads-rest}
 use Rattle.track.proofs.ExtrasLaid.{cellsOf, extras-read}
@@ -200,7 +202,8 @@ look-long x = length-append (partsBefore x) (flagCells x) ∙ rw (before-long x)
 
 pub style-long : (x : Style) → length (styleCells x) ≡ 27
 unfolding styleCells
-style-long x = let a = spanCells (x .name) ++ spanCells (x .chain) in rw (length-append (a ++ lookCells (x .look)), length-append a, look-long (x .look))
+style-long x = let a = spanCells (x .name) ++ spanCells (x .chain) in
+    rw (length-append (a ++ lookCells (x .look)), length-append a, look-long (x .look))
 
 look-parts : (t : List ℕ) (p : ℕ) (x : Look) → Reads 0 t p (lookCells x)
     → Reads 0 t p (colorCells (x .«has_color») (x .color)) × Reads 0 t (p + 5) (colorCells (x .«has_back») (x .back))
@@ -289,7 +292,8 @@ module _ (T : Tables) (z : List ℕ) (i : ℕ) (x : PlacedStyle) (h : Reads 0 (T
 
   module _ (e : sizeCell (T .sizes) (16384 + i) ≡ styleSize x) where
     q-size : SizeRead (T .styles) (i * 27 + 17) (sizeCell (T .sizes) (16384 + i)) (x .style .look .«has_size») (x .style .look .size)
-    q-size = size-read (T .styles) (i * 27 + 17) (sizeCell (T .sizes) (16384 + i)) (x .style .look .«has_size») (x .style .look .size) e (q .size) (f .size)
+    q-size = size-read (T .styles) (i * 27 + 17) (sizeCell (T .sizes) (16384 + i)) (x .style .look .«has_size») (x .style .look .size) e (q .size)
+        (f .size)
 
     values-fit : styleValues (T .styles) (sizeCell (T .sizes) (16384 + i)) (i * 27) ≡ true
     unfolding styleValues
@@ -305,7 +309,8 @@ module _ (T : Tables) (z : List ℕ) (i : ℕ) (x : PlacedStyle) (h : Reads 0 (T
     module _ (r : Reads 0 (T .extras) (x .style .extras .first * 3) (cellsOf (x .extras))) where
       style-fits : isStyle (T .styles) (T .sizes) (T .extras) z i ≡ true
       unfolding isStyle
-      style-fits = rw (strings-fit, values-fit, flags-fit, q .extras .0, q .extras .1) (extras-read T z 46 (x .style .extras) (x .extras) (f .extras) r .0)
+      style-fits = rw (strings-fit, values-fit, flags-fit, q .extras .0, q .extras .1)
+          (extras-read T z 46 (x .style .extras) (x .extras) (f .extras) r .0)
 
       style-means : styleIn T i ≡ shownStyle (T .strings) x
       unfolding styleIn styleAt lookAt cell shownStyle shownChain lookIn

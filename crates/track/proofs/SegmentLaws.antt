@@ -24,7 +24,8 @@ use lib.Dec.{eqb, leb, ltb}
 use lib.IntN.{ℤ, pos}
 use lib.Ieee.{Float}
 use borrow.Author.Tests.{ltb-true, leb-true, eqb-true, eqb-false, not-true, lt-ltb, lt-leb, le-leb, ne-eqb}
-use Rattle.decimals.proofs.Tests.{no, both}
+use Rattle.scan.proofs.Every.{both}
+use Rattle.decimals.proofs.Tests.{no}
 use Rattle.decimals.specs.Size.{isSize}
 use Rattle.track.specs.declared.strings.Span.{Span}
 use Rattle.track.specs.declared.segments.Segment.{Segment}
@@ -85,8 +86,8 @@ module _ (t : List ℕ) (f : List Float) (z y : List ℕ) where
   are-suc d n i =
       let m = cell 8 t i 1 in
       guarded (isSegment t f z y i && ltb 0 m && leb m (suc n)) (areSegments t f z y d (m - 1) (i + 1)) _ _ λ g.
-      let l : 0 < m = ltb-true 0 m (both (isSegment t f z y i) _ (both (isSegment t f z y i && ltb 0 m) _ g .0) .1) in
-      let h : m ≤ suc n = leb-true m (suc n) (both (isSegment t f z y i && ltb 0 m) _ g .1) in
+      let l : 0 < m = ltb-true 0 m (both {a = isSegment t f z y i} (both {a = isSegment t f z y i && ltb 0 m} g .0) .1) in
+      let h : m ≤ suc n = leb-true m (suc n) (both {a = isSegment t f z y i && ltb 0 m} g .1) in
       let a : suc n - m ≡ n - (m - 1) = omega arith in
       let b : i + m ≡ i + 1 + (m - 1) = omega arith in
       rw (a, b) (are-past t f z y (areSegments t f z y d) n (m - 1) (i + 1) (omega arith))
@@ -145,10 +146,10 @@ pub walk : (t : List ℕ) (f : List Float) (z y : List ℕ) (d n i : ℕ) → ar
 walk t f z y d n i e h =
     let m = cell 8 t i 1 in
     let g = are-deep t f z y d n i e h in
-    let a = both _ (areSegments t f z y d (n - m) (i + m)) (sym (are-more t f z y d n i g h) ∙ e) in
-    let b = both _ (areSegments t f z y (d - 1) (m - 1) (i + 1)) (a .0) in
-    let l = both _ (leb m n) (b .0) in
-    let s = both (isSegment t f z y i) (ltb 0 m) (l .0) in
+    let a = both {b = areSegments t f z y d (n - m) (i + m)} (sym (are-more t f z y d n i g h) ∙ e) in
+    let b = both {b = areSegments t f z y (d - 1) (m - 1) (i + 1)} (a .0) in
+    let l = both {b = leb m n} (b .0) in
+    let s = both {a = isSegment t f z y i} {b = ltb 0 m} (l .0) in
     record { deep = g; is = s .0; least = ltb-true 0 m (s .1); most = leb-true m n (l .1); inside = b .1; after = a .1 }
 
 -- ---- the equations of the value
@@ -160,7 +161,8 @@ module _ (t : List ℕ) (r : List ℤ) (f : List Float) where
 
   pub segments-suc :
       (d n i : ℕ) → 0 < cell 8 t i 1 → cell 8 t i 1 ≤ suc n → segmentsAt t r f (suc d) (suc n) i
-      ≡ followedBy (segmentAt t r f i) (segmentsAt t r f d (cell 8 t i 1 - 1) (i + 1)) (segmentsAt t r f (suc d) (suc n - cell 8 t i 1) (i + cell 8 t i 1))
+      ≡ followedBy (segmentAt t r f i) (segmentsAt t r f d (cell 8 t i 1 - 1) (i + 1))
+      (segmentsAt t r f (suc d) (suc n - cell 8 t i 1) (i + cell 8 t i 1))
   unfolding segmentsAt siblingsAt
   segments-suc d n i h g =
       let m = cell 8 t i 1 in
@@ -171,7 +173,8 @@ module _ (t : List ℕ) (r : List ℤ) (f : List Float) where
   -- the same for any d and n
   pub segments-more :
       (d n i : ℕ) → 0 < d → 0 < cell 8 t i 1 → cell 8 t i 1 ≤ n → segmentsAt t r f d n i
-      ≡ followedBy (segmentAt t r f i) (segmentsAt t r f (d - 1) (cell 8 t i 1 - 1) (i + 1)) (segmentsAt t r f d (n - cell 8 t i 1) (i + cell 8 t i 1))
+      ≡ followedBy (segmentAt t r f i) (segmentsAt t r f (d - 1) (cell 8 t i 1 - 1) (i + 1))
+      (segmentsAt t r f d (n - cell 8 t i 1) (i + cell 8 t i 1))
   segments-more zero n i h l m = absurd (omega arith)
   segments-more (suc d) zero i h l m = absurd (omega arith)
   segments-more (suc d) (suc n) i h l m =
@@ -189,8 +192,8 @@ module _ (t : List ℕ) (f : List Float) (z y : List ℕ) where
   siblings-kept a b h (suc n) zero i e =
       let m = cell 8 t i 1 in
       let g = isSegment t f z y i && ltb 0 m && leb m (suc n) in
-      let x = both (g && a (m - 1) (i + 1)) (areSiblings t f z y a n (m - 1) (i + 1)) e in
-      let w = both g (a (m - 1) (i + 1)) (x .0) in
+      let x = both {a = g && a (m - 1) (i + 1)} {b = areSiblings t f z y a n (m - 1) (i + 1)} e in
+      let w = both {a = g} {b = a (m - 1) (i + 1)} (x .0) in
       rw (w .0, h (m - 1) (i + 1) (w .1)) (siblings-kept a b h n (m - 1) (i + 1) (x .1))
 
   pub are-deeper : (d n i : ℕ) → areSegments t f z y d n i ≡ true → areSegments t f z y (suc d) n i ≡ true
@@ -209,8 +212,8 @@ module _ (t : List ℕ) (f : List Float) (z y : List ℕ) where
     siblings-same a v w h (suc n) zero i e =
         let m = cell 8 t i 1 in
         let g = isSegment t f z y i && ltb 0 m && leb m (suc n) in
-        let x = both (g && a (m - 1) (i + 1)) (areSiblings t f z y a n (m - 1) (i + 1)) e in
-        rw (h (m - 1) (i + 1) (both g (a (m - 1) (i + 1)) (x .0) .1), siblings-same a v w h n (m - 1) (i + 1) (x .1))
+        let x = both {a = g && a (m - 1) (i + 1)} {b = areSiblings t f z y a n (m - 1) (i + 1)} e in
+        rw (h (m - 1) (i + 1) (both {a = g} {b = a (m - 1) (i + 1)} (x .0) .1), siblings-same a v w h n (m - 1) (i + 1) (x .1))
 
     pub segments-deeper : (d n i : ℕ) → areSegments t f z y d n i ≡ true → segmentsAt t r f (suc d) n i ≡ segmentsAt t r f d n i
     unfolding areSegments segmentsAt areSiblings siblingsAt
@@ -392,7 +395,7 @@ module _ (t : List ℕ) (r : List ℤ) (f : List Float) (z y : List ℕ) (i : �
   kind = go (number (getD t (i * 8) 0))
     where
       go : Number (getD t (i * 8) 0) → Kind t r f z y i
-      go (one e) = let d = both (eqb (cell 8 t i 1) 1) _ (sym (is-text t f z y i e) ∙ h) in text e (eqb-true _ 1 (d .0)) (d .1) (at-text t r f i e)
+      go (one e) = let d = both {a = eqb (cell 8 t i 1) 1} (sym (is-text t f z y i e) ∙ h) in text e (eqb-true _ 1 (d .0)) (d .1) (at-text t r f i e)
       go (two e) = break e (eqb-true _ 1 (sym (is-leaf t f z y i (omega arith) (omega arith)) ∙ h)) (at-break t r f i e)
       go (three e) = timestamp e (eqb-true _ 1 (sym (is-leaf t f z y i (omega arith) (omega arith)) ∙ h)) (at-timestamp t r f i e)
       go (four e) = bold e (at-bold t r f i e)
@@ -401,7 +404,7 @@ module _ (t : List ℕ) (r : List ℤ) (f : List Float) (z y : List ℕ) (i : �
       go (seven e) = strike e (at-strike t r f i e)
       go (eight e) = color e (sym (is-color t f z y i e) ∙ h) (at-color t r f i e)
       go (nine e) =
-          let d = both (isOptional z (cell 8 t i 2) (cell 8 t i 3) (cell 8 t i 4)) _ (sym (is-font t f z y i e) ∙ h) in
+          let d = both {a = isOptional z (cell 8 t i 2) (cell 8 t i 3) (cell 8 t i 4)} (sym (is-font t f z y i e) ∙ h) in
           font e (d .0) (d .1) (at-font t r f i e)
       go (other n) = no (sym h ∙ is-unknown t f z y i n)
 
@@ -425,15 +428,15 @@ optional-span z c p n h e = rw (eqb-true c 1 e) at h
 size-there :
     (s d c : ℕ) (v : Float) → isSizeAt s d c v ≡ true → not (eqb s 0) ≡ true → isSize (sizeAt s d c v) ≡ true
 unfolding isSizeAt sizeAt
-size-there s d c v h e = rw (not-true (eqb s 0) e) (both (leb s 2) _ (rw (not-true (eqb s 0) e) at h) .1)
+size-there s d c v h e = rw (not-true (eqb s 0) e) (both {a = leb s 2} (rw (not-true (eqb s 0) e) at h) .1)
 
 pub color-bytes : (t : List ℕ) (i : ℕ) → areThree t (i * 8 + 2) ≡ true → (cell 8 t i 2 < 256) × (cell 8 t i 3 < 256) × (cell 8 t i 4 < 256)
 unfolding cell areThree
 color-bytes t i h =
     let a : i * 8 + 2 + 1 ≡ i * 8 + 3 = omega arith in
     let b : i * 8 + 2 + 2 ≡ i * 8 + 4 = omega arith in
-    let d = both _ (ltb (getD t (i * 8 + 4) 0) 256) (rw (a, b) at h) in
-    let e = both (ltb (getD t (i * 8 + 2) 0) 256) _ (d .0) in
+    let d = both {b = ltb (getD t (i * 8 + 4) 0) 256} (rw (a, b) at h) in
+    let e = both {a = ltb (getD t (i * 8 + 2) 0) 256} (d .0) in
     (ltb-true _ 256 (e .0), ltb-true _ 256 (e .1), ltb-true _ 256 (d .1))
 
 -- its string is the one that its cells say

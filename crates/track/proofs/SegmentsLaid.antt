@@ -22,11 +22,13 @@ use Rattle.track.specs.Track.{Wrapper, Segments, segmentRows}
 use Rattle.track.specs.Track as track
 use Rattle.track.specs.Tables.{cell, zeroFloat, sizeCell, fontAt, segmentAt, followedBy, segmentsAt}
 use Rattle.track.specs.Meaning.{isByte, areThree, isFont, isSegment, areSegments, given}
-use Rattle.track.specs.Layout.{Sized, joinedCells, each, optionalCells, sizeCells, fontCells, segmentCells, segmentTime, segmentSize, isSome, spanOr, sizeOr, wrapperOf, preorder}
+use Rattle.track.specs.Layout.{Sized, joinedCells, each, optionalCells, sizeCells, fontCells, segmentCells, segmentTime, segmentSize, isSome}
+use Rattle.track.specs.Layout.{spanOr, sizeOr, wrapperOf, preorder}
 use Rattle.track.specs.Placing.{Within, WithinIf, SizeIf, FamilyFits, SizeFits, WrapperFits, SegmentsFit, depth}
 use Rattle.track.proofs.ReadBack.{Reads, reads-first, reads-rest, joined-append, each-append, each-many, joined-many}
 use Rattle.track.proofs.RowsLaid.{OptionalRead, SizeRead, optional-long, size-long, optional-read, size-read, on}
-use Rattle.track.proofs.SegmentLaws.{are-none, are-more, segments-none, segments-more, is-text, is-leaf, is-plain, is-color, is-font, at-text, at-break, at-timestamp, at-bold, at-italic, at-underline, at-strike, at-color, at-font}
+use Rattle.track.proofs.SegmentLaws.{are-none, are-more, segments-none, segments-more, is-text, is-leaf, is-plain, is-color, is-font}
+use Rattle.track.proofs.SegmentLaws.{at-text, at-break, at-timestamp, at-bold, at-italic, at-underline, at-strike, at-color, at-font}
 
 -- ---- the cells of a segment
 abbrev pub cellsIn : Sized → List ℕ
@@ -116,7 +118,8 @@ module _ (t : List ℕ) (r : List ℤ) (f : List Float) where
         let n : cell 8 t i 1 ≡ 1 = h 1 (omega arith) in
         record { is = is-leaf t f z y i (omega arith) (omega arith) ∙ rw n; rows = n; joins = λ c x. rw (at-break t r f i k) }
 
-    timestamp-row : (u : ℤ) → Reads 0 t (i * 8) (segmentCells (Segment.Timestamp u) 1) → getD r i (pos 0) ≡ u → RowIs z y i 1 (λ c x. track.timestamp u x)
+    timestamp-row : (u : ℤ) → Reads 0 t (i * 8) (segmentCells (Segment.Timestamp u) 1) → getD r i (pos 0) ≡ u
+        → RowIs z y i 1 (λ c x. track.timestamp u x)
     unfolding segmentCells cell
     timestamp-row u h e =
         let k : getD t (i * 8) 0 ≡ 3 = kind-is 3 (h 0 (omega arith)) in
@@ -137,7 +140,8 @@ module _ (t : List ℕ) (r : List ℤ) (f : List Float) where
         let ga : Reads 0 t (i * 8 + 2) c1 = reads-first 0 t (i * 8 + 2) c1 c2 g in
         let gs : Reads 0 t (i * 8 + 5) c2 = reads-rest 0 t (i * 8 + 2) c1 c2 g (i * 8 + 5) l in
         let o : OptionalRead t (i * 8 + 2) z z (isSome a) (spanOr a) = optional-read t (i * 8 + 2) z z (isSome a) (spanOr a) ga (family a p) in
-        let d : SizeRead t (i * 8 + 5) (sizeCell f i) (isSome s) (sizeOr s) = size-read t (i * 8 + 5) (sizeCell f i) (isSome s) (sizeOr s) e gs (size s q) in
+        let d : SizeRead t (i * 8 + 5) (sizeCell f i) (isSome s) (sizeOr s) =
+        size-read t (i * 8 + 5) (sizeCell f i) (isSome s) (sizeOr s) e gs (size s q) in
         let c3 = on (i * 8) 2 1 3 refl in
         let c4 = on (i * 8) 2 2 4 refl in
         let c6 = on (i * 8) 5 1 6 refl in
@@ -179,7 +183,8 @@ module _ (t : List ℕ) (r : List ℤ) (f : List Float) where
     unfolding wrapperOf segmentCells cell areThree isByte
     wrapper-row n track.bold h e p = plain-row 4 n Segment.Bold track.bold h (omega arith) (omega arith) (at-bold t r f i) (λ c x. refl)
     wrapper-row n track.italic h e p = plain-row 5 n Segment.Italic track.italic h (omega arith) (omega arith) (at-italic t r f i) (λ c x. refl)
-    wrapper-row n track.underline h e p = plain-row 6 n Segment.Underline track.underline h (omega arith) (omega arith) (at-underline t r f i) (λ c x. refl)
+    wrapper-row n track.underline h e p = plain-row 6 n Segment.Underline track.underline h (omega arith) (omega arith) (at-underline t r f i)
+        (λ c x. refl)
     wrapper-row n track.strike h e p = plain-row 7 n Segment.Strike track.strike h (omega arith) (omega arith) (at-strike t r f i) (λ c x. refl)
     wrapper-row n (track.color v) h e p =
         let k : getD t (i * 8) 0 ≡ 8 = kind-is 8 (h 0 (omega arith)) in
@@ -187,7 +192,17 @@ module _ (t : List ℕ) (r : List ℤ) (f : List Float) where
         let b : cell 8 t i 3 ≡ v .g = h 3 (omega arith) in
         let d : cell 8 t i 4 ≡ v .b = h 4 (omega arith) in
         record {
-          is = is-color t f z y i k ∙ rw (on (i * 8) 2 1 3 refl, on (i * 8) 2 2 4 refl, a, b, d, lt-ltb (v .r) 256 (p .0), lt-ltb (v .g) 256 (p .1), lt-ltb (v .b) 256 (p .2));
+          is =
+              is-color t f z y i k ∙ rw (
+                on (i * 8) 2 1 3 refl,
+                on (i * 8) 2 2 4 refl,
+                a,
+                b,
+                d,
+                lt-ltb (v .r) 256 (p .0),
+                lt-ltb (v .g) 256 (p .1),
+                lt-ltb (v .b) 256 (p .2),
+              );
           rows = h 1 (omega arith);
           joins = λ c x. rw (at-color t r f i k, a, b, d);
         }
@@ -226,15 +241,18 @@ module _ (t : List ℕ) (r : List ℤ) (f : List Float) where
     segments-read track.done d i e g h = none-read d i
     segments-read (track.text s x) d i e g h =
         let q = first-row i _ _ h in
-        step d 1 (segmentRows x) i _ track.done x (omega (arith, le-max-left 1 (depth x))) (omega arith) (text-row z y i s (q .0 .0) (g .0)) (none-read (d - 1) (i + 1))
+        step d 1 (segmentRows x) i _ track.done x (omega (arith, le-max-left 1 (depth x))) (omega arith) (text-row z y i s (q .0 .0) (g .0))
+        (none-read (d - 1) (i + 1))
         (segments-read x d (i + 1) (omega (arith, le-max-right 1 (depth x))) (g .1) (q .1))
     segments-read (track.break x) d i e g h =
         let q = first-row i _ _ h in
-        step d 1 (segmentRows x) i _ track.done x (omega (arith, le-max-left 1 (depth x))) (omega arith) (break-row z y i (q .0 .0)) (none-read (d - 1) (i + 1))
+        step d 1 (segmentRows x) i _ track.done x (omega (arith, le-max-left 1 (depth x))) (omega arith) (break-row z y i (q .0 .0))
+        (none-read (d - 1) (i + 1))
         (segments-read x d (i + 1) (omega (arith, le-max-right 1 (depth x))) g (q .1))
     segments-read (track.timestamp u x) d i e g h =
         let q = first-row i _ _ h in
-        step d 1 (segmentRows x) i _ track.done x (omega (arith, le-max-left 1 (depth x))) (omega arith) (timestamp-row z y i u (q .0 .0) (q .0 .1)) (none-read (d - 1) (i + 1))
+        step d 1 (segmentRows x) i _ track.done x (omega (arith, le-max-left 1 (depth x))) (omega arith) (timestamp-row z y i u (q .0 .0) (q .0 .1))
+        (none-read (d - 1) (i + 1))
         (segments-read x d (i + 1) (omega (arith, le-max-right 1 (depth x))) g (q .1))
     segments-read (track.wrap w c x) d i e g h =
         let n = segmentRows c in
@@ -242,6 +260,7 @@ module _ (t : List ℕ) (r : List ℤ) (f : List Float) where
         let l : i + (1 + n) ≡ i + 1 + length (preorder c) = omega (arith, rows-many c) in
         let b = stand-append (i + 1) (i + (1 + n)) (preorder c) (preorder x) l (q .1) in
         let k : 1 + n - 1 ≡ n = omega arith in
-        step d (1 + n) (segmentRows x) i _ c x (omega (arith, le-max-left (1 + depth c) (depth x))) (omega arith) (wrapper-row z y i (1 + n) w (q .0 .0) (q .0 .2) (g .0))
+        step d (1 + n) (segmentRows x) i _ c x (omega (arith, le-max-left (1 + depth c) (depth x))) (omega arith)
+        (wrapper-row z y i (1 + n) w (q .0 .0) (q .0 .2) (g .0))
         (rw k (segments-read c (d - 1) (i + 1) (omega (arith, le-max-left (1 + depth c) (depth x))) (g .1) (b .0)))
         (segments-read x d (i + (1 + n)) (omega (arith, le-max-right (1 + depth c) (depth x))) (g .2) (b .1))

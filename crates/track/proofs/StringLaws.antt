@@ -17,18 +17,18 @@ use Rattle.scan.specs.Part.{stringAt}
 use Rattle.unicode.specs.Utf8.{Utf8, boundary, utf8End}
 use Rattle.unicode.proofs.Utf8Laws.{end-utf8}
 use Rattle.unicode.proofs.Boundaries.{utf8-part}
-use Rattle.decimals.proofs.Tests.{both}
+use Rattle.scan.proofs.Every.{both}
 use Rattle.track.specs.Meaning.{isSpan, isOptional, isUtf8}
 
 pub three : (a b c : Bool) → a && b && c ≡ true → (a ≡ true) × (b ≡ true) × (c ≡ true)
 three a b c h =
-    let x = both (a && b) c h in
-    let y = both a b (x .0) in
+    let x = both {a = a && b} {b = c} h in
+    let y = both {a = a} {b = b} (x .0) in
     (y .0, y .1, x .1)
 
 pub four : (a b c d : Bool) → a && b && c && d ≡ true → (a ≡ true) × (b ≡ true) × (c ≡ true) × (d ≡ true)
 four a b c d h =
-    let x = both (a && b && c) d h in
+    let x = both {a = a && b && c} {b = d} h in
     let y = three a b c (x .0) in
     (y .0, y .1, y .2, x .1)
 
@@ -61,5 +61,6 @@ unfolding stringAt
 string-used s u p n h =
     let d : p + n - p ≡ n = omega arith in
     let b : n ≤ length (drop p (take u s)) = simp length-drop (omega arith) in
-    let e : drop p s ≡ drop p (take u s) ++ drop u s = ap (drop p) (sym (take-append-drop u s)) ∙ drop-append-le p (take u s) (drop u s) (omega arith) in
+    let e : drop p s ≡ drop p (take u s) ++ drop u s =
+    ap (drop p) (sym (take-append-drop u s)) ∙ drop-append-le p (take u s) (drop u s) (omega arith) in
     rw (d, e) (sym (take-append-le n (drop p (take u s)) (drop u s) b))

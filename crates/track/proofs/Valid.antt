@@ -17,13 +17,17 @@ use borrow.Author.Tests.{eqb-true}
 use Rattle.scan.specs.Part.{stringAt}
 use Rattle.unicode.specs.Utf8.{Utf8}
 use Rattle.unicode.proofs.Utf8Laws.{by-test}
-use Rattle.decimals.proofs.Tests.{both}
+use Rattle.scan.proofs.Every.{both}
 use Rattle.track.specs.declared.strings.Span.{Span}
 use Rattle.track.specs.declared.segments.Segment.{Segment}
 use Rattle.track.specs.Track.{Bytes, Extra, Param, Style, Region, Wrapper, Segments, Cue, Track}
 use Rattle.track.specs.Track as track
-use Rattle.track.specs.Tables.{Tables, cell, span, rowsFrom, optional, extraAt, paramAt, lookAt, styleAt, regionAt, segmentAt, followedBy, siblingsAt, segmentsAt, cueAt, paramCount, styleCount, regionCount, cueCount, segmentCount, stringsUsed, textsUsed}
-use Rattle.track.specs.Meaning.{isSpan, isOptional, areExtras, hasExtras, isParam, isStyle, isRegion, isSegment, areSiblings, areSegments, isCue, isUtf8, isTrack, bytesAt, given, lookIn, extraIn, paramIn, styleIn, regionIn, segmentsIn, cueIn, trackAt, trackIn}
+use Rattle.track.specs.Tables.{Tables, cell, span, rowsFrom, optional, extraAt, paramAt, lookAt, styleAt, regionAt, segmentAt, followedBy}
+use Rattle.track.specs.Tables.{siblingsAt, segmentsAt, cueAt, paramCount, styleCount, regionCount, cueCount, segmentCount, stringsUsed}
+use Rattle.track.specs.Tables.{textsUsed}
+use Rattle.track.specs.Meaning.{isSpan, isOptional, areExtras, hasExtras, isParam, isStyle, isRegion, isSegment, areSiblings, areSegments}
+use Rattle.track.specs.Meaning.{isCue, isUtf8, isTrack, bytesAt, given, lookIn, extraIn, paramIn, styleIn, regionIn, segmentsIn, cueIn}
+use Rattle.track.specs.Meaning.{trackAt, trackIn}
 use Rattle.track.proofs.Spans.{span-within}
 use Rattle.track.proofs.StringLaws.{four, span-utf8, given-span, string-used}
 use Rattle.track.proofs.RowParts.{param-parts, style-parts, region-parts, cue-parts, first-extra, extras-are}
@@ -120,8 +124,12 @@ module _ (T : Tables) (u : ℕ) (h : isUtf8 (take u (T .strings)) ≡ true) wher
   unfolding styleAt styleIn lookAt lookIn cell
   style-utf8 i w =
       let c : ℕ → ℕ = cell 27 (T .styles) i in
-      let a = style-parts (T .styles) (T .sizes) (T .extras) (take u s) i w in
-      (string-ok s u h (c 0) (c 1) (a .name), chain-ok (c 2) (c 3) (a .chain), optional-ok (c 14) (c 15) (c 16) (a .family), extras-ok 46 (c 25) (c 26) (a .extras))
+      let a = style-parts (T .styles) (T .sizes) (T .extras) (take u s) i w in (
+        string-ok s u h (c 0) (c 1) (a .name),
+        chain-ok (c 2) (c 3) (a .chain),
+        optional-ok (c 14) (c 15) (c 16) (a .family),
+        extras-ok 46 (c 25) (c 26) (a .extras),
+      )
 
   pub region-utf8 : (i : ℕ) → isRegion (T .regions) (T .extras) (take u s) i ≡ true → OfRegion Utf8 (regionIn T i)
   unfolding regionAt regionIn
@@ -147,7 +155,12 @@ module _ (T : Tables) (u : ℕ) (h : isUtf8 (take u (T .strings)) ≡ true) wher
     followed-utf8 Segment.Underline m e c a p q = (tt, p, q)
     followed-utf8 Segment.Strike m e c a p q = (tt, p, q)
     followed-utf8 (Segment.Color w) m e c a p q = (tt, p, q)
-    followed-utf8 (Segment.Font w) m e c a p q = (by-test (w .«has_family») (λ b. rw b (string-ok s u h (w .family .place) (w .family .len) (e .0 b))) (λ b. rw b tt), p, q)
+    followed-utf8 (Segment.Font w) m e c a p q = (
+      by-test (w .«has_family») (λ b. rw b (string-ok s u h (w .family .place) (w .family .len) (e .0 b)))
+          (λ b. rw b tt),
+      p,
+      q,
+    )
 
     abbrev t : List ℕ
     t = T .segments
@@ -165,10 +178,11 @@ module _ (T : Tables) (u : ℕ) (h : isUtf8 (take u (T .strings)) ≡ true) wher
     siblings-utf8 kids ks w (suc n) (suc k) i e = siblings-utf8 kids ks w n k (i + 1) e
     siblings-utf8 kids ks w (suc n) zero i e =
         let m = cell 8 t i 1 in
-        let a = both (isSegment t f (take u s) (take v x) i && ltb 0 m && leb m (suc n) && kids (m - 1) (i + 1))
-        (areSiblings t f (take u s) (take v x) kids n (m - 1) (i + 1)) e in
+        let a = both {a = isSegment t f (take u s) (take v x) i && ltb 0 m && leb m (suc n) && kids (m - 1) (i + 1)}
+        {b = areSiblings t f (take u s) (take v x) kids n (m - 1) (i + 1)} e in
         let b = four (isSegment t f (take u s) (take v x) i) (ltb 0 m) (leb m (suc n)) (kids (m - 1) (i + 1)) (a .0) in
-        followed-utf8 (segmentAt t r f i) m (segment-holds t r f (take u s) (take v x) i (b .0)) (ks (m - 1) (i + 1)) (siblingsAt t r f ks n (m - 1) (i + 1))
+        followed-utf8 (segmentAt t r f i) m (segment-holds t r f (take u s) (take v x) i (b .0)) (ks (m - 1) (i + 1))
+        (siblingsAt t r f ks n (m - 1) (i + 1))
         (w (m - 1) (i + 1) (b .3)) (siblings-utf8 kids ks w n (m - 1) (i + 1) (a .1))
 
     pub segments-utf8 : (d n i : ℕ) → areSegments t f (take u s) (take v x) d n i ≡ true → Good (segmentsAt t r f d n i)

@@ -247,7 +247,8 @@ headCells k u v =
 
 -- the tables, so long each; z and y are the byte tables, of which u and v bytes are used
 unfoldable pub layout : Lengths → Placed → (z y : List ℕ) (u v : ℕ) → Tables
-unfolding joinedCells each allSegments headCells paramCells styleCells regionCells cueCells segmentCells segmentTime segmentSize styleExtras regionExtras cueExtras
+unfolding joinedCells each allSegments headCells paramCells styleCells regionCells cueCells segmentCells segmentTime segmentSize styleExtras
+    regionExtras cueExtras
 layout n k z y u v =
     let g = allSegments (k .cues) in
     record {

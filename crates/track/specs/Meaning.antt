@@ -15,7 +15,8 @@ use Rattle.track.specs.declared.values.Rows.{Rows}
 use Rattle.track.specs.declared.values.Look as values
 use Rattle.track.specs.Track.{Bytes, Extra, Param, Look, Style, Region, Wrapper, Segments, Cue, Track}
 use Rattle.track.specs.Track as track
-use Rattle.track.specs.Tables.{Tables, cell, span, rowsFrom, paramCount, styleCount, regionCount, cueCount, segmentCount, stringsUsed, textsUsed, sizeCell, extraAt, paramAt, styleAt, regionAt, segmentsAt, cueAt}
+use Rattle.track.specs.Tables.{Tables, cell, span, rowsFrom, sizeCell, extraAt, paramAt, styleAt, regionAt, segmentsAt, cueAt}
+use Rattle.track.specs.Tables.{paramCount, styleCount, regionCount, cueCount, segmentCount, stringsUsed, textsUsed}
 use Rattle.track.specs.Tables as tables
 
 -- ---- cells
@@ -90,7 +91,9 @@ styleValues t v i = isColor t (i + 4) && isColor t (i + 9) && isSizeAt (getD t (
 
 unfoldable pub styleFlags : List ℕ → ℕ → Bool
 unfolding isFlag
-styleFlags t i = isFlag (getD t (i + 20) 0) && isFlag (getD t (i + 21) 0) && isFlag (getD t (i + 22) 0) && isFlag (getD t (i + 23) 0) && leb (getD t (i + 24) 0) 4
+styleFlags t i =
+    isFlag (getD t (i + 20) 0) && isFlag (getD t (i + 21) 0) && isFlag (getD t (i + 22) 0) && isFlag (getD t (i + 23) 0)
+    && leb (getD t (i + 24) 0) 4
 
 unfoldable pub isStyle : (styles : List ℕ) (sizes : List Float) (extras strings : List ℕ) → ℕ → Bool
 unfolding styleStrings styleValues styleFlags hasExtras

@@ -21,7 +21,8 @@ restFull t r f z y = leb 4096 t && leb 16384 r && leb 16640 f && leb 65536 z && 
 unfoldable pub isFull : Tables → Bool
 unfolding rowsFull restFull
 isFull T =
-    rowsFull (length (T .head)) (length (T .params)) (length (T .styles)) (length (T .regions)) (length (T .cues)) (length (T .segments)) (length (T .extras))
+    rowsFull (length (T .head)) (length (T .params)) (length (T .styles)) (length (T .regions)) (length (T .cues)) (length (T .segments))
+    (length (T .extras))
     && restFull (length (T .times)) (length (T .reveal)) (length (T .sizes)) (length (T .strings)) (length (T .texts))
 
 -- 17 comes after 1

@@ -54,8 +54,10 @@ fn is_cue(
     from: usize,
     i: usize,
 ) -> bool
-    requires { ⌜ (i * 11 + 11 ≤ length (now cues)) × (24576 ≤ length (now extras)) × (most * 8 ≤ length (now segments)) × (most ≤ length (now sizes)) × (from ≤ most) ⌝ }
-    ensures { λ r. ⌜ r ≡ isCue (now (cues .entry)) (now (extras .entry)) (now (segments .entry)) (now (sizes .entry)) (now (strings .entry)) (now (texts .entry)) most from i ⌝ }
+    requires { ⌜ (i * 11 + 11 ≤ length (now cues)) × (24576 ≤ length (now extras)) × (most * 8 ≤ length (now segments))
+        × (most ≤ length (now sizes)) × (from ≤ most) ⌝ }
+    ensures { λ r. ⌜ r ≡ isCue (now (cues .entry)) (now (extras .entry)) (now (segments .entry)) (now (sizes .entry)) (now (strings .entry))
+        (now (texts .entry)) most from i ⌝ }
 {
     if !cue_values(cues, extras, strings, i) {
         return false;
@@ -82,7 +84,8 @@ pub fn are_cues(
     n: usize,
 ) -> bool
     requires { ⌜ (n * 11 ≤ length (now cues)) × (24576 ≤ length (now extras)) × (most * 8 ≤ length (now segments)) × (most ≤ length (now sizes)) ⌝ }
-    ensures { λ r. ⌜ r ≡ areCues (now (cues .entry)) (now (extras .entry)) (now (segments .entry)) (now (sizes .entry)) (now (strings .entry)) (now (texts .entry)) most 0 n 0 ⌝ }
+    ensures { λ r. ⌜ r ≡ areCues (now (cues .entry)) (now (extras .entry)) (now (segments .entry)) (now (sizes .entry))
+        (now (strings .entry)) (now (texts .entry)) most 0 n 0 ⌝ }
 {
     let mut from = 0;
     let mut i = 0;

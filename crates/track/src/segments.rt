@@ -150,7 +150,8 @@ fn font_at(segments: &[u32], sizes: &[f32], i: usize) -> Font
 
 // The segment in row i, without its children. Its kind is one of those above.
 pub fn segment_at(segments: &[u32], reveal: &[i64], sizes: &[f32], i: usize) -> Segment
-    requires { ⌜ (i * 8 + 8 ≤ length (now segments)) × (i + 1 ≤ length (now reveal)) × (i + 1 ≤ length (now sizes)) × (getD (now segments) (i * 8) 0 ≡ 8 → areThree (now segments) (i * 8 + 2) ≡ true) ⌝ }
+    requires { ⌜ (i * 8 + 8 ≤ length (now segments)) × (i + 1 ≤ length (now reveal)) × (i + 1 ≤ length (now sizes))
+        × (getD (now segments) (i * 8) 0 ≡ 8 → areThree (now segments) (i * 8 + 2) ≡ true) ⌝ }
     ensures { λ r. ⌜ r ≡ segmentAt (now (segments .entry)) (now (reveal .entry)) (now (sizes .entry)) i ⌝ }
 {
     let at = i * 8;

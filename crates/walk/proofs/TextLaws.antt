@@ -11,7 +11,7 @@ use native.Mathlib.Omega.{arith}
 use lib.ListN.{length, take}
 use lib.IntN.{ℤ}
 use lib.Ieee.{Float}
-use Rattle.decimals.proofs.Tests.{both}
+use Rattle.scan.proofs.Every.{both}
 use Rattle.track.specs.declared.strings.Span.{Span}
 use Rattle.track.specs.declared.segments.Segment.{Segment}
 use Rattle.track.specs.Track.{Segments}
@@ -66,7 +66,8 @@ module _ (t : List ℕ) (r : List ℤ) (f : List Float) (z y : List ℕ) (u : �
       let o : ownText (take u y) s ≡ ownText y s = own-used z y u m s (segment-holds t r f z (take u y) i (w .is)) in
       let a = rec (d - 1) (m - 1) (i + 1) (omega (arith, w .most)) (w .inside) in
       let b = rec d (suc n - m) (i + m) (omega (arith, w .least)) (w .after) in
-      text-step t r f z (take u y) d (suc n) i w m refl s refl (take u y) ∙ rw (o, a, b) (sym (text-step t r f z (take u y) d (suc n) i w m refl s refl y))
+      text-step t r f z (take u y) d (suc n) i w m refl s refl (take u y)
+      ∙ rw (o, a, b) (sym (text-step t r f z (take u y) d (suc n) i w m refl s refl y))
 
   -- at most k rows
   same : (k d n i : ℕ) → n ≤ k → Same d n i
@@ -74,20 +75,24 @@ module _ (t : List ℕ) (r : List ℤ) (f : List Float) (z y : List ℕ) (u : �
   same zero d (suc n) i h e = absurd (omega arith)
   same (suc k) d n i h e = some-same k (same k) d n i h e
 
-  pub text-used : (d n i : ℕ) → areSegments t f z (take u y) d n i ≡ true → plainText (take u y) (segmentsAt t r f d n i) ≡ plainText y (segmentsAt t r f d n i)
+  pub text-used : (d n i : ℕ) → areSegments t f z (take u y) d n i ≡ true
+      → plainText (take u y) (segmentsAt t r f d n i) ≡ plainText y (segmentsAt t r f d n i)
   text-used d n i e = same n d n i (omega arith) e
 
 -- ---- an accepted track
 module _ (T : Tables) (h : isTrack T ≡ true) (i : ℕ) (l : i < cueCount (T .head)) where
   parts : CueParts (T .cues) (T .extras) (T .segments) (T .sizes) (usedStrings T) (usedTexts T) (segmentCount (T .head)) (cell 11 (T .cues) i 7) i
-  parts = cue-parts (T .cues) (T .extras) (T .segments) (T .sizes) (usedStrings T) (usedTexts T) (segmentCount (T .head)) (cell 11 (T .cues) i 7) i (cue-ok T h i l .0)
+  parts = cue-parts (T .cues) (T .extras) (T .segments) (T .sizes) (usedStrings T) (usedTexts T) (segmentCount (T .head)) (cell 11 (T .cues) i 7) i
+      (cue-ok T h i l .0)
 
   pub cue-ready : isFull T ≡ true → WalkReady (T .segments) (T .reveal) (T .sizes) (usedTexts T) (cell 11 (T .cues) i 7) (cell 11 (T .cues) i 8) 512
   unfolding isFull
   cue-ready g =
-      let b = both (rowsFull (length (T .head)) (length (T .params)) (length (T .styles)) (length (T .regions)) (length (T .cues)) (length (T .segments)) (length (T .extras)))
-      (restFull (length (T .times)) (length (T .reveal)) (length (T .sizes)) (length (T .strings)) (length (T .texts))) g in
-      let a = rows-long (length (T .head)) (length (T .params)) (length (T .styles)) (length (T .regions)) (length (T .cues)) (length (T .segments)) (length (T .extras)) (b .0) in
+      let b = both {a = rowsFull (length (T .head)) (length (T .params)) (length (T .styles)) (length (T .regions)) (length (T .cues))
+      (length (T .segments)) (length (T .extras))} {b = restFull (length (T .times)) (length (T .reveal)) (length (T .sizes)) (length (T .strings))
+      (length (T .texts))} g in
+      let a = rows-long (length (T .head)) (length (T .params)) (length (T .styles)) (length (T .regions)) (length (T .cues)) (length (T .segments))
+      (length (T .extras)) (b .0) in
       let c = rest-long (length (T .times)) (length (T .reveal)) (length (T .sizes)) (length (T .strings)) (length (T .texts)) (b .1) in
       let m : segmentCount (T .head) ≤ 16384 = limits-low (T .head) (limits-ok T h) .segments in
       record {
@@ -103,5 +108,6 @@ module _ (T : Tables) (h : isTrack T ≡ true) (i : ℕ) (l : i < cueCount (T .h
       ≡ textOf (cueIn T i .segments)
   unfolding cueIn cueAt
   cue-text =
-      text-used (T .segments) (T .reveal) (T .sizes) (usedStrings T) (T .texts) (textsUsed (T .head)) 512 (cell 11 (T .cues) i 8) (cell 11 (T .cues) i 7) (parts .segments)
+      text-used (T .segments) (T .reveal) (T .sizes) (usedStrings T) (T .texts) (textsUsed (T .head)) 512 (cell 11 (T .cues) i 8)
+      (cell 11 (T .cues) i 7) (parts .segments)
       ∙ text-means T _

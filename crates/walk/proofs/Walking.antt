@@ -79,13 +79,15 @@ own-none y s at o h e g =
     rw k (record { next = omega arith; within = h; laid = refl })
 
 -- the first of n rows from row i on
-module _ (t : List ℕ) (r : List ℤ) (f : List Float) (z y : List ℕ) (d n i : ℕ) (w : Walk t f z y d n i) (m : ℕ) (q : m ≡ cell 8 t i 1) (s : Segment) (p : s ≡ segmentAt t r f i) where
+module _ (t : List ℕ) (r : List ℤ) (f : List Float) (z y : List ℕ) (d n i : ℕ) (w : Walk t f z y d n i) (m : ℕ) (q : m ≡ cell 8 t i 1) (s : Segment)
+    (p : s ≡ segmentAt t r f i) where
   -- in any bytes v
   pub text-step :
       (v : List ℕ) → plainText v (segmentsAt t r f d n i)
       ≡ ownText v s ++ (plainText v (segmentsAt t r f (d - 1) (m - 1) (i + 1)) ++ plainText v (segmentsAt t r f d (n - m) (i + m)))
   text-step v =
-      rw (q, p, segments-more t r f d n i (w .deep) (w .least) (w .most)) (followed z y v (cell 8 t i 1) (segmentAt t r f i) _ _ (segment-holds t r f z y i (w .is)) alone)
+      rw (q, p, segments-more t r f d n i (w .deep) (w .least) (w .most))
+      (followed z y v (cell 8 t i 1) (segmentAt t r f i) _ _ (segment-holds t r f z y i (w .is)) alone)
     where
       alone : cell 8 t i 1 ≡ 1 → segmentsAt t r f (d - 1) (cell 8 t i 1 - 1) (i + 1) ≡ track.done
       alone e = let k : cell 8 t i 1 - 1 ≡ 0 = omega arith in rw k (segments-none t r f (d - 1) (i + 1))
@@ -141,7 +143,8 @@ module _ (t : List ℕ) (r : List ℤ) (f : List Float) (y : List ℕ) (from n d
 
       module _ (m : ℕ) (q : m ≡ cell 8 t i 1) (s : Segment) (p : s ≡ segmentAt t r f i) where
         whole : plainText y (segmentsAt t r f d n from)
-            ≡ g .done ++ (ownText y s ++ (plainText y (segmentsAt t r f (d - 1) (m - 1) (i + 1)) ++ plainText y (segmentsAt t r f d (from + n - i - m) (i + m))))
+            ≡ g .done ++ (ownText y s ++ (plainText y (segmentsAt t r f (d - 1) (m - 1) (i + 1))
+            ++ plainText y (segmentsAt t r f d (from + n - i - m) (i + m))))
         whole = g .rest ∙ ap (λ (l : List ℕ). g .done ++ l) (text-step t r f (g .strings) y d (from + n - i) i first m q s p y)
 
         -- its own text does not fit
@@ -176,7 +179,8 @@ module _ (t : List ℕ) (r : List ℤ) (f : List Float) (y : List ℕ) (from n d
           walking-step l u b =
               let c = plainText y (segmentsAt t r f (d - 1) (m - 1) (i + 1)) in
               let j : length (g .done ++ ownText y s) ≡ length (g .done) + length (ownText y s) = length-append (g .done) (ownText y s) in
-              let v : length ((g .done ++ ownText y s) ++ c) ≡ length (g .done ++ ownText y s) + length c = length-append (g .done ++ ownText y s) c in
+              let v : length ((g .done ++ ownText y s) ++ c) ≡ length (g .done ++ ownText y s) + length c =
+              length-append (g .done ++ ownText y s) c in
               let e : from + n - (i + m) ≡ from + n - i - m = omega arith in
               record {
                 strings = g .strings;
@@ -186,14 +190,17 @@ module _ (t : List ℕ) (r : List ℤ) (f : List Float) (y : List ℕ) (from n d
                 done = (g .done ++ ownText y s) ++ c;
                 place = omega (arith, j, v, g .place, a .next, b .next);
                 fits = omega (arith, b .within, held);
-                laid = sets-on (g .done ++ ownText y s) c o o″ u at k (sets-on (g .done) (ownText y s) o o′ o″ at to (g .laid) (a .laid) (g .place)) (b .laid) (omega (arith, j, a .next, g .place));
+                laid =
+                    sets-on (g .done ++ ownText y s) c o o″ u at k (sets-on (g .done) (ownText y s) o o′ o″ at to (g .laid) (a .laid) (g .place))
+                    (b .laid) (omega (arith, j, a .next, g .place));
                 kept = ap length (b .laid) ∙ (length-sets o″ k c ∙ held);
                 rest = rw e (whole ∙ simp append-assoc);
               }
 
 -- what is inside the first row from row i on is ready too
 module _ (t : List ℕ) (r : List ℤ) (f : List Float) (y : List ℕ) (from n d : ℕ) (p : WalkReady t r f y from n d) where
-  pub walk-inside : (z : List ℕ) (k i : ℕ) → Walk t f z y d k i → i + k ≤ from + n → (m : ℕ) → m ≡ cell 8 t i 1 → WalkReady t r f y (i + 1) (m - 1) (d - 1)
+  pub walk-inside : (z : List ℕ) (k i : ℕ) → Walk t f z y d k i → i + k ≤ from + n → (m : ℕ) → m ≡ cell 8 t i 1
+      → WalkReady t r f y (i + 1) (m - 1) (d - 1)
   walk-inside z k i w h m q =
       record {
         strings = z;

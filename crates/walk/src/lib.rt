@@ -40,7 +40,8 @@ pub fn plain_text(
     at: usize,
 ) -> Written
     requires { ⌜ WalkReady (now segments) (now reveal) (now sizes) (now texts) from n room × (at ≤ length (now out)) ⌝ }
-    ensures { λ r. ⌜ WroteInPart (plainText (now (texts .entry)) (segmentsAt (now (segments .entry)) (now (reveal .entry)) (now (sizes .entry)) room n from)) at (now (out .entry)) (now (out .exit)) r ⌝ }
+    ensures { λ r. ⌜ WroteInPart (plainText (now (texts .entry)) (segmentsAt (now (segments .entry)) (now (reveal .entry))
+        (now (sizes .entry)) room n from)) at (now (out .entry)) (now (out .exit)) r ⌝ }
 {
     let end = from + n;
     let mut i = from;

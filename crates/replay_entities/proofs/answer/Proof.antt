@@ -41,13 +41,15 @@ same-length-2 : tie.Need-same-length-2
 same-length-2 c = search needs
 
 returns-2 : tie.Need-returns-2
-returns-2 c = rw (c .length-of .ensures) (written-within _ _ (c .before .before .before .escape-text .last .1 .0) (c .before .before .before .escape-text .result) (c .before .before .before .escape-text .ensures))
+returns-2 c = rw (c .length-of .ensures) (written-within _ _ (c .before .before .before .escape-text .last .1 .0)
+    (c .before .before .before .escape-text .result) (c .before .before .before .escape-text .ensures))
 
 same-length-3 : tie.Need-same-length-3
 same-length-3 c = search needs
 
 returns-3 : tie.Need-returns-3
-returns-3 c = rw (c .length-of2 .ensures) (written-within _ _ (c .before .before .before .escape-attr .last .1 .0) (c .before .before .before .escape-attr .result) (c .before .before .before .escape-attr .ensures))
+returns-3 c = rw (c .length-of2 .ensures) (written-within _ _ (c .before .before .before .escape-attr .last .1 .0)
+    (c .before .before .before .escape-attr .result) (c .before .before .before .escape-attr .ensures))
 
 same-length-4 : tie.Need-same-length-4
 same-length-4 c = search needs

@@ -23,7 +23,8 @@ same-length : tie.Need-same-length
 same-length c = search needs
 
 returns : tie.Need-returns
-returns c = rw (c .length-of .ensures) (copied-within _ _ (c .before .before .before .append .last .0) (c .before .before .before .append .result) (c .before .before .before .append .ensures))
+returns c = rw (c .length-of .ensures) (copied-within _ _ (c .before .before .before .append .last .0) (c .before .before .before .append .result)
+    (c .before .before .before .append .ensures))
 
 pub copy-part-spec : {M : Type 1} → statement M
 copy-part-spec =

@@ -13,7 +13,8 @@ use Rattle.replay_values.proofs.signed.Tie as tie
 below-fits : (k : ℕ) → k < 2 ^ 63 → SFits w64 (negsuc 0 -ℤ toZ w64 k)
 below-fits k h =
     let z : k ≡ suc k - 1 = omega arith in
-    rw (ap (λ (j : ℕ). negsuc 0 -ℤ toZ w64 j) z ∙ less-one (suc k) (omega arith) (omega arith)) (record { sfits = negative-fits (suc k) (omega arith) })
+    rw (ap (λ (j : ℕ). negsuc 0 -ℤ toZ w64 j) z ∙ less-one (suc k) (omega arith) (omega arith))
+    (record { sfits = negative-fits (suc k) (omega arith) })
 
 cast-result : tie.Need-cast-result
 cast-result c = search needs

@@ -14,7 +14,8 @@ enum-known-d : tie.Need-enum-known-d
 enum-known-d c = search needs
 
 to-f64-requires : tie.Need-to-f64-requires
-to-f64-requires c κs = let w = decimal-limits 15 22 _ (sym (c .before .before .before .read-decimal .ensures .is) ∙ c .before .d .given .1) in (w .small, w .near)
+to-f64-requires c κs = let w = decimal-limits 15 22 _ (sym (c .before .before .before .read-decimal .ensures .is) ∙ c .before .d .given .1) in
+    (w .small, w .near)
 
 float-to-bits-is-eight : tie.Need-float-to-bits-is-eight
 float-to-bits-is-eight c = rw (ap isNan (c .to-f64 .ensures) ∙ round-finite binary64 _ _ _) tt

@@ -12,7 +12,8 @@ enum-known-d : tie.Need-enum-known-d
 enum-known-d c = search needs
 
 size-of-requires : tie.Need-size-of-requires
-size-of-requires c κs = let w = decimal-limits 6 10 _ (sym (c .before .before .before .read-decimal .ensures .is) ∙ c .before .d .given .1) in (w .small, w .near)
+size-of-requires c κs = let w = decimal-limits 6 10 _ (sym (c .before .before .before .read-decimal .ensures .is) ∙ c .before .d .given .1) in
+    (w .small, w .near)
 
 is-size-requires : tie.Need-is-size-requires
 is-size-requires c κs = search needs

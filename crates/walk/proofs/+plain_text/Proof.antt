@@ -5,7 +5,8 @@ use native.Mathlib.Omega.{arith}
 use borrow.Author.Needs.{needs}
 use Rattle.track.specs.Tables.{cell}
 use Rattle.track.proofs.SegmentLaws.{readable}
-use Rattle.walk.proofs.Walking.{walk-inside, Walking, text-within, walking-start, walking-done, first, walking-full, walking-own, walking-torn, walking-step}
+use Rattle.walk.proofs.Walking.{walk-inside, Walking, text-within, walking-start, walking-done, first, walking-full, walking-own}
+use Rattle.walk.proofs.Walking.{walking-torn, walking-step}
 use Prim.Native.Nat.{ℕ, _+_, _-_, _≤_, _<_}
 use borrow.Fn.Kinds.{In}
 use borrow.Fn.PlainCycle.{Measures, is, falls, and}
@@ -30,10 +31,20 @@ plain-text-below t =
     and 5 plain-text-kinds.ps (falls 5 plain-text-kinds.ps _<_ μ-plain-text t) plain-text.Pre
 
 abbrev claims : ℕ → plain-text-lts.Claims
-claims t = (get-reads.Asked, get-reads.Learnt, segment-at-reads.Asked, segment-at-reads.Learnt, own-text-reads.Asked, own-text-reads.Learnt, plain-text-below t, plain-text.Post)
+claims t = (
+  get-reads.Asked,
+  get-reads.Learnt,
+  segment-at-reads.Asked,
+  segment-at-reads.Learnt,
+  own-text-reads.Asked,
+  own-text-reads.Learnt,
+  plain-text-below t,
+  plain-text.Post,
+)
 
 abbrev plain-text-Inv-loop : plain-text-lts.InvT-loop
-plain-text-Inv-loop segments reveal sizes texts from n room out₀ at end i₀ to₀ out i to = Walking segments reveal sizes texts from n room at out₀ i to out
+plain-text-Inv-loop segments reveal sizes texts from n room out₀ at end i₀ to₀ out i to = Walking segments reveal sizes texts from n room at out₀ i to
+    out
 
 abbrev plain-text-μ-loop : plain-text-lts.MeasureT-loop
 plain-text-μ-loop segments reveal sizes texts from n room out₀ at end i₀ to₀ out i to = end - i
@@ -51,10 +62,12 @@ plain-text-mul-get t c = search needs
 plain-text-add-get : (t : ℕ) → plain-text-lts.Need-add-get (claims t) (plain-text-at t) plain-text.Post plain-text-Inv-loop plain-text-μ-loop
 plain-text-add-get t c = search needs
 
-plain-text-get-requires : (t : ℕ) → plain-text-lts.Need-get-requires (claims t) (plain-text-at t) plain-text.Post plain-text-Inv-loop plain-text-μ-loop
+plain-text-get-requires : (t : ℕ) → plain-text-lts.Need-get-requires (claims t)
+    (plain-text-at t) plain-text.Post plain-text-Inv-loop plain-text-μ-loop
 plain-text-get-requires t c κs = search needs
 
-plain-text-segment-at-requires : (t : ℕ) → plain-text-lts.Need-segment-at-requires (claims t) (plain-text-at t) plain-text.Post plain-text-Inv-loop plain-text-μ-loop
+plain-text-segment-at-requires : (t : ℕ) → plain-text-lts.Need-segment-at-requires (claims t)
+    (plain-text-at t) plain-text.Post plain-text-Inv-loop plain-text-μ-loop
 plain-text-segment-at-requires t c κs =
     let a = c .before .before .before .before .before .before .before .args in
     let l = c .before .before .loop in
@@ -63,7 +76,8 @@ plain-text-segment-at-requires t c κs =
     let p = c .before .before .before .before .before .before .before .pre .1 .0 in
     (omega (arith, p .cells), omega (arith, p .times), omega (arith, p .floats), readable _ _ _ _ _ (w .is))
 
-plain-text-own-text-requires : (t : ℕ) → plain-text-lts.Need-own-text-requires (claims t) (plain-text-at t) plain-text.Post plain-text-Inv-loop plain-text-μ-loop
+plain-text-own-text-requires : (t : ℕ) → plain-text-lts.Need-own-text-requires (claims t)
+    (plain-text-at t) plain-text.Post plain-text-Inv-loop plain-text-μ-loop
 plain-text-own-text-requires t c κs =
     let a = c .before .before .before .before .before .before .before .before .before .args in
     let l = c .before .before .before .before .loop in
@@ -84,15 +98,20 @@ plain-text-returns t c =
     let a = d .before .before .before .before .before .before .before .before .args in
     let l = d .before .before .before .loop in
     let h : l .i < a .from + a .n = omega arith in
-    walking-full _ _ _ _ _ _ _ _ _ _ _ _ (l .inv) h _ (d .before .get .ensures) _ (d .segment-at .ensures) (c .before .before .before .before .own-text .last .1 .1 .0) (rw (c .enum-told .given .1) at (c .before .before .before .before .own-text .ensures))
+    walking-full _ _ _ _ _ _ _ _ _ _ _ _ (l .inv) h _ (d .before .get .ensures) _ (d .segment-at .ensures)
+    (c .before .before .before .before .own-text .last .1 .1 .0)
+    (rw (c .enum-told .given .1) at (c .before .before .before .before .own-text .ensures))
 
-plain-text-enum-known-next : (t : ℕ) → plain-text-lts.Need-enum-known-next (claims t) (plain-text-at t) plain-text.Post plain-text-Inv-loop plain-text-μ-loop
+plain-text-enum-known-next : (t : ℕ) → plain-text-lts.Need-enum-known-next (claims t)
+    (plain-text-at t) plain-text.Post plain-text-Inv-loop plain-text-μ-loop
 plain-text-enum-known-next t c = search needs
 
-plain-text-add-plain-text : (t : ℕ) → plain-text-lts.Need-add-plain-text (claims t) (plain-text-at t) plain-text.Post plain-text-Inv-loop plain-text-μ-loop
+plain-text-add-plain-text : (t : ℕ) → plain-text-lts.Need-add-plain-text (claims t)
+    (plain-text-at t) plain-text.Post plain-text-Inv-loop plain-text-μ-loop
 plain-text-add-plain-text t c = search needs
 
-plain-text-sub-plain-text : (t : ℕ) → plain-text-lts.Need-sub-plain-text (claims t) (plain-text-at t) plain-text.Post plain-text-Inv-loop plain-text-μ-loop
+plain-text-sub-plain-text : (t : ℕ) → plain-text-lts.Need-sub-plain-text (claims t)
+    (plain-text-at t) plain-text.Post plain-text-Inv-loop plain-text-μ-loop
 unfolding cell
 plain-text-sub-plain-text t c =
     let d = c .before .before .before .before .before .before .before in
@@ -102,7 +121,8 @@ plain-text-sub-plain-text t c =
     let w = first _ _ _ _ _ _ _ _ _ _ _ _ (l .inv) h in
     omega (arith, w .least, d .before .get .ensures)
 
-plain-text-sub-plain-text-2 : (t : ℕ) → plain-text-lts.Need-sub-plain-text-2 (claims t) (plain-text-at t) plain-text.Post plain-text-Inv-loop plain-text-μ-loop
+plain-text-sub-plain-text-2 : (t : ℕ) → plain-text-lts.Need-sub-plain-text-2 (claims t)
+    (plain-text-at t) plain-text.Post plain-text-Inv-loop plain-text-μ-loop
 plain-text-sub-plain-text-2 t c =
     let d = c .before .before .before .before .before .before .before in
     let a = d .before .before .before .before .before .before .before .before .args in
@@ -111,7 +131,8 @@ plain-text-sub-plain-text-2 t c =
     let w = first _ _ _ _ _ _ _ _ _ _ _ _ (l .inv) h in
     w .deep
 
-plain-text-plain-text-requires : (t : ℕ) → plain-text-lts.Need-plain-text-requires (claims t) (plain-text-at t) plain-text.Post plain-text-Inv-loop plain-text-μ-loop
+plain-text-plain-text-requires : (t : ℕ) → plain-text-lts.Need-plain-text-requires (claims t)
+    (plain-text-at t) plain-text.Post plain-text-Inv-loop plain-text-μ-loop
 unfolding cell
 plain-text-plain-text-requires t c κs =
     let d = c .before .before .before .before .before .before .before .before in
@@ -121,13 +142,20 @@ plain-text-plain-text-requires t c κs =
     let w = first _ _ _ _ _ _ _ _ _ _ _ _ (l .inv) h in
     let p = d .before .before .before .before .before .before .before .before .pre .1 .0 in
     let g = d .before .get in
-    let e : g .result ≡ cell 8 (a .segments .now) (l .i) 1 = g .ensures in
-    (omega (arith, w .deep), (walk-inside _ _ _ _ _ _ _ p _ _ _ w (omega arith) _ e, walking-own _ _ _ _ _ _ _ _ _ _ _ _ (l .inv) h _ (d .before .get .ensures) _ (d .segment-at .ensures) _ _ (rw (c .before .before .next .given .1) at (c .before .before .before .before .before .before .own-text .ensures))))
+    let e : g .result ≡ cell 8 (a .segments .now) (l .i) 1 = g .ensures in (
+      omega (arith, w .deep),
+      (
+        walk-inside _ _ _ _ _ _ _ p _ _ _ w (omega arith) _ e,
+        walking-own _ _ _ _ _ _ _ _ _ _ _ _ (l .inv) h _ (d .before .get .ensures) _ (d .segment-at .ensures) _ _
+            (rw (c .before .before .next .given .1) at (c .before .before .before .before .before .before .own-text .ensures)),
+      ),
+    )
 
 plain-text-enum-told-2 : (t : ℕ) → plain-text-lts.Need-enum-told-2 (claims t) (plain-text-at t) plain-text.Post plain-text-Inv-loop plain-text-μ-loop
 plain-text-enum-told-2 t c = search needs
 
-plain-text-same-length-2 : (t : ℕ) → plain-text-lts.Need-same-length-2 (claims t) (plain-text-at t) plain-text.Post plain-text-Inv-loop plain-text-μ-loop
+plain-text-same-length-2 : (t : ℕ) → plain-text-lts.Need-same-length-2 (claims t)
+    (plain-text-at t) plain-text.Post plain-text-Inv-loop plain-text-μ-loop
 plain-text-same-length-2 t c = search needs
 
 plain-text-returns-2 : (t : ℕ) → plain-text-lts.Need-returns-2 (claims t) (plain-text-at t) plain-text.Post plain-text-Inv-loop plain-text-μ-loop
@@ -137,9 +165,14 @@ plain-text-returns-2 t c =
     let a = d .before .before .before .before .before .before .before .before .args in
     let l = d .before .before .before .loop in
     let h : l .i < a .from + a .n = omega arith in
-    walking-torn _ _ _ _ _ _ _ _ _ _ _ _ (l .inv) h _ (d .before .get .ensures) _ (d .segment-at .ensures) _ _ (rw (c .before .before .before .before .before .before .before .next .given .1) at (c .before .before .before .before .before .before .before .before .before .before .before .own-text .ensures)) (c .before .before .before .before .plain-text .last .1 .1 .1 .1 .1 .1 .1 .0) (rw (c .enum-told2 .given .1) at (c .before .before .before .before .plain-text .ensures))
+    walking-torn _ _ _ _ _ _ _ _ _ _ _ _ (l .inv) h _ (d .before .get .ensures) _ (d .segment-at .ensures) _ _
+    (rw (c .before .before .before .before .before .before .before .next .given .1) at
+    (c .before .before .before .before .before .before .before .before .before .before .before .own-text .ensures))
+    (c .before .before .before .before .plain-text .last .1 .1 .1 .1 .1 .1 .1 .0)
+    (rw (c .enum-told2 .given .1) at (c .before .before .before .before .plain-text .ensures))
 
-plain-text-enum-known-next-2 : (t : ℕ) → plain-text-lts.Need-enum-known-next-2 (claims t) (plain-text-at t) plain-text.Post plain-text-Inv-loop plain-text-μ-loop
+plain-text-enum-known-next-2 : (t : ℕ) → plain-text-lts.Need-enum-known-next-2 (claims t)
+    (plain-text-at t) plain-text.Post plain-text-Inv-loop plain-text-μ-loop
 plain-text-enum-known-next-2 t c = search needs
 
 plain-text-add-i : (t : ℕ) → plain-text-lts.Need-add-i (claims t) (plain-text-at t) plain-text.Post plain-text-Inv-loop plain-text-μ-loop
@@ -171,9 +204,13 @@ plain-text-loop-again t c =
     let a = d .before .before .before .before .before .before .before .before .args in
     let l = d .before .before .before .loop in
     let h : l .i < a .from + a .n = omega arith in
-    walking-step _ _ _ _ _ _ _ _ _ _ _ _ (l .inv) h _ (d .before .get .ensures) _ (d .segment-at .ensures) _ _ (rw (c .before .before .before .before .before .before .before .before .next .given .1) at (c .before .before .before .before .before .before .before .before .before .before .before .before .own-text .ensures)) _ _ (rw (c .before .next2 .given .1) at (c .before .before .before .before .before .plain-text .ensures))
+    walking-step _ _ _ _ _ _ _ _ _ _ _ _ (l .inv) h _ (d .before .get .ensures) _ (d .segment-at .ensures) _ _
+    (rw (c .before .before .before .before .before .before .before .before .next .given .1) at
+    (c .before .before .before .before .before .before .before .before .before .before .before .before .own-text .ensures)) _ _
+    (rw (c .before .next2 .given .1) at (c .before .before .before .before .before .plain-text .ensures))
 
-plain-text-same-length-3 : (t : ℕ) → plain-text-lts.Need-same-length-3 (claims t) (plain-text-at t) plain-text.Post plain-text-Inv-loop plain-text-μ-loop
+plain-text-same-length-3 : (t : ℕ) → plain-text-lts.Need-same-length-3 (claims t)
+    (plain-text-at t) plain-text.Post plain-text-Inv-loop plain-text-μ-loop
 plain-text-same-length-3 t c = search needs
 
 plain-text-returns-3 : (t : ℕ) → plain-text-lts.Need-returns-3 (claims t) (plain-text-at t) plain-text.Post plain-text-Inv-loop plain-text-μ-loop

@@ -65,7 +65,8 @@ returns-3 : tie.Need-returns-3
 returns-3 c =
     let a = c .before .before .before .args in
     own-none (a .texts .now) (a .s) (a .at) (a .out .now) (c .before .before .before .pre .0)
-    (λ x e. miss (2 ∷ 3 ∷ 4 ∷ 5 ∷ 6 ∷ 7 ∷ 8 ∷ []) 0 tt (rw e at (c .match .keys3))) (λ e. miss (2 ∷ 3 ∷ 4 ∷ 5 ∷ 6 ∷ 7 ∷ 8 ∷ []) 1 tt (rw e at (c .match .keys3)))
+    (λ x e. miss (2 ∷ 3 ∷ 4 ∷ 5 ∷ 6 ∷ 7 ∷ 8 ∷ []) 0 tt (rw e at (c .match .keys3)))
+    (λ e. miss (2 ∷ 3 ∷ 4 ∷ 5 ∷ 6 ∷ 7 ∷ 8 ∷ []) 1 tt (rw e at (c .match .keys3)))
 
 pub own-text-spec : {M : Type 1} → statement M
 own-text-spec =

@@ -1,28 +1,20 @@
-use Rattle.content.specs.Steps.{addedIn}
+-- `added` meets its contract. Assumes nothing.
 use borrow.Author.Needs.{needs}
 use Rattle.content.proofs.collect.added.Statement.{statement}
 use Rattle.content.proofs.collect.added.Tie as tie
-use Rattle.content.proofs.collect.added.Reads as reads
-use Rattle.content.proofs.collect.added.Lts as lts
-use Rattle.content.proofs.collect.refused.Reads as refused-reads
 
--- src/collect.rt:57:21
 enum-known-a : tie.Need-enum-known-a
 enum-known-a c = search needs
 
--- src/collect.rt:58:24
 enum-told : tie.Need-enum-told
 enum-told c = search needs
 
--- src/collect.rt:58:24
 refused-requires : tie.Need-refused-requires
 refused-requires c κs = search needs
 
--- src/collect.rt:53:1
 returns : tie.Need-returns
 returns c = rw (c .before .a .given .1)
 
--- src/collect.rt:53:1
 returns-2 : tie.Need-returns-2
 returns-2 c = rw (c .before .enum-told .given .1) (c .refused .ensures)
 

@@ -1,17 +1,13 @@
+-- `around` meets its contract: the font is there where its family or its size is. Assumes nothing.
 use mathlib.Core.Path.{refl}
 use Rattle.content.proofs.Giving.{around-is}
 use borrow.Author.Needs.{needs}
 use Rattle.content.proofs.collect.around.Statement.{statement}
 use Rattle.content.proofs.collect.around.Tie as tie
-use Rattle.content.proofs.collect.around.Reads as reads
-use Rattle.content.proofs.collect.around.Lts as lts
-use Rattle.content.proofs.collect.either.Reads as either-reads
 
--- src/collect.rt:179:19
 either-requires : tie.Need-either-requires
 either-requires c κs = search needs
 
--- src/collect.rt:172:1
 returns : tie.Need-returns
 returns c = (refl, λ z h. around-is z (c .before .before .before .args .w) (c .either .result) (c .either .ensures) h)
 

@@ -1,57 +1,57 @@
+-- `begin_of` meets its contract: by what `time_attr` says. Assumes nothing.
+use mathlib.Core.Path.{ap, _∙_}
+use mathlib.Core.Bool.{true}
+use lib.IntN.{ℤ}
+use mir.Val.{toZ, ofZ}
+use Rattle.meaning.specs.Timing.{sum}
+use Rattle.content.specs.Steps.{beginning}
 use mir.Syntax.{w64}
 use mir.Facts.{toZ-ofZ}
 use mir.ValLaws as laws
 use borrow.Author.Needs.{needs}
 use Rattle.content.proofs.collect.begin_of.Statement.{statement}
 use Rattle.content.proofs.collect.begin_of.Tie as tie
-use Rattle.content.proofs.collect.begin_of.Reads as reads
-use Rattle.content.proofs.collect.begin_of.Lts as lts
-use Rattle.content.proofs.collect.counted.Reads as counted-reads
-use Rattle.styling.proofs.time_attr.Reads as time-attr-reads
 
--- src/collect.rt:259:63
 slice-aggregate-time-attr : tie.Need-slice-aggregate-time-attr
 slice-aggregate-time-attr c = search needs
 
--- src/collect.rt:259:11
 time-attr-requires : tie.Need-time-attr-requires
 time-attr-requires c κs = search needs
 
--- src/collect.rt:260:27
 enum-known-r : tie.Need-enum-known-r
 enum-known-r c = search needs
 
--- src/collect.rt:261:22
 enum-known-t : tie.Need-enum-known-t
 enum-known-t c = search needs
 
--- src/collect.rt:261:28
 counted-requires : tie.Need-counted-requires
 counted-requires c κs = search needs
 
--- src/collect.rt:262:30
 enum-told : tie.Need-enum-told
 enum-told c = search needs
 
--- src/collect.rt:262:30
 counted-requires-2 : tie.Need-counted-requires-2
 counted-requires-2 c κs = search needs
 
--- src/collect.rt:248:1
 returns : tie.Need-returns
 returns c =
     λ l o.
     let e = rw (c .before .r .given .1) at (c .before .before .before .time-attr .ensures l o) in
     rw (← e)
 
--- src/collect.rt:248:1
 returns-2 : tie.Need-returns-2
 returns-2 c =
+    let c4 = c .before .before .before .before in
+    let c8 = c4 .before .before .before .before in
     λ l o.
-    let e = rw (c .before .before .t .given .1) at (c .before .before .before .before .time-attr .ensures l o) in
-    rw (← e) (rw (toZ-ofZ (c .before .before .before .before .before .before .before .before .fits .base), laws.toZ-ofZ w64 _ (record { sfits = c .before .known-told2 .given .0 .1 })) at (c .counted .ensures))
+    let e = rw (c .before .before .t .given .1) at (c4 .time-attr .ensures l o) in
+    let p = c8 .args .e .place in
+    let base = c8 .args .base in
+    let t = c .before .before .t .given .0 .0 in
+    rw (← e)
+    (c .counted .ensures ∙ ap (λ (x : ℤ). beginning true (sum p x (toZ w64 (ofZ w64 t)))) (toZ-ofZ (c8 .fits .base))
+    ∙ ap (λ (x : ℤ). beginning true (sum p base x)) (laws.toZ-ofZ w64 t (record { sfits = c .before .known-told2 .given .0 .1 })))
 
--- src/collect.rt:248:1
 returns-3 : tie.Need-returns-3
 returns-3 c =
     λ l o.

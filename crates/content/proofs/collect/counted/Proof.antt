@@ -1,3 +1,4 @@
+-- `counted` meets its contract. Assumes nothing.
 use mathlib.Core.Path.{ap}
 use lib.IntN.{ℤ}
 use mir.Syntax.{w64}
@@ -8,23 +9,16 @@ use Rattle.content.specs.declared.collect.Beginning.{Beginning}
 use borrow.Author.Needs.{needs}
 use Rattle.content.proofs.collect.counted.Statement.{statement}
 use Rattle.content.proofs.collect.counted.Tie as tie
-use Rattle.content.proofs.collect.counted.Reads as reads
-use Rattle.content.proofs.collect.counted.Lts as lts
-use Rattle.times.proofs.add.Reads as add-reads
 
--- src/collect.rt:242:11
 add-requires : tie.Need-add-requires
 add-requires c κs = search needs
 
--- src/collect.rt:243:17
 enum-known-time : tie.Need-enum-known-time
 enum-known-time c = search needs
 
--- src/collect.rt:244:45
 enum-told : tie.Need-enum-told
 enum-told c = search needs
 
--- src/collect.rt:239:1
 returns : tie.Need-returns
 unfolding sum
 returns c =
@@ -33,7 +27,6 @@ returns c =
     rw (← e, c .before .time .given .1)
     (ap (λ (z : ℤ). Beginning.Is (record { has = s .args .has; time = z })) (laws.toZ-ofZ w64 _ (record { sfits = c .known-told .given .0 .1 })))
 
--- src/collect.rt:239:1
 returns-2 : tie.Need-returns-2
 unfolding sum
 returns-2 c =

@@ -1,49 +1,37 @@
+-- `node_place` meets its contract. Assumes nothing.
 use native.Mathlib.Omega.{arith}
-use lib.Dec.{eqb}
 use borrow.Author.Tests.{ne-eqb}
 use Rattle.content.specs.Steps.{placeOf}
 use borrow.Author.Needs.{needs}
 use Rattle.content.proofs.collect.node_place.Statement.{statement}
 use Rattle.content.proofs.collect.node_place.Tie as tie
-use Rattle.content.proofs.collect.node_place.Reads as reads
-use Rattle.content.proofs.collect.node_place.Lts as lts
-use Rattle.scan.proofs.get.Reads as get-reads
 
--- src/collect.rt:67:34
 mul-get : tie.Need-mul-get
 mul-get c = search needs
 
--- src/collect.rt:67:34
 add-get : tie.Need-add-get
 add-get c = search needs
 
--- src/collect.rt:67:9
 get-requires : tie.Need-get-requires
 get-requires c κs = search needs
 
--- src/collect.rt:68:14
 mul-if1 : tie.Need-mul-if1
 mul-if1 c = search needs
 
--- src/collect.rt:68:8
 mul-if1-2 : tie.Need-mul-if1-2
 mul-if1-2 c = search needs
 
--- src/collect.rt:68:8
 shared-slice-read-if1 : tie.Need-shared-slice-read-if1
 shared-slice-read-if1 c = search needs
 
--- src/collect.rt:69:9
 returns : tie.Need-returns
 unfolding placeOf
 returns c = rw (ne-eqb _ _ (c .if1 .taken)) (c .before .before .get .ensures)
 
--- src/collect.rt:72:9
 returns-2 : tie.Need-returns-2
 unfolding placeOf
 returns-2 c = rw (c .before .if1 .left) (omega (arith, c .before .before .before .get .ensures, c .if2 .taken))
 
--- src/collect.rt:63:1
 returns-3 : tie.Need-returns-3
 unfolding placeOf
 returns-3 c = rw (c .before .if1 .left, c .before .before .before .get .ensures)

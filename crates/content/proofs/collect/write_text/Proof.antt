@@ -1,42 +1,31 @@
+-- `write_text` meets its contract: by the mode. Assumes nothing.
 use Rattle.meaning.specs.Space.{textIn}
 use borrow.Author.Needs.{needs}
 use Rattle.content.proofs.collect.write_text.Statement.{statement}
 use Rattle.content.proofs.collect.write_text.Tie as tie
-use Rattle.content.proofs.collect.write_text.Reads as reads
-use Rattle.content.proofs.collect.write_text.Lts as lts
-use Rattle.inline.proofs.collapse_text.Reads as collapse-text-reads
-use Rattle.inline.proofs.copy_text.Reads as copy-text-reads
 
--- src/collect.rt:91:60
 enum-told : tie.Need-enum-told
 enum-told c = search needs
 
--- src/collect.rt:91:29
 collapse-text-requires : tie.Need-collapse-text-requires
 collapse-text-requires c κs = search needs
 
--- src/collect.rt:92:56
 enum-told-2 : tie.Need-enum-told-2
 enum-told-2 c = search needs
 
--- src/collect.rt:92:29
 copy-text-requires : tie.Need-copy-text-requires
 copy-text-requires c κs = search needs
 
--- src/collect.rt:78:1
 same-length : tie.Need-same-length
 same-length c = search needs
 
--- src/collect.rt:78:1
 returns : tie.Need-returns
 unfolding textIn
 returns c = λ before e. rw (c .before .before .before .before .enum-told .given .1) (c .before .before .collapse-text .ensures before e)
 
--- src/collect.rt:78:1
 same-length-2 : tie.Need-same-length-2
 same-length-2 c = search needs
 
--- src/collect.rt:78:1
 returns-2 : tie.Need-returns-2
 unfolding textIn
 returns-2 c = λ before e. rw (c .before .before .before .before .enum-told2 .given .1) (c .before .before .copy-text .ensures before e)

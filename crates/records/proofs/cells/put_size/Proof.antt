@@ -63,7 +63,8 @@ returns : tie.Need-returns
 unfolding sizeCells
 returns c =
     let c1 = c .before in
-    rw (c1 .if1 .taken) (⊎-elim (λ w. rw (w .1, w .0 .taken) (simp (add-one, add-two))) (λ w. rw (w .1, w .0 .left) (simp (add-one, add-two))) (c .if2 .came))
+    rw (c1 .if1 .taken) (⊎-elim (λ w. rw (w .1, w .0 .taken) (simp (add-one, add-two))) (λ w. rw (w .1, w .0 .left) (simp (add-one, add-two)))
+    (c .if2 .came))
 
 same-length-2 : tie.Need-same-length-2
 same-length-2 c = search needs

@@ -47,7 +47,8 @@ put-rows-requires-2 c κs =
     let c8 = c3 .before .before .before .before .before in
     let c12 = c8 .before .before .before .before in
     let c19 = c12 .before .before .before .before .before .before .before in
-    let e : length (c3 .put-rows .last .0) ≡ length (c8 .put-optional2 .last .0) = ap length (c3 .put-rows .ensures) ∙ simp (length-sets, length-set) in
+    let e : length (c3 .put-rows .last .0) ≡ length (c8 .put-optional2 .last .0) =
+    ap length (c3 .put-rows .ensures) ∙ simp (length-sets, length-set) in
     let f : length (c8 .put-optional2 .last .0) ≡ length (c12 .put-optional .last .0) = ap length (c8 .put-optional2 .ensures) ∙ simp length-sets in
     let g : length (c12 .put-optional .last .0) ≡ length (c19 .args .cues .now) = ap length (c12 .put-optional .ensures) ∙ simp length-sets in
     (omega (arith, e, f, g, c19 .pre .0), c19 .pre .4)
@@ -63,7 +64,8 @@ returns c =
     let c22 = c15 .before .before .before .before .before .before .before in
     let s = c22 .args in
     let x = s .x in
-    let a = first (s .cues .now) (s .at) (optionalCells (x .«has_style») (x .style)) (c15 .put-optional .ensures) (optional-wide (x .«has_style») (x .style)) in
+    let a = first (s .cues .now) (s .at) (optionalCells (x .«has_style») (x .style)) (c15 .put-optional .ensures)
+    (optional-wide (x .«has_style») (x .style)) in
     let b = then a (optionalCells (x .«has_region») (x .region)) (c11 .put-optional2 .ensures) (optional-wide (x .«has_region») (x .region)) in
     let d = then (then-cell b (c8 .flag-cell .ensures)) (rowsCells (x .segments)) (c6 .put-rows .ensures) refl in
     rw append-snoc at ((then d (rowsCells (x .extras)) (c2 .put-rows2 .ensures) refl) .is)

@@ -15,7 +15,11 @@ abbrev μ-loop : tie.MeasureT-loop
 μ-loop cells strings width n name i₀ i = n - i
 
 loop-holds : tie.Need-loop-holds Inv-loop μ-loop
-loop-holds c = (omega arith, rw sub-zero (firstRow-of (c .before .before .before .args .cells .now) (c .before .before .before .args .strings .now) (c .before .before .before .args .name .now) _ _ 0))
+loop-holds c = (
+  omega arith,
+  rw sub-zero (firstRow-of (c .before .before .before .args .cells .now) (c .before .before .before .args .strings .now)
+      (c .before .before .before .args .name .now) _ _ 0),
+)
 
 mul-is-named : tie.Need-mul-is-named Inv-loop μ-loop
 mul-is-named c = omega (arith, row-within _ _ _ _ (c .loop-test .taken) (c .before .before .before .before .before .pre .rows))
@@ -28,7 +32,8 @@ is-named-requires c κs =
 
 returns : tie.Need-returns Inv-loop μ-loop
 returns c =
-    sym (c .before .before .before .loop .inv .1 ∙ first-hit _ _ _ (c .before .before .loop-test .taken) (sym (c .before .is-named .ensures) ∙ c .if1 .taken))
+    sym (c .before .before .before .loop .inv .1 ∙ first-hit _ _ _ (c .before .before .loop-test .taken)
+    (sym (c .before .is-named .ensures) ∙ c .if1 .taken))
 
 add-i : tie.Need-add-i Inv-loop μ-loop
 add-i c = omega arith
@@ -37,8 +42,11 @@ loop-less : tie.Need-loop-less Inv-loop μ-loop
 loop-less c = omega arith
 
 loop-again : tie.Need-loop-again Inv-loop μ-loop
-loop-again c =
-    (omega arith, c .before .before .before .loop .inv .1 ∙ first-miss _ _ _ (c .before .before .loop-test .taken) (sym (c .before .is-named .ensures) ∙ c .if1 .left))
+loop-again c = (
+  omega arith,
+  c .before .before .before .loop .inv .1
+      ∙ first-miss _ _ _ (c .before .before .loop-test .taken) (sym (c .before .is-named .ensures) ∙ c .if1 .left),
+)
 
 returns-2 : tie.Need-returns-2 Inv-loop μ-loop
 returns-2 c = sym (c .before .loop .inv .1 ∙ first-out _ _ _ (c .loop-test .left))

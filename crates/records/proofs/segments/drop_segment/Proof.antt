@@ -70,8 +70,7 @@ returns c =
     let c13 = c9 .before .before .before .before in
     let c17 = c13 .before .before .before .before in
     let s = c17 .args in
-    let p = c17 .pre in
-    (
+    let p = c17 .pre in (
       dropped 0 (s .segments .now) _ _ (s .at * 8) (s .end * 8) 8 (omega (arith, p .0)) (p .1) (c13 .pull-cells .ensures) (c9 .put-kind .ensures),
       (
         dropped (pos 0) (s .reveal .now) _ _ (s .at) (s .end) 1 (omega (arith, p .0)) (p .2) (c5 .pull-times .ensures) refl,

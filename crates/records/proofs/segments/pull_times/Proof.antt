@@ -40,7 +40,8 @@ loop-less : tie.Need-loop-less Inv-loop μ-loop
 loop-less c = omega arith
 
 loop-again : tie.Need-loop-again Inv-loop μ-loop
-loop-again c = rw (same-time _ (c .cells .given)) (pulled-more (c .before .before .before .args .cells .now) _ _ _ _ _ _ (c .before .before .loop .inv) (omega arith))
+loop-again c = rw (same-time _ (c .cells .given)) (pulled-more (c .before .before .before .args .cells .now) _ _ _ _ _ _
+    (c .before .before .loop .inv) (omega arith))
 
 same-length : tie.Need-same-length Inv-loop μ-loop
 same-length c = omega arith

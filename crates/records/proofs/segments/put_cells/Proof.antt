@@ -20,7 +20,11 @@ add-put-span : tie.Need-add-put-span
 add-put-span c = search needs
 
 put-span-requires : tie.Need-put-span-requires
-put-span-requires c κs = (search needs, rw (c .before .before .before .before .before .before .s .given .1) at (c .before .before .before .before .before .before .before .before .before .pre .2))
+put-span-requires c κs = (
+  search needs,
+  rw (c .before .before .before .before .before .before .s .given .1) at
+      (c .before .before .before .before .before .before .before .before .before .pre .2),
+)
 
 enum-told : tie.Need-enum-told
 enum-told c = search needs
@@ -110,7 +114,11 @@ add-put-font : tie.Need-add-put-font
 add-put-font c = search needs
 
 put-font-requires : tie.Need-put-font-requires
-put-font-requires c κs = (search needs, rw (c .before .before .before .before .before .before .s4 .given .1) at (c .before .before .before .before .before .before .before .before .before .pre .2))
+put-font-requires c κs = (
+  search needs,
+  rw (c .before .before .before .before .before .before .s4 .given .1) at
+      (c .before .before .before .before .before .before .before .before .before .pre .2),
+)
 
 same-length : tie.Need-same-length
 same-length c = search needs

@@ -25,7 +25,8 @@ returns c =
     let a = c .before .before .before .before .before .before .before .before .before .before .before .args in
     let x = a .x in
     sets-on (optionalCells (x .«has_family») (x .family)) (sizeCells (x .«has_size») (x .size)) (a .segments .now) _ _ (a .at) _
-    (c .before .before .before .before .before .before .put-optional .ensures) (c .before .before .put-size .ensures) (omega (arith, optional-wide (x .«has_family») (x .family)))
+    (c .before .before .before .before .before .before .put-optional .ensures) (c .before .before .put-size .ensures)
+    (omega (arith, optional-wide (x .«has_family») (x .family)))
 
 pub put-font-spec : {M : Type 1} → statement M
 put-font-spec =

@@ -1,4 +1,5 @@
--- `put_kind` meets its contract. The loop's invariant: from cell 2 up to cell `i` there are zeros. The measure is what is left of the row. Assumes nothing.
+-- `put_kind` meets its contract. The loop's invariant: from cell 2 up to cell `i` there are zeros. The measure is what is left of the row.
+-- Assumes nothing.
 use Prim.Native.Nat.{_-_}
 use native.Mathlib.Omega.{arith}
 use native.Mathlib.Numerals.{add-one, add-two}

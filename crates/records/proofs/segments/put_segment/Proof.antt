@@ -42,8 +42,10 @@ same-length-3 c = search needs
 returns : tie.Need-returns
 returns c =
     let a = c .before .before .before .before .before .before .before .before .args in
-    rw (same-time (c .before .time-of .result) (c .before .time-of .ok))
-    (c .before .before .before .before .put-cells .ensures, (ap (set (a .reveal .now) (a .i)) (c .before .time-of .ensures), ap (set (a .sizes .now) (a .i)) (c .size-of .ensures)))
+    rw (same-time (c .before .time-of .result) (c .before .time-of .ok)) (
+      c .before .before .before .before .put-cells .ensures,
+      (ap (set (a .reveal .now) (a .i)) (c .before .time-of .ensures), ap (set (a .sizes .now) (a .i)) (c .size-of .ensures)),
+    )
 
 pub put-segment-spec : {M : Type 1} → statement M
 put-segment-spec =

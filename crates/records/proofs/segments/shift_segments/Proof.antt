@@ -37,7 +37,10 @@ returns : tie.Need-returns
 returns c =
     let a = c .before .before .before .before .before .before .before .before .before .before .before .before .before .args in
     let e : (a .at + a .by) * 8 ≡ a .at * 8 + a .by * 8 = omega arith in
-    rw e (c .before .before .before .before .before .before .before .before .before .shift-cells .ensures, (c .before .before .before .before .before .shift-times .ensures, c .before .before .shift-sizes .ensures))
+    rw e (
+      c .before .before .before .before .before .before .before .before .before .shift-cells .ensures,
+      (c .before .before .before .before .before .shift-times .ensures, c .before .before .shift-sizes .ensures),
+    )
 
 pub shift-segments-spec : {M : Type 1} → statement M
 shift-segments-spec =

@@ -49,4 +49,5 @@ returns c = moved-all (c .before .before .args .cells .now) _ _ _ _ _ (c .before
 
 pub shift-times-spec : {M : Type 1} → statement M
 shift-times-spec =
-    tie.close (tie.spec Inv-loop μ-loop loop-holds sub-i mul-cells slice-copy-out-cells add-t10 mul-t11 slice-set-from-cells loop-less loop-again same-length returns)
+    tie.close (tie.spec Inv-loop μ-loop loop-holds sub-i mul-cells slice-copy-out-cells add-t10 mul-t11 slice-set-from-cells loop-less loop-again
+    same-length returns)

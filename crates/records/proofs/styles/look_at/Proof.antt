@@ -189,7 +189,13 @@ shared-slice-read-t54 c = search needs
 -- src/styles.rt:50:1
 returns : tie.Need-returns
 unfolding lookAt
-returns c = rw (c .before .before .before .before .before .before .before .before .before .color-at .ensures, c .before .before .before .before .before .before .before .color-at2 .ensures, c .before .before .before .before .before .optional-at .ensures, c .before .before .before .before .before .before .before .before .before .before .before .align-at .ensures, c .before .before .before .before .before .before .before .before .before .before .before .before .before .size-at .ensures) (simp add-assoc)
+returns c = rw (
+  c .before .before .before .before .before .before .before .before .before .color-at .ensures,
+  c .before .before .before .before .before .before .before .color-at2 .ensures,
+  c .before .before .before .before .before .optional-at .ensures,
+  c .before .before .before .before .before .before .before .before .before .before .before .align-at .ensures,
+  c .before .before .before .before .before .before .before .before .before .before .before .before .before .size-at .ensures,
+) (simp add-assoc)
 
 pub look-at-spec : {M : Type 1} → statement M
 look-at-spec =

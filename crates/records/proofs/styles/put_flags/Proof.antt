@@ -98,8 +98,10 @@ returns : tie.Need-returns
 unfolding flagCells
 returns c =
     let s = c .before .before .before .before .before .before .args in
-    let a = first (s .styles .now) (s .at) (flag (s .x .bold) ∷ []) (ap (λ z. set (s .styles .now) (s .at) z) (c .before .before .before .before .flag-cell .ensures)) refl in
-    (then-cell (then-cell (then-cell (then-cell a (c .before .before .before .flag-cell2 .ensures)) (c .before .before .flag-cell3 .ensures)) (c .before .flag-cell4 .ensures)) (c .align-cell .ensures)) .is
+    let a = first (s .styles .now) (s .at) (flag (s .x .bold) ∷ [])
+    (ap (λ z. set (s .styles .now) (s .at) z) (c .before .before .before .before .flag-cell .ensures)) refl in
+    (then-cell (then-cell (then-cell (then-cell a (c .before .before .before .flag-cell2 .ensures)) (c .before .before .flag-cell3 .ensures))
+    (c .before .flag-cell4 .ensures)) (c .align-cell .ensures)) .is
 
 pub put-flags-spec : {M : Type 1} → statement M
 put-flags-spec =

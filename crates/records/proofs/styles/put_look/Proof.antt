@@ -56,12 +56,20 @@ same-length c = search needs
 returns : tie.Need-returns
 unfolding lookCells flagCells
 returns c =
-    let s = c .before .before .before .before .before .before .before .before .before .before .before .before .before .before .before .before .before .before .before .before .before .before .before .before .before .args in
+    let s = c .before .before .before .before .before .before .before .before .before .before .before .before .before .before .before .before .before
+    .before .before .before .before .before .before .before .before .args in
     let x = s .x in
-    let a = first (s .styles .now) (s .at) (colorCells (x .«has_color») (x .color)) (c .before .before .before .before .before .before .before .before .before .before .before .before .before .before .before .before .before .before .put-color .ensures) (color-wide (x .«has_color») (x .color)) in
-    let b = then a (colorCells (x .«has_back») (x .back)) (c .before .before .before .before .before .before .before .before .before .before .before .before .before .before .put-color2 .ensures) (color-wide (x .«has_back») (x .back)) in
-    let d = then b (optionalCells (x .«has_family») (x .family)) (c .before .before .before .before .before .before .before .before .before .before .put-optional .ensures) (optional-wide (x .«has_family») (x .family)) in
-    let e = then d (sizeCells (x .«has_size») (x .size)) (c .before .before .before .before .before .before .put-size .ensures) (size-wide (x .«has_size») (x .size)) in
+    let a = first (s .styles .now) (s .at) (colorCells (x .«has_color») (x .color))
+    (c .before .before .before .before .before .before .before .before .before .before .before .before .before .before .before .before .before .before
+    .put-color .ensures) (color-wide (x .«has_color») (x .color)) in
+    let b = then a (colorCells (x .«has_back») (x .back))
+    (c .before .before .before .before .before .before .before .before .before .before .before .before .before .before .put-color2 .ensures)
+    (color-wide (x .«has_back») (x .back)) in
+    let d = then b (optionalCells (x .«has_family») (x .family))
+    (c .before .before .before .before .before .before .before .before .before .before .put-optional .ensures)
+    (optional-wide (x .«has_family») (x .family)) in
+    let e = then d (sizeCells (x .«has_size») (x .size)) (c .before .before .before .before .before .before .put-size .ensures)
+    (size-wide (x .«has_size») (x .size)) in
     let w : length (flagCells x) ≡ 5 = refl in
     (then e (flagCells x) (c .before .before .put-flags .ensures) w) .is
 

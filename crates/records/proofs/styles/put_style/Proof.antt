@@ -46,10 +46,13 @@ same-length c = search needs
 returns : tie.Need-returns
 unfolding styleCells
 returns c =
-    let s = c .before .before .before .before .before .before .before .before .before .before .before .before .before .before .before .before .before .before .before .before .before .args in
+    let s = c .before .before .before .before .before .before .before .before .before .before .before .before .before .before .before .before .before
+    .before .before .before .before .args in
     let x = s .x in
-    let a = first (s .styles .now) (s .at) (spanCells (x .name)) (c .before .before .before .before .before .before .before .before .before .before .before .before .before .before .put-span .ensures) refl in
-    let b = then a (spanCells (x .chain)) (c .before .before .before .before .before .before .before .before .before .before .put-span2 .ensures) refl in
+    let a = first (s .styles .now) (s .at) (spanCells (x .name))
+    (c .before .before .before .before .before .before .before .before .before .before .before .before .before .before .put-span .ensures) refl in
+    let b = then a (spanCells (x .chain)) (c .before .before .before .before .before .before .before .before .before .before .put-span2 .ensures) refl
+    in
     let d = then b (lookCells (x .look)) (c .before .before .before .before .before .before .put-look .ensures) (look-wide (x .look)) in
     (then d (rowsCells (x .extras)) (c .before .before .put-rows .ensures) refl) .is
 

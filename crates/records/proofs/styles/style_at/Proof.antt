@@ -59,7 +59,8 @@ unfolding cell styleAt
 returns c =
     let s = c .before .before .before .before .before .before .before .args in
     let v = within-any nan zeroFloat (s .sizes .now) (16384 + s .i) (omega arith) in
-    rw (c .before .before .span-at .ensures, c .before .span-at2 .ensures, c .before .before .before .look-at .ensures, v, c .rows-at .ensures) (simp (add-assoc, add-zero))
+    rw (c .before .before .span-at .ensures, c .before .span-at2 .ensures, c .before .before .before .look-at .ensures, v, c .rows-at .ensures)
+    (simp (add-assoc, add-zero))
 
 pub style-at-spec : {M : Type 1} → statement M
 style-at-spec =

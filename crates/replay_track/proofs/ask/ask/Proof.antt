@@ -94,7 +94,14 @@ part-check-track-end-4 : tie.Need-part-check-track-end-4
 part-check-track-end-4 c = search needs
 
 slice-aggregate-check-track-2 : tie.Need-slice-aggregate-check-track-2
-slice-aggregate-check-track-2 c = sym (length-take-le _ _ (omega (arith, c .before .before .before .before .before .before .before .before .before .before .before .before .before .before .before .before .before .before .before .before .if2 .left, c .before .before .before .before .before .before .before .before .before .before .before .before .end6 .ensures .1)))
+slice-aggregate-check-track-2 c = sym (length-take-le _ _
+    (omega (
+      arith,
+      c .before .before .before .before .before .before .before .before .before .before .before .before .before .before .before .before
+          .before .before .before .before .if2 .left,
+      c .before .before .before .before .before .before .before .before .before .before .before .before
+          .end6 .ensures .1,
+    )))
 
 sub-check-track-5 : tie.Need-sub-check-track-5
 sub-check-track-5 c = search needs
@@ -103,7 +110,12 @@ part-check-track-start-5 : tie.Need-part-check-track-start-5
 part-check-track-start-5 c = search needs
 
 part-check-track-end-5 : tie.Need-part-check-track-end-5
-part-check-track-end-5 c = omega (arith, c .before .before .before .before .before .before .before .before .before .before .before .before .before .before .before .before .before .before .before .before .before .if1 .left, c .before .before .before .before .before .before .before .before .before .before .before .end7 .ensures .1)
+part-check-track-end-5 c = omega (
+  arith,
+  c .before .before .before .before .before .before .before .before .before .before .before .before .before
+      .before .before .before .before .before .before .before .before .if1 .left,
+  c .before .before .before .before .before .before .before .before .before .before .before .end7 .ensures .1,
+)
 
 sub-check-track-6 : tie.Need-sub-check-track-6
 sub-check-track-6 c = search needs
@@ -112,10 +124,21 @@ part-check-track-start-6 : tie.Need-part-check-track-start-6
 part-check-track-start-6 c = search needs
 
 part-check-track-end-6 : tie.Need-part-check-track-end-6
-part-check-track-end-6 c = omega (arith, c .before .before .before .before .before .before .before .before .before .before .before .before .before .before .before .before .before .before .before .before .before .if2 .left, c .before .before .before .before .before .before .before .before .before .before .before .end8 .ensures .1)
+part-check-track-end-6 c = omega (
+  arith,
+  c .before .before .before .before .before .before .before .before .before .before .before .before .before
+      .before .before .before .before .before .before .before .before .if2 .left,
+  c .before .before .before .before .before .before .before .before .before .before .before .end8 .ensures .1,
+)
 
 slice-aggregate-check-track-3 : tie.Need-slice-aggregate-check-track-3
-slice-aggregate-check-track-3 c = sym (length-take-le _ _ (omega (arith, c .before .before .before .before .before .before .before .before .before .before .before .before .before .before .before .before .before .before .before .before .before .before .if3 .left, c .before .before .before .before .before .before .before .before .before .before .before .before .end9 .ensures .1)))
+slice-aggregate-check-track-3 c = sym (length-take-le _ _
+    (omega (
+      arith,
+      c .before .before .before .before .before .before .before .before .before .before .before .before .before .before .before .before
+          .before .before .before .before .before .before .if3 .left,
+      c .before .before .before .before .before .before .before .before .before .before .before .before .end9 .ensures .1,
+    )))
 
 sub-check-track-7 : tie.Need-sub-check-track-7
 sub-check-track-7 c = search needs
@@ -124,10 +147,21 @@ part-check-track-start-7 : tie.Need-part-check-track-start-7
 part-check-track-start-7 c = search needs
 
 part-check-track-end-7 : tie.Need-part-check-track-end-7
-part-check-track-end-7 c = omega (arith, c .before .before .before .before .before .before .before .before .before .before .before .before .before .before .before .before .before .before .before .before .before .before .before .before .if1 .left, c .before .before .before .before .before .before .before .before .before .before .before .end10 .ensures .1)
+part-check-track-end-7 c = omega (
+  arith,
+  c .before .before .before .before .before .before .before .before .before .before .before .before .before
+      .before .before .before .before .before .before .before .before .before .before .before .if1 .left,
+  c .before .before .before .before .before .before .before .before .before .before .before .end10 .ensures .1,
+)
 
 slice-aggregate-check-track-4 : tie.Need-slice-aggregate-check-track-4
-slice-aggregate-check-track-4 c = sym (length-take-le _ _ (omega (arith, c .before .before .before .before .before .before .before .before .before .before .before .before .before .before .before .before .before .before .before .before .before .before .before .if4 .left, c .before .before .before .before .before .before .before .before .before .before .before .before .end11 .ensures .1)))
+slice-aggregate-check-track-4 c = sym (length-take-le _ _
+    (omega (
+      arith,
+      c .before .before .before .before .before .before .before .before .before .before .before .before .before .before .before .before
+          .before .before .before .before .before .before .before .if4 .left,
+      c .before .before .before .before .before .before .before .before .before .before .before .before .end11 .ensures .1,
+    )))
 
 sub-check-track-8 : tie.Need-sub-check-track-8
 sub-check-track-8 c = search needs

@@ -17,7 +17,9 @@ is-utf8-requires-2 c κs = search needs
 
 returns-2 : tie.Need-returns-2
 unfolding bytesMean
-returns-2 c = rw (holds (c .before .before .before .is-utf8 .ensures) (c .before .before .if1 .left), fails (c .before .is-utf82 .ensures) (c .if2 .taken))
+returns-2 c =
+    let c3 = c .before .before .before in
+    rw (holds (c3 .is-utf8 .ensures) (c .before .before .if1 .left), fails (c .before .is-utf82 .ensures) (c .if2 .taken))
 
 get-requires : tie.Need-get-requires
 get-requires c κs = search needs

@@ -33,14 +33,28 @@ returns-3 c =
 returns-4 : tie.Need-returns-4
 unfolding restFull
 returns-4 c =
-    let a = c .before .before .before .before .args in
-    rw (le-leb 4096 (a .times) (omega arith), le-leb 16384 (a .reveal) (omega arith), le-leb 16640 (a .sizes) (omega arith), lt-leb 65536 (a .strings) (omega arith))
+    let c4 = c .before .before .before .before in
+    let a = c4 .args in
+    rw (
+      le-leb 4096 (a .times) (omega arith),
+      le-leb 16384 (a .reveal) (omega arith),
+      le-leb 16640 (a .sizes) (omega arith),
+      lt-leb 65536
+          (a .strings) (omega arith),
+    )
 
 returns-5 : tie.Need-returns-5
 unfolding restFull
 returns-5 c =
-    let a = c .before .before .before .before .args in
-    rw (le-leb 4096 (a .times) (omega arith), le-leb 16384 (a .reveal) (omega arith), le-leb 16640 (a .sizes) (omega arith), le-leb 65536 (a .strings) (omega arith))
+    let c4 = c .before .before .before .before in
+    let a = c4 .args in
+    rw (
+      le-leb 4096 (a .times) (omega arith),
+      le-leb 16384 (a .reveal) (omega arith),
+      le-leb 16640 (a .sizes) (omega arith),
+      le-leb 65536
+          (a .strings) (omega arith),
+    )
 
 pub rest-full-spec : {M : Type 1} → statement M
 rest-full-spec =

@@ -36,8 +36,15 @@ mul-if4 c = search needs
 returns-4 : tie.Need-returns-4
 unfolding rowsFull
 returns-4 c =
-    let a = c .before .before .before .before .args in
-    rw (le-leb 10 (a .head) (omega arith), le-leb 256 (a .params) (omega arith), le-leb 6912 (a .styles) (omega arith), lt-leb 1024 (a .regions) (omega arith))
+    let c4 = c .before .before .before .before in
+    let a = c4 .args in
+    rw (
+      le-leb 10 (a .head) (omega arith),
+      le-leb 256 (a .params) (omega arith),
+      le-leb 6912 (a .styles) (omega arith),
+      lt-leb 1024 (a .regions)
+          (omega arith),
+    )
 
 mul-if5 : tie.Need-mul-if5
 mul-if5 c = search needs

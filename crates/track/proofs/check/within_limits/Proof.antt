@@ -40,8 +40,15 @@ get-requires-4 c κs = search needs
 returns-4 : tie.Need-returns-4
 unfolding withinLimits
 returns-4 c =
-    let t = c .before .before .before .before .before .before .before .before .before .args .head .now in
-    rw (le-leb (getD t 0 0) 64 (omega arith), le-leb (getD t 1 0) 256 (omega arith), le-leb (getD t 2 0) 256 (omega arith), lt-leb (getD t 3 0) 2048 (omega arith))
+    let c9 = c .before .before .before .before .before .before .before .before .before in
+    let t = c9 .args .head .now in
+    rw (
+      le-leb (getD t 0 0) 64 (omega arith),
+      le-leb (getD t 1 0) 256 (omega arith),
+      le-leb (getD t 2 0) 256 (omega arith),
+      lt-leb
+          (getD t 3 0) 2048 (omega arith),
+    )
 
 get-requires-5 : tie.Need-get-requires-5
 get-requires-5 c κs = search needs

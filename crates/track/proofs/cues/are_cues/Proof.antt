@@ -1,4 +1,5 @@
--- `are_cues` meets its contract. The loop's invariant: all are cues as those from row i on are, their segments from row `from` on. The measure is how many are left.
+-- `are_cues` meets its contract. The loop's invariant: all are cues as those from row i on are, their segments from row `from` on. The measure
+-- is how many are left.
 use Prim.Native.Nat.{_-_, _≤_}
 use mathlib.Core.Path.{_≡_, sym, _∙_}
 use native.Mathlib.Nat.{sub-zero}
@@ -26,7 +27,9 @@ is-cue-requires : tie.Need-is-cue-requires Inv-loop μ-loop
 is-cue-requires c κs = (omega arith, omega arith, omega arith, omega arith, omega arith)
 
 returns : tie.Need-returns Inv-loop μ-loop
-returns c = sym (c .before .before .before .loop .inv .2 ∙ cues-stop _ _ _ _ _ _ _ _ _ _ (c .before .before .loop-test .taken) (fails (c .before .is-cue .ensures) (c .if1 .taken)))
+returns c =
+    let c3 = c .before .before .before in
+    sym (c3 .loop .inv .2 ∙ cues-stop _ _ _ _ _ _ _ _ _ _ (c .before .before .loop-test .taken) (fails (c .before .is-cue .ensures) (c .if1 .taken)))
 
 mul-get : tie.Need-mul-get Inv-loop μ-loop
 mul-get c = omega arith
@@ -51,8 +54,12 @@ loop-again : tie.Need-loop-again Inv-loop μ-loop
 unfolding cell
 loop-again c =
     let d = c .before .before .before in
-    let h = holds (c .before .before .is-cue .ensures) (c .before .if1 .left) in
-    (omega arith, omega (arith, c .get .ensures, cue-within _ _ _ _ _ _ _ _ _ h), rw (c .get .ensures) (d .before .loop .inv .2 ∙ cues-next _ _ _ _ _ _ _ _ _ _ (d .loop-test .taken) h))
+    let h = holds (c .before .before .is-cue .ensures) (c .before .if1 .left) in (
+      omega arith,
+      omega (arith, c .get .ensures, cue-within _ _ _ _ _ _ _ _ _ h),
+      rw (c .get .ensures) (d .before .loop .inv .2
+          ∙ cues-next _ _ _ _ _ _ _ _ _ _ (d .loop-test .taken) h),
+    )
 
 returns-2 : tie.Need-returns-2 Inv-loop μ-loop
 returns-2 c = sym (c .before .loop .inv .2 ∙ cues-done _ _ _ _ _ _ _ _ _ _ (c .loop-test .left))

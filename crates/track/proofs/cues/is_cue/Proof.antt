@@ -51,7 +51,8 @@ unfolding cell
 returns-4 c =
     let d = c .before .before .before in
     (rw (c .before .before .get2 .ensures) at (c .are-segments .ensures))
-    ∙ sym (cue-is _ _ _ _ _ _ _ _ _ (holds (d .before .before .before .cue-values .ensures) (d .before .before .if1 .left)) (sym (d .before .get .ensures) ∙ d .if2 .left) (omega (arith, c .before .before .get2 .ensures)))
+    ∙ sym (cue-is _ _ _ _ _ _ _ _ _ (holds (d .before .before .before .cue-values .ensures) (d .before .before .if1 .left))
+    (sym (d .before .get .ensures) ∙ d .if2 .left) (omega (arith, c .before .before .get2 .ensures)))
 
 pub is-cue-spec : {M : Type 1} → statement M
 is-cue-spec =

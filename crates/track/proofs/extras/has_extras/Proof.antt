@@ -9,7 +9,8 @@ use Rattle.track.proofs.extras.has_extras.Statement.{statement}
 use Rattle.track.proofs.extras.has_extras.Tie as tie
 
 abbrev Inv-loop : tie.InvT-loop
-Inv-loop extras strings most first n least₀ i₀ end least i = (i ≤ end) × (hasExtras extras strings most first n ≡ areExtras extras strings most least (end - i) i)
+Inv-loop extras strings most first n least₀ i₀ end least i = (i ≤ end)
+    × (hasExtras extras strings most first n ≡ areExtras extras strings most least (end - i) i)
 
 abbrev μ-loop : tie.MeasureT-loop
 μ-loop extras strings most first n least₀ i₀ end least i = end - i
@@ -33,7 +34,9 @@ is-extra-requires : tie.Need-is-extra-requires Inv-loop μ-loop
 is-extra-requires c κs = omega arith
 
 returns-3 : tie.Need-returns-3 Inv-loop μ-loop
-returns-3 c = sym (c .before .before .before .loop .inv .1 ∙ extras-stop _ _ _ _ (c .before .before .loop-test .taken) (fails (c .before .is-extra .ensures) (c .if3 .taken)))
+returns-3 c =
+    let c3 = c .before .before .before in
+    sym (c3 .loop .inv .1 ∙ extras-stop _ _ _ _ (c .before .before .loop-test .taken) (fails (c .before .is-extra .ensures) (c .if3 .taken)))
 
 mul-get : tie.Need-mul-get Inv-loop μ-loop
 mul-get c = omega arith
@@ -42,7 +45,10 @@ get-requires : tie.Need-get-requires Inv-loop μ-loop
 get-requires c κs = omega arith
 
 add-least : tie.Need-add-least Inv-loop μ-loop
-add-least c = omega (arith, c .before .before .before .before .before .before .before .before .shared-slice-known .given (c .before .before .before .before .loop .i * 3))
+add-least c =
+    let c4 = c .before .before .before .before in
+    let c8 = c4 .before .before .before .before in
+    omega (arith, c8 .shared-slice-known .given (c4 .loop .i * 3))
 
 add-i : tie.Need-add-i Inv-loop μ-loop
 add-i c = omega arith
@@ -52,8 +58,10 @@ loop-less c = omega arith
 
 loop-again : tie.Need-loop-again Inv-loop μ-loop
 loop-again c =
-    let next = extras-next _ _ _ _ (c .before .before .before .loop-test .taken) (holds (c .before .before .is-extra .ensures) (c .before .if3 .left)) in
-    (omega arith, c .before .before .before .before .loop .inv .1 ∙ rw (c .get .ensures) next)
+    let c3 = c .before .before .before in
+    let c4 = c3 .before in
+    let next = extras-next _ _ _ _ (c3 .loop-test .taken) (holds (c .before .before .is-extra .ensures) (c .before .if3 .left)) in
+    (omega arith, c4 .loop .inv .1 ∙ rw (c .get .ensures) next)
 
 returns-4 : tie.Need-returns-4 Inv-loop μ-loop
 returns-4 c = sym (c .before .loop .inv .1 ∙ extras-done _ _ _ _ (c .loop-test .left))

@@ -65,7 +65,10 @@ returns-2 c =
     )
 
 add-end : tie.Need-add-end
-add-end c = omega (arith, span-within _ _ _ (holds (c .before .before .before .before .before .is-span .ensures) (c .before .before .before .before .if1 .left)))
+add-end c =
+    let c4 = c .before .before .before .before in
+    let c5 = c4 .before in
+    omega (arith, span-within _ _ _ (holds (c5 .is-span .ensures) (c4 .if1 .left)))
 
 sub-over : tie.Need-sub-over
 sub-over c = search needs
@@ -74,7 +77,10 @@ part-over-start : tie.Need-part-over-start
 part-over-start c = search needs
 
 part-over-end : tie.Need-part-over-end
-part-over-end c = omega (arith, span-within _ _ _ (holds (c .before .before .before .before .before .is-span .ensures) (c .before .before .before .before .if1 .left)))
+part-over-end c =
+    let c4 = c .before .before .before .before in
+    let c5 = c4 .before in
+    omega (arith, span-within _ _ _ (holds (c5 .is-span .ensures) (c4 .if1 .left)))
 
 over-requires : tie.Need-over-requires
 over-requires c κs = search needs
@@ -93,7 +99,8 @@ returns-3 c =
       ← (two .before .before .get4 .ensures),
       holds (two .before .is-span2 .ensures) (two .if2 .left),
     )
-    (every-is _ (one .before .before .before .before .before .before .args .strings .now) (one .before .before .before .get .result) (one .before .before .get2 .result) _
+    (every-is _ (one .before .before .before .before .before .before .args .strings .now) (one .before .before .before .get .result)
+    (one .before .before .get2 .result) _
     (holds (one .before .is-span .ensures) (one .if1 .left)) (c .over .ensures))
 
 pub is-param-spec : {M : Type 1} → statement M

@@ -43,38 +43,47 @@ are-segments-Inv-loop segments sizes strings texts from n room end i₀ i =
 abbrev are-segments-μ-loop : are-segments-lts.MeasureT-loop
 are-segments-μ-loop segments sizes strings texts from n room end i₀ i = end - i
 
-are-segments-returns : (t : ℕ) → are-segments-lts.Need-returns (claims t) (are-segments-at t) are-segments.Post are-segments-Inv-loop are-segments-μ-loop
+are-segments-returns : (t : ℕ) → are-segments-lts.Need-returns (claims t)
+    (are-segments-at t) are-segments.Post are-segments-Inv-loop are-segments-μ-loop
 are-segments-returns t c = sym (are-shallow _ _ _ _ _ _ _ (c .if1 .taken))
 
-are-segments-add-end : (t : ℕ) → are-segments-lts.Need-add-end (claims t) (are-segments-at t) are-segments.Post are-segments-Inv-loop are-segments-μ-loop
+are-segments-add-end : (t : ℕ) → are-segments-lts.Need-add-end (claims t)
+    (are-segments-at t) are-segments.Post are-segments-Inv-loop are-segments-μ-loop
 are-segments-add-end t c = search needs
 
-are-segments-loop-holds : (t : ℕ) → are-segments-lts.Need-loop-holds (claims t) (are-segments-at t) are-segments.Post are-segments-Inv-loop are-segments-μ-loop
+are-segments-loop-holds : (t : ℕ) → are-segments-lts.Need-loop-holds (claims t)
+    (are-segments-at t) are-segments.Post are-segments-Inv-loop are-segments-μ-loop
 are-segments-loop-holds t c =
     let a = c .before .before .before .before .before .args in
     let e : a .from + a .n - a .from ≡ a .n = omega arith in
     (omega arith, omega arith, rw e)
 
-are-segments-is-segment-requires : (t : ℕ) → are-segments-lts.Need-is-segment-requires (claims t) (are-segments-at t) are-segments.Post are-segments-Inv-loop are-segments-μ-loop
+are-segments-is-segment-requires : (t : ℕ) → are-segments-lts.Need-is-segment-requires (claims t)
+    (are-segments-at t) are-segments.Post are-segments-Inv-loop are-segments-μ-loop
 are-segments-is-segment-requires t c κs = search needs
 
-are-segments-returns-2 : (t : ℕ) → are-segments-lts.Need-returns-2 (claims t) (are-segments-at t) are-segments.Post are-segments-Inv-loop are-segments-μ-loop
+are-segments-returns-2 : (t : ℕ) → are-segments-lts.Need-returns-2 (claims t)
+    (are-segments-at t) are-segments.Post are-segments-Inv-loop are-segments-μ-loop
 are-segments-returns-2 t c =
     let a = c .before .before .before .before .before .before .before .before .before .args in
     let l = c .before .before .before .loop in
     let n = a .from + a .n - l .i in
     sym (l .inv .2 ∙ are-unfit _ _ _ _ (a .room) n (l .i) _ (omega arith) (omega arith) refl (fails (c .before .is-segment .ensures) (c .if2 .taken)))
 
-are-segments-mul-get : (t : ℕ) → are-segments-lts.Need-mul-get (claims t) (are-segments-at t) are-segments.Post are-segments-Inv-loop are-segments-μ-loop
+are-segments-mul-get : (t : ℕ) → are-segments-lts.Need-mul-get (claims t)
+    (are-segments-at t) are-segments.Post are-segments-Inv-loop are-segments-μ-loop
 are-segments-mul-get t c = search needs
 
-are-segments-add-get : (t : ℕ) → are-segments-lts.Need-add-get (claims t) (are-segments-at t) are-segments.Post are-segments-Inv-loop are-segments-μ-loop
+are-segments-add-get : (t : ℕ) → are-segments-lts.Need-add-get (claims t)
+    (are-segments-at t) are-segments.Post are-segments-Inv-loop are-segments-μ-loop
 are-segments-add-get t c = search needs
 
-are-segments-get-requires : (t : ℕ) → are-segments-lts.Need-get-requires (claims t) (are-segments-at t) are-segments.Post are-segments-Inv-loop are-segments-μ-loop
+are-segments-get-requires : (t : ℕ) → are-segments-lts.Need-get-requires (claims t)
+    (are-segments-at t) are-segments.Post are-segments-Inv-loop are-segments-μ-loop
 are-segments-get-requires t c κs = search needs
 
-are-segments-returns-3 : (t : ℕ) → are-segments-lts.Need-returns-3 (claims t) (are-segments-at t) are-segments.Post are-segments-Inv-loop are-segments-μ-loop
+are-segments-returns-3 : (t : ℕ) → are-segments-lts.Need-returns-3 (claims t)
+    (are-segments-at t) are-segments.Post are-segments-Inv-loop are-segments-μ-loop
 unfolding cell
 are-segments-returns-3 t c =
     let a = c .before .before .before .before .before .before .before .before .before .before .before .args in
@@ -84,10 +93,12 @@ are-segments-returns-3 t c =
     let s = holds (c .before .before .before .is-segment .ensures) (c .before .before .if2 .left) in
     sym (l .inv .2 ∙ are-empty _ _ _ _ (a .room) n (l .i) (g .result) (omega arith) (omega arith) (g .ensures) s (c .if3 .taken))
 
-are-segments-sub-if4 : (t : ℕ) → are-segments-lts.Need-sub-if4 (claims t) (are-segments-at t) are-segments.Post are-segments-Inv-loop are-segments-μ-loop
+are-segments-sub-if4 : (t : ℕ) → are-segments-lts.Need-sub-if4 (claims t)
+    (are-segments-at t) are-segments.Post are-segments-Inv-loop are-segments-μ-loop
 are-segments-sub-if4 t c = search needs
 
-are-segments-returns-4 : (t : ℕ) → are-segments-lts.Need-returns-4 (claims t) (are-segments-at t) are-segments.Post are-segments-Inv-loop are-segments-μ-loop
+are-segments-returns-4 : (t : ℕ) → are-segments-lts.Need-returns-4 (claims t)
+    (are-segments-at t) are-segments.Post are-segments-Inv-loop are-segments-μ-loop
 unfolding cell
 are-segments-returns-4 t c =
     let a = c .before .before .before .before .before .before .before .before .before .before .before .before .args in
@@ -97,19 +108,24 @@ are-segments-returns-4 t c =
     let s = holds (c .before .before .before .before .is-segment .ensures) (c .before .before .before .if2 .left) in
     sym (l .inv .2 ∙ are-long _ _ _ _ (a .room) n (l .i) (g .result) (omega arith) (omega arith) (g .ensures) s (omega arith) (c .if4 .taken))
 
-are-segments-add-are-segments : (t : ℕ) → are-segments-lts.Need-add-are-segments (claims t) (are-segments-at t) are-segments.Post are-segments-Inv-loop are-segments-μ-loop
+are-segments-add-are-segments : (t : ℕ) → are-segments-lts.Need-add-are-segments (claims t)
+    (are-segments-at t) are-segments.Post are-segments-Inv-loop are-segments-μ-loop
 are-segments-add-are-segments t c = search needs
 
-are-segments-sub-are-segments : (t : ℕ) → are-segments-lts.Need-sub-are-segments (claims t) (are-segments-at t) are-segments.Post are-segments-Inv-loop are-segments-μ-loop
+are-segments-sub-are-segments : (t : ℕ) → are-segments-lts.Need-sub-are-segments (claims t)
+    (are-segments-at t) are-segments.Post are-segments-Inv-loop are-segments-μ-loop
 are-segments-sub-are-segments t c = search needs
 
-are-segments-sub-are-segments-2 : (t : ℕ) → are-segments-lts.Need-sub-are-segments-2 (claims t) (are-segments-at t) are-segments.Post are-segments-Inv-loop are-segments-μ-loop
+are-segments-sub-are-segments-2 : (t : ℕ) → are-segments-lts.Need-sub-are-segments-2 (claims t)
+    (are-segments-at t) are-segments.Post are-segments-Inv-loop are-segments-μ-loop
 are-segments-sub-are-segments-2 t c = search needs
 
-are-segments-are-segments-requires : (t : ℕ) → are-segments-lts.Need-are-segments-requires (claims t) (are-segments-at t) are-segments.Post are-segments-Inv-loop are-segments-μ-loop
+are-segments-are-segments-requires : (t : ℕ) → are-segments-lts.Need-are-segments-requires (claims t)
+    (are-segments-at t) are-segments.Post are-segments-Inv-loop are-segments-μ-loop
 are-segments-are-segments-requires t c κs = omega arith
 
-are-segments-returns-5 : (t : ℕ) → are-segments-lts.Need-returns-5 (claims t) (are-segments-at t) are-segments.Post are-segments-Inv-loop are-segments-μ-loop
+are-segments-returns-5 : (t : ℕ) → are-segments-lts.Need-returns-5 (claims t)
+    (are-segments-at t) are-segments.Post are-segments-Inv-loop are-segments-μ-loop
 unfolding cell
 are-segments-returns-5 t c =
     let a = c .before .before .before .before .before .before .before .before .before .before .before .before .before .before .args in
@@ -123,10 +139,12 @@ are-segments-returns-5 t c =
 are-segments-add-i : (t : ℕ) → are-segments-lts.Need-add-i (claims t) (are-segments-at t) are-segments.Post are-segments-Inv-loop are-segments-μ-loop
 are-segments-add-i t c = search needs
 
-are-segments-loop-less : (t : ℕ) → are-segments-lts.Need-loop-less (claims t) (are-segments-at t) are-segments.Post are-segments-Inv-loop are-segments-μ-loop
+are-segments-loop-less : (t : ℕ) → are-segments-lts.Need-loop-less (claims t)
+    (are-segments-at t) are-segments.Post are-segments-Inv-loop are-segments-μ-loop
 are-segments-loop-less t c = search needs
 
-are-segments-loop-again : (t : ℕ) → are-segments-lts.Need-loop-again (claims t) (are-segments-at t) are-segments.Post are-segments-Inv-loop are-segments-μ-loop
+are-segments-loop-again : (t : ℕ) → are-segments-lts.Need-loop-again (claims t)
+    (are-segments-at t) are-segments.Post are-segments-Inv-loop are-segments-μ-loop
 unfolding cell
 are-segments-loop-again t c =
     let a = c .before .before .before .before .before .before .before .before .before .before .before .before .before .before .args in
@@ -139,7 +157,8 @@ are-segments-loop-again t c =
     let k = are-on _ _ _ _ (a .room) n (l .i) (g .result) (omega arith) (omega arith) (g .ensures) s (omega arith) (omega arith) w in
     (omega arith, omega arith, rw e (l .inv .2 ∙ k))
 
-are-segments-returns-6 : (t : ℕ) → are-segments-lts.Need-returns-6 (claims t) (are-segments-at t) are-segments.Post are-segments-Inv-loop are-segments-μ-loop
+are-segments-returns-6 : (t : ℕ) → are-segments-lts.Need-returns-6 (claims t)
+    (are-segments-at t) are-segments.Post are-segments-Inv-loop are-segments-μ-loop
 are-segments-returns-6 t c =
     let a = c .before .before .before .before .before .before .before .args in
     let l = c .before .loop in

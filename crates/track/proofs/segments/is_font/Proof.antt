@@ -36,7 +36,12 @@ returns : tie.Need-returns
 unfolding cell isFont
 returns c = λ y.
     let o = c .before in
-    rw (← (o .before .before .before .get .ensures), ← (o .before .before .get2 .ensures), ← (o .before .get3 .ensures), fails (o .is-optional .ensures) (c .if1 .taken))
+    rw (
+      ← (o .before .before .before .get .ensures),
+      ← (o .before .before .get2 .ensures),
+      ← (o .before .get3 .ensures),
+      fails (o .is-optional .ensures) (c .if1 .taken),
+    )
 
 add-is-size-at : tie.Need-add-is-size-at
 add-is-size-at c = search needs
@@ -80,7 +85,12 @@ returns-2 c = λ y.
     let n = c .before .before .before .before .before in
     let o = n .before in
     let a = o .before .before .before .before .before .before .before .args in
-    rw (← (o .before .before .before .get .ensures), ← (o .before .before .get2 .ensures), ← (o .before .get3 .ensures), holds (o .is-optional .ensures) (n .if1 .left))
+    rw (
+      ← (o .before .before .before .get .ensures),
+      ← (o .before .before .get2 .ensures),
+      ← (o .before .get3 .ensures),
+      holds (o .is-optional .ensures) (n .if1 .left),
+    )
     (rw (← size-cell (a .sizes .now) (a .i) (omega arith)) (c .is-size-at .ensures))
 
 pub is-font-spec : {M : Type 1} → statement M

@@ -76,7 +76,9 @@ returns-3 : tie.Need-returns-3
 returns-3 c = c .are-three .ensures ∙ sym (is-color _ _ _ _ _ (c .before .match .keys2))
 
 returns-4 : tie.Need-returns-4
-returns-4 c = c .is-font .ensures (c .before .before .before .before .before .before .before .args .texts .now) ∙ sym (is-font _ _ _ _ _ (c .before .match .keys3))
+returns-4 c =
+    let c7 = c .before .before .before .before .before .before .before in
+    c .is-font .ensures (c7 .args .texts .now) ∙ sym (is-font _ _ _ _ _ (c .before .match .keys3))
 
 returns-5 : tie.Need-returns-5
 unfolding cell

@@ -2,7 +2,8 @@
 use mathlib.Core.Path.{sym, _∙_}
 use native.Mathlib.Omega.{arith}
 use Rattle.track.specs.Tables.{cell}
-use Rattle.track.proofs.SegmentLaws.{at-text, at-break, at-timestamp, at-bold, at-italic, at-underline, at-strike, at-color, at-rest, color-bytes}
+use Rattle.track.proofs.SegmentLaws.{at-text, at-break, at-timestamp, at-bold, at-italic, at-underline, at-strike, at-color, at-rest}
+use Rattle.track.proofs.SegmentLaws.{color-bytes}
 use borrow.Author.Needs.{needs}
 use Rattle.track.proofs.segments.segment_at.Statement.{statement}
 use Rattle.track.proofs.segments.segment_at.Tie as tie
@@ -110,9 +111,11 @@ returns-8 c = sym (at-color _ _ _ _ (c .before .before .before .match .keys8))
 
 returns-9 : tie.Need-returns-9
 returns-9 c =
+    let c5 = c .before .before .before .before .before in
     let n = c .before .match .rest in
-    rw (c .font-at .ensures (c .before .before .before .before .before .args .reveal .now))
-    (sym (at-rest _ _ _ _ (n .0 .0 .0 .0 .0 .0 .0 .1) (n .0 .0 .0 .0 .0 .0 .1) (n .0 .0 .0 .0 .0 .1) (n .0 .0 .0 .0 .1) (n .0 .0 .0 .1) (n .0 .0 .1) (n .0 .1) (n .1)))
+    rw (c .font-at .ensures (c5 .args .reveal .now))
+    (sym (at-rest _ _ _ _ (n .0 .0 .0 .0 .0 .0 .0 .1) (n .0 .0 .0 .0 .0 .0 .1) (n .0 .0 .0 .0 .0 .1) (n .0 .0 .0 .0 .1) (n .0 .0 .0 .1)
+    (n .0 .0 .1) (n .0 .1) (n .1)))
 
 pub segment-at-spec : {M : Type 1} → statement M
 segment-at-spec =

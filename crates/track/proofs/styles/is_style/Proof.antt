@@ -35,7 +35,8 @@ unfolding isStyle
 returns-2 c =
     let one = c .before .before .before in
     rw (
-      size-read (one .before .before .before .before .before .before .args .sizes .now) (16384 + one .before .before .before .before .before .before .args .i) (omega arith),
+      size-read (one .before .before .before .before .before .before .args .sizes .now)
+          (16384 + one .before .before .before .before .before .before .args .i) (omega arith),
       holds (one .before .style-strings .ensures) (one .if1 .left),
       fails (c .before .style-values .ensures) (c .if2 .taken),
     )
@@ -49,7 +50,8 @@ returns-3 c =
     let two = c .before .before in
     let one = two .before .before .before in
     rw (
-      size-read (one .before .before .before .before .before .before .args .sizes .now) (16384 + one .before .before .before .before .before .before .args .i) (omega arith),
+      size-read (one .before .before .before .before .before .before .args .sizes .now)
+          (16384 + one .before .before .before .before .before .before .args .i) (omega arith),
       holds (one .before .style-strings .ensures) (one .if1 .left),
       holds (two .before .style-values .ensures) (two .if2 .left),
       fails (c .before .style-flags .ensures) (c .if3 .taken),
@@ -77,7 +79,8 @@ returns-4 c =
     let two = three .before .before in
     let one = two .before .before .before in
     rw (
-      size-read (one .before .before .before .before .before .before .args .sizes .now) (16384 + one .before .before .before .before .before .before .args .i) (omega arith),
+      size-read (one .before .before .before .before .before .before .args .sizes .now)
+          (16384 + one .before .before .before .before .before .before .args .i) (omega arith),
       holds (one .before .style-strings .ensures) (one .if1 .left),
       holds (two .before .style-values .ensures) (two .if2 .left),
       holds (three .before .style-flags .ensures) (three .if3 .left),

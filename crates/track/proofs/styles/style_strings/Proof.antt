@@ -19,7 +19,9 @@ is-span-requires c κs = search needs
 
 returns : tie.Need-returns
 unfolding styleStrings
-returns c = rw (← (c .before .before .before .get .ensures), ← (c .before .before .get2 .ensures), fails (c .before .is-span .ensures) (c .if1 .taken))
+returns c =
+    let c3 = c .before .before .before in
+    rw (← (c3 .get .ensures), ← (c .before .before .get2 .ensures), fails (c .before .is-span .ensures) (c .if1 .taken))
 
 add-get-2 : tie.Need-add-get-2
 add-get-2 c = search needs

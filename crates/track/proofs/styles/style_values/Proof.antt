@@ -23,7 +23,9 @@ is-color-requires-2 c κs = search needs
 
 returns-2 : tie.Need-returns-2
 unfolding styleValues
-returns-2 c = rw (holds (c .before .before .before .is-color .ensures) (c .before .before .if1 .left), fails (c .before .is-color2 .ensures) (c .if2 .taken))
+returns-2 c =
+    let c3 = c .before .before .before in
+    rw (holds (c3 .is-color .ensures) (c .before .before .if1 .left), fails (c .before .is-color2 .ensures) (c .if2 .taken))
 
 add-is-size-at : tie.Need-add-is-size-at
 add-is-size-at c = search needs
