@@ -205,7 +205,8 @@ pub extern "C" fn probe_resolve_referenced_style(
     out: &mut [u64],
     size: &mut [f32],
 ) -> u32
-    ensures { λ r. ⌜ TellsQueryIf (ReferencedStyle (now (value .entry)) (record { head = now (head .entry); params = now (params .entry); styles = now (styles .entry);
+    ensures { λ r. ⌜ TellsQueryIf (ReferencedStyle (now (value .entry)) (record { head = now (head .entry); params = now (params .entry);
+        styles = now (styles .entry);
         regions = now (regions .entry); cues = now (cues .entry); times = now (times .entry); segments = now (segments .entry);
         reveal = now (reveal .entry); sizes = now (sizes .entry); extras = now (extras .entry); strings = now (strings .entry);
         texts = now (texts .entry) }) (now (ids .entry)))
@@ -243,7 +244,8 @@ pub extern "C" fn probe_region_style(
     out: &mut [u64],
     size: &mut [f32],
 ) -> u32
-    ensures { λ r. ⌜ TellsQueryIf (RegionStyle (now (id .entry)) (record { head = now (head .entry); params = now (params .entry); styles = now (styles .entry);
+    ensures { λ r. ⌜ TellsQueryIf (RegionStyle (now (id .entry)) (record { head = now (head .entry); params = now (params .entry);
+        styles = now (styles .entry);
         regions = now (regions .entry); cues = now (cues .entry); times = now (times .entry); segments = now (segments .entry);
         reveal = now (reveal .entry); sizes = now (sizes .entry); extras = now (extras .entry); strings = now (strings .entry);
         texts = now (texts .entry) }) (now (ids .entry)))
