@@ -1,30 +1,47 @@
 -- What the readers of cues ask and ensure. This file need not be believed: `parse` promises what is left in the end.
 use Prim.Native.Nat.{ℕ, _+_, _-_, _*_, _≤_, _<_}
 use mathlib.Core.Path.{_≡_}
-use mathlib.Core.Bool.{Bool, false, _&&_}
-use mathlib.Core.List.{List, _++_}
-use mathlib.Core.Option.{Option}
+use mathlib.Core.Bool.{Bool, false, cond, _&&_}
+use mathlib.Core.List.{List, [], _++_}
+use mathlib.Core.Option.{Option, none, some}
 use lib.IntN.{ℤ, pos}
+use lib.Ieee.{Float}
 use lib.ListN.{length, replicate}
+use Rattle.scan.specs.Part.{stringAt}
 use Rattle.times.specs.declared.offset.TimingCtx.{TimingCtx}
 use Rattle.track.specs.declared.strings.Span.{Span}
-use Rattle.track.specs.Track.{Wrapper, Segments, noSegments, segmentRows, isBareFont}
+use Rattle.tree.specs.Trees.{Forest, size, attrsOf, spans, InOrder}
+use Rattle.tree.specs.Trees as placed
+use Rattle.track.specs.Track.{Wrapper, Segments, Cue, noSegments, segmentRows, isBareFont}
 use Rattle.track.specs.Track as track
-use Rattle.track.specs.Tables.{zeroFloat}
-use Rattle.track.specs.Layout.{preorder, isSome, spanOr}
+use Rattle.track.specs.Tables.{Lengths, zeroFloat}
+use Rattle.track.specs.Layout.{preorder, isSome, spanOr, PlacedCue, filled, filledTimes, filledSizes, joinedCells, cueCells, cueTimes, allSegments}
+use Rattle.track.specs.Layout as placing
 use Rattle.records.specs.declared.cells.Added.{Added}
-use Rattle.records.specs.Siblings.{Three, Stands, cellsOf, later}
-use Rattle.xml.specs.Reading.{Placed}
+use Rattle.records.specs.Siblings.{Three, Stands, cellsOf, timesOf, floatsOf, later}
+use Rattle.xml.specs.Find.{Holds}
+use Rattle.xml.specs.Reading.{Placed, lay}
 use Rattle.meaning.specs.Answers.{Answer, is, _>>=_}
 use Rattle.meaning.specs.Words.{ascii}
-use Rattle.meaning.specs.Nodes.{Attr, valued}
-use Rattle.meaning.specs.Kinds.{withPlaces}
+use Rattle.meaning.specs.Nodes.{Attr, Nodes, firstElement, valued}
+use Rattle.meaning.specs.Kinds.{withPlaces, attrsIn, nodesIn}
+use Rattle.meaning.specs.Space.{spaceOf}
 use Rattle.meaning.specs.Tracks.{optionBy}
-use Rattle.meaning.specs.Timing.{timeOf, sum, orZero, endOf, lastingTo}
+use Rattle.meaning.specs.Timing.{timeOf, sum, orZero, endOf, lastingTo, isSeq}
 use Rattle.meaning.specs.Styling.{wrappersOf}
 use Rattle.meaning.specs.Inline.{paragraphOf, counted}
-use Rattle.styling.specs.Posts.{given, turned}
-use Rattle.inline.specs.Stood.{spanIn, spansIn, textsIn}
+use Rattle.meaning.specs.Cues.{a-div, a-p, unknown, madeIn, timedOf, pOf, divOf, cuesIn}
+use Rattle.meaning.specs.Cues as meaning
+use Rattle.meaning.specs.Meaning.{bodyOf}
+use Rattle.laid.specs.Laid.{laidCues, cueExtras, cueTexts}
+use Rattle.styling.specs.declared.space.WsMode.{WsMode}
+use Rattle.styling.specs.Posts.{given, turned, spaceIn}
+use Rattle.extras.specs.Counts.{attrsNamed}
+use Rattle.inline.specs.Stood.{spanIn, spansIn, textsIn, InTurn}
+use Rattle.inline.specs.Wraps.{three}
+use Rattle.content.specs.Steps.{Roomy}
+use Rattle.cues.specs.declared.lines.Line.{Line}
+use Rattle.cues.specs.declared.lines.Lining.{Lining}
 use Rattle.cues.specs.declared.paragraph.Styled.{Styled}
 use Rattle.cues.specs.declared.paragraph.Part.{Part}
 use Rattle.cues.specs.declared.sums.Moment.{Moment}
@@ -58,7 +75,10 @@ abbrev pub timedSaid : Timed → Answer Interval
 timedSaid (Timed.Is x) = is x
 timedSaid (Timed.Refused r) = turned r
 
--- `divOf` up to its start, and from its children's end on
+-- a container's own begin; `divOf` up to its start, and from its children's end on
+abbrev pub beginFrom : TimingCtx → (place : ℕ) → List (Attr Placed) → Answer ℤ
+beginFrom ctx place l = timeOf withPlaces ctx place (ascii "begin") l >>= λ begin. is (orZero begin)
+
 abbrev pub startFrom : TimingCtx → (place : ℕ) → ℤ → List (Attr Placed) → Answer ℤ
 startFrom ctx place reference l = timeOf withPlaces ctx place (ascii "begin") l >>= λ begin. sum place reference (orZero begin)
 
@@ -80,6 +100,15 @@ begunFrom ctx place reference begin l = timeOf withPlaces ctx place (ascii "end"
 
 abbrev pub intervalOf : TimingCtx → (place : ℕ) → (reference : ℤ) → List (Attr Placed) → Answer Interval
 intervalOf ctx place reference l = timeOf withPlaces ctx place (ascii "begin") l >>= λ begin. begunFrom ctx place reference begin l
+
+-- the times of `cueIn`: from its end on; all
+abbrev pub singleFrom : TimingCtx → (place : ℕ) → (start : ℤ) (end : Option ℤ) → List (Attr Placed) → Answer Interval
+singleFrom ctx place start (some z) l = is (record { start = start; end = z })
+singleFrom ctx place start none l = endFrom ctx place start start l >>= λ stop. is (record { start = start; end = stop })
+
+abbrev pub singleOf : TimingCtx → (place : ℕ) → List (Attr Placed) → Answer Interval
+singleOf ctx place l =
+    beginFrom ctx place l >>= λ start. timeOf withPlaces ctx place (ascii "end") l >>= λ end. singleFrom ctx place start end l
 
 -- ---- what a p's attributes put around its rows
 
@@ -147,3 +176,200 @@ pub record PartIs (z name : List ℕ) (l : List (Attr Placed)) (r : Part) : Type
   pub has : r .has ≡ isSome (valued withPlaces name l)
   pub span : r .span ≡ spanOr (optionBy spanIn (valued withPlaces name l))
   pub within : r .span .place + r .span .len ≤ length z
+
+-- ---- the tables that cues stand in
+
+pub record CueTables : Type 0 where
+  pub cues : List ℕ
+  pub times : List ℤ
+  pub segments : Three
+  pub extras : List ℕ
+  pub texts : List ℕ
+
+abbrev pub seven : (cues : List ℕ) (times : List ℤ) (segments : List ℕ) (reveal : List ℤ) (sizes : List Float) (extras texts : List ℕ) → CueTables
+seven c m g v f e y = record { cues = c; times = m; segments = three g v f; extras = e; texts = y }
+
+-- they are long enough, and the strings are no longer than a text
+pub record Spacious (z : List ℕ) (T : CueTables) : Type 0 where
+  pub roomy : Roomy z (T .segments) (T .texts)
+  pub cues : 22528 ≤ length (T .cues)
+  pub times : 4096 ≤ length (T .times)
+  pub extras : 24576 ≤ length (T .extras)
+
+-- What they are before the first cue: so long each; the sizes of styles; the extras of styles and regions, so many.
+pub record Base : Type 0 where
+  pub lengths : Lengths
+  pub sizes : List Float
+  pub extras : List ℕ
+  pub rows : ℕ
+
+-- the rows of cues
+abbrev pub rowsOf : Base → List (Cue Placed) → List PlacedCue
+rowsOf b l = laidCues (b .rows) 0 l
+
+-- the cues l stand in the tables, with their texts up to hi, and nothing else does; `line` counts them
+pub record Lined (b : Base) (hi : ℕ) (l : List (Cue Placed)) (line : Line) (T : CueTables) : Type 0 where
+  pub many : line .cues ≡ length l
+  pub made : line .rows ≡ madeIn l
+  pub kept : line .extras ≡ b .rows + cueExtras l
+  pub few-cues : length l ≤ 2048
+  pub few-rows : madeIn l ≤ 16384
+  pub in-cues : T .cues ≡ filled (b .lengths .cues) (joinedCells (λ x. cueCells (x .cue)) (rowsOf b l))
+  pub in-times : T .times ≡ filledTimes (b .lengths .times) (cueTimes (rowsOf b l))
+  pub in-cells : T .segments .cells ≡ filled (b .lengths .segments) (cellsOf (allSegments (rowsOf b l)))
+  pub in-reveal : T .segments .times ≡ filledTimes (b .lengths .reveal) (timesOf (allSegments (rowsOf b l)))
+  pub in-sizes : T .segments .floats ≡ filledSizes 16384 (floatsOf (allSegments (rowsOf b l))) ++ b .sizes
+  pub in-extras : T .extras ≡ placing.cueExtras (b .extras) (rowsOf b l)
+  pub in-texts : T .texts ≡ lay (replicate (b .lengths .texts) 0) (cueTexts l)
+  pub order : InTurn 0 (cueTexts l) hi
+  pub room : hi ≤ b .lengths .texts
+
+-- ---- timed elements
+
+-- The element in row k with all that stands in it, after the cues `earlier`. Its strings end at `limit` or before.
+pub record Child (b : Base) (limit : ℕ) (t u z : List ℕ) (k : ℕ) (line : Line) (T : CueTables) : Type 0 where
+  pub own : ℕ
+  pub place : ℕ
+  pub len : ℕ
+  pub attrs : List placed.Attr
+  pub content : Forest
+  pub holds : Holds t u z k own (placed.elem place len attrs content placed.nil)
+  pub hi : ℕ
+  pub placed : InOrder hi (spans (placed.elem place len attrs content placed.nil)) limit
+  pub earlier : List (Cue Placed)
+  pub standing : Lined b hi earlier line T
+  pub room : line .extras + (length attrs + length (attrsOf content)) ≤ 8192
+
+-- Siblings in rows `from` up to `end`.
+pub record Children (b : Base) (limit : ℕ) (t u z : List ℕ) (from end : ℕ) (line : Line) (T : CueTables) : Type 0 where
+  pub own : ℕ
+  pub forest : Forest
+  pub holds : Holds t u z from own forest
+  pub rows : from + size forest ≡ end
+  pub hi : ℕ
+  pub placed : InOrder hi (spans forest) limit
+  pub earlier : List (Cue Placed)
+  pub standing : Lined b hi earlier line T
+  pub room : line .extras + length (attrsOf forest) ≤ 8192
+
+pub record AsksChild (t u z : List ℕ) (k : ℕ) (line : Line) (T : CueTables) : Type 0 where
+  pub spacious : Spacious z T
+  pub base : Base
+  pub limit : ℕ
+  pub child : Child base limit t u z k line T
+
+pub record AsksCues (t u z : List ℕ) (from end : ℕ) (line : Line) (T : CueTables) : Type 0 where
+  pub spacious : Spacious z T
+  pub base : Base
+  pub limit : ℕ
+  pub children : Children base limit t u z from end line T
+
+-- m is what elements of `many` attributes mean, whose strings end at `limit` or before
+module _ (b : Base) (limit : ℕ) (line : Line) (many : ℕ) (T′ : CueTables) (m : Answer (meaning.Line Placed)) where
+  -- all cues up to and with theirs stand in the tables
+  pub record Came (r : Line) : Type 0 where
+    pub cues : List (Cue Placed)
+    pub means : m ≡ is (record { cues = cues; end = r .end })
+    pub hi : ℕ
+    pub below : hi ≤ limit
+    pub standing : Lined b hi cues r T′
+    pub few : r .extras ≤ line .extras + many
+
+  abbrev pub Outcome : Lining → Type 0
+  Outcome (Lining.Is r) = Came r
+  Outcome (Lining.Refused q) = m ≡ turned q
+
+-- what the element in row k means, m by its place, name, attributes and content
+abbrev pub ChildPost : ((cues : List (Cue Placed)) (at : ℕ) (name : Placed) → List (Attr Placed) → Nodes Placed → Answer (meaning.Line Placed))
+    → (t u z : List ℕ) (k : ℕ) (line : Line) (T T′ : CueTables) → Lining → Type 0
+ChildPost m t u z k line T T′ r =
+    (b : Base) (limit : ℕ) (x : Child b limit t u z k line T)
+    → Outcome b limit line (length (x .attrs) + length (attrsOf (x .content))) T′
+    (m (x .earlier) (x .place) (record { place = x .place + 1; bytes = stringAt z (x .place + 1) (x .len) }) (attrsIn z (x .attrs))
+        (nodesIn z (x .content))) r
+
+abbrev pub ParagraphPost : (t u z : List ℕ) (k : ℕ) (reference : ℤ) → TimingCtx → WsMode → (line : Line) (T T′ : CueTables) → Lining → Type 0
+ParagraphPost t u z k reference ctx ws line T T′ r =
+    ChildPost (λ cues at name l c. pOf withPlaces ctx reference (spaceIn ws) cues at l c) t u z k line T T′ r
+
+-- the children of a container of which `begin` is known
+abbrev pub within : TimingCtx → WsMode → (begin : ℤ) → List (Cue Placed) → List (Attr Placed) → Nodes Placed → Answer (meaning.Line Placed)
+within ctx ws begin cues l c = cuesIn withPlaces ctx (isSeq withPlaces l) (spaceOf withPlaces (spaceIn ws) l) begin begin begin cues c
+
+abbrev pub ContainerPost : (t u z : List ℕ) (k : ℕ) (begin : ℤ) → TimingCtx → WsMode → (line : Line) (T T′ : CueTables) → Lining → Type 0
+ContainerPost t u z k begin ctx ws line T T′ r = ChildPost (λ cues at name l c. within ctx ws begin cues l c) t u z k line T T′ r
+
+abbrev pub divIn : TimingCtx → WsMode → (reference : ℤ) → List (Cue Placed) → ℕ → List (Attr Placed) → Nodes Placed → Answer (meaning.Line Placed)
+divIn ctx ws reference cues at l c = divOf withPlaces ctx reference at l (λ start. within ctx ws start cues l c)
+
+abbrev pub DivPost : (t u z : List ℕ) (k : ℕ) (reference : ℤ) → TimingCtx → WsMode → (line : Line) (T T′ : CueTables) → Lining → Type 0
+DivPost t u z k reference ctx ws line T T′ r = ChildPost (λ cues at name l c. divIn ctx ws reference cues at l c) t u z k line T T′ r
+
+-- with its children's line known
+abbrev pub Closes : TimingCtx → (place : ℕ) → (start : ℤ) → (inner : Line) → List (Attr Placed) → Lining → Type 0
+Closes ctx place start inner l (Lining.Is r) =
+    (endFrom ctx place start (inner .end) l ≡ is (r .end)) × (r .cues ≡ inner .cues) × (r .rows ≡ inner .rows) × (r .extras ≡ inner .extras)
+Closes ctx place start inner l (Lining.Refused q) = endFrom ctx place start (inner .end) l ≡ turned q
+
+-- an element of a container: `cuesIn` says this of each
+abbrev pub childIn : TimingCtx → (seq : Bool) → WsMode → (reference : ℤ) → List (Cue Placed) → ℕ → Placed → List (Attr Placed) → Nodes Placed
+    → Answer (meaning.Line Placed)
+childIn ctx seq ws reference cues at n l c = elim (timedOf withPlaces n) [
+  | a-div ↦ divIn ctx ws reference cues at l c
+  | a-p ↦ pOf withPlaces ctx reference (spaceIn ws) cues at l c
+  | unknown ↦ cuesIn withPlaces ctx seq (spaceOf withPlaces (spaceIn ws) l) reference reference reference cues c
+]
+
+abbrev pub ElementPost : (t u z : List ℕ) (k : ℕ) (seq : Bool) (reference : ℤ) → TimingCtx → WsMode → (line : Line) (T T′ : CueTables) → Lining
+    → Type 0
+ElementPost t u z k seq reference ctx ws line T T′ r = ChildPost (childIn ctx seq ws reference) t u z k line T T′ r
+
+-- what the next child counts from
+abbrev pub following : Bool → (begin end : ℤ) → ℤ
+following seq begin end = cond seq end begin
+
+abbrev pub CuesPost : (t u z : List ℕ) (from end : ℕ) (seq : Bool) (begin : ℤ) → TimingCtx → WsMode → (line : Line) (T T′ : CueTables) → Lining
+    → Type 0
+CuesPost t u z from end seq begin ctx ws line T T′ r =
+    (b : Base) (limit : ℕ) (x : Children b limit t u z from end line T)
+    → Outcome b limit line (length (attrsOf (x .forest))) T′
+    (cuesIn withPlaces ctx seq (spaceIn ws) begin begin begin (x .earlier) (nodesIn z (x .forest))) r
+
+-- ---- the body: its siblings stand in rows `from` up to `end`; no cue stands in the tables
+
+abbrev pub noLine : ℕ → Line
+noLine rows = record { cues = 0; rows = 0; extras = rows; end = pos 0 }
+
+pub record Bodies (b : Base) (limit : ℕ) (t u z : List ℕ) (from end rows : ℕ) (T : CueTables) : Type 0 where
+  pub own : ℕ
+  pub forest : Forest
+  pub holds : Holds t u z from own forest
+  pub size : from + size forest ≡ end
+  pub placed : InOrder 0 (spans forest) limit
+  pub within : limit ≤ b .lengths .texts
+  pub standing : Lined b 0 [] (noLine rows) T
+  pub room : rows + attrsNamed z (ascii "body") forest ≤ 8192
+
+pub record AsksBody (t u z : List ℕ) (from end rows : ℕ) (T : CueTables) : Type 0 where
+  pub spacious : Spacious z T
+  pub base : Base
+  pub limit : ℕ
+  pub bodies : Bodies base limit t u z from end rows T
+
+-- m is what the body means
+module _ (b : Base) (limit : ℕ) (T′ : CueTables) (m : Answer (List (Cue Placed))) where
+  pub record Bodied (r : Line) : Type 0 where
+    pub cues : List (Cue Placed)
+    pub means : m ≡ is cues
+    pub hi : ℕ
+    pub below : hi ≤ limit
+    pub standing : Lined b hi cues r T′
+
+  abbrev pub BodyOutcome : Lining → Type 0
+  BodyOutcome (Lining.Is r) = Bodied r
+  BodyOutcome (Lining.Refused q) = m ≡ turned q
+
+abbrev pub BodyPost : (t u z : List ℕ) (from end : ℕ) → TimingCtx → WsMode → (rows : ℕ) (T T′ : CueTables) → Lining → Type 0
+BodyPost t u z from end ctx ws rows T T′ r =
+    (b : Base) (limit : ℕ) (x : Bodies b limit t u z from end rows T)
+    → BodyOutcome b limit T′ (bodyOf withPlaces ctx (spaceIn ws) (firstElement withPlaces (ascii "body") (nodesIn z (x .forest)))) r

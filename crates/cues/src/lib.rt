@@ -1,16 +1,19 @@
 // Cues in their time containers.
+mod body;
+mod collect;
+mod cue;
+mod lines;
 mod paragraph;
 mod sums;
 
-pub use paragraph::Part;
-pub use paragraph::Styled;
+pub use body::collect_body;
+pub use collect::collect_cues;
+pub use cue::collect_paragraph;
+pub use lines::Line;
+pub use lines::Lining;
 pub use paragraph::is_preserve;
-pub use paragraph::put_paragraph;
-pub use paragraph::style_paragraph;
 pub use paragraph::value_of;
+pub use paragraph::Part;
 pub use sums::Interval;
-pub use sums::Moment;
 pub use sums::Timed;
-pub use sums::interval_of;
-pub use sums::lasting_to;
-pub use sums::start_of;
+pub use sums::single_interval;

@@ -3,8 +3,8 @@ ghost use mathlib.Core.Path.{_≡_};
 ghost use Rattle.meaning.specs.Kinds.{withPlaces};
 ghost use Rattle.meaning.specs.Timing.{timeOf, sum, endOf};
 ghost use Rattle.styling.specs.Posts.{HasRows, OfRows};
-ghost use Rattle.cues.specs.Steps.{momentSaid, timeGiven, Zeroed, AllZeroed, givingSaid, timedSaid, startFrom, endFrom};
-ghost use Rattle.cues.specs.Steps.{intervalFrom, endedFrom, begunFrom, intervalOf};
+ghost use Rattle.cues.specs.Steps.{momentSaid, timeGiven, Zeroed, AllZeroed, givingSaid, timedSaid, beginFrom, startFrom, endFrom};
+ghost use Rattle.cues.specs.Steps.{intervalFrom, endedFrom, begunFrom, intervalOf, singleFrom, singleOf};
 use styling::TimeSaid;
 use times::Sum;
 use times::TimingCtx;
@@ -56,6 +56,18 @@ fn time_given(
             time: 0,
         }),
         TimeSaid::Refused(r) => Giving::Refused(r),
+    }
+}
+
+// When an element begins by itself: its begin, or 0.
+pub fn begin_of(attrs: &[u32], strings: &[u8], e: xml::Element, ctx: TimingCtx) -> Moment
+    requires { ⌜ HasRows (now attrs) (now strings) (e .first) (e .many) ⌝ }
+    ensures { λ r. ⌜ OfRows (now (attrs .entry)) (now (strings .entry)) (e .first) (e .many) (λ l.
+        momentSaid r ≡ beginFrom ctx (e .place) l) ⌝ }
+{
+    match time_given(attrs, strings, e, b"begin", ctx) {
+        Giving::Refused(r) => Moment::Refused(r),
+        Giving::Is(b) => Moment::Is(b.time),
     }
 }
 
@@ -192,5 +204,45 @@ pub fn interval_of(
     match time_given(attrs, strings, e, b"begin", ctx) {
         Giving::Refused(r) => Timed::Refused(r),
         Giving::Is(begin) => begun(attrs, strings, e, ctx, reference, begin),
+    }
+}
+
+// With its begin and end known, or no end: of a single cue, whose end is absolute.
+fn single_ended(
+    attrs: &[u32],
+    strings: &[u8],
+    e: xml::Element,
+    ctx: TimingCtx,
+    start: i64,
+    end: Given,
+) -> Timed
+    requires { ⌜ HasRows (now attrs) (now strings) (e .first) (e .many) ⌝ }
+    ensures { λ r. ⌜ OfRows (now (attrs .entry)) (now (strings .entry)) (e .first) (e .many) (λ l.
+        timedSaid r ≡ singleFrom ctx (e .place) start (timeGiven end) l) ⌝ }
+{
+    if end.has {
+        return Timed::Is(Interval {
+            start,
+            end: end.time,
+        });
+    }
+    match lasting_to(attrs, strings, e, ctx, start, start) {
+        Moment::Refused(r) => Timed::Refused(r),
+        Moment::Is(end) => Timed::Is(Interval { start, end }),
+    }
+}
+
+// When a single cue begins and ends: its dur is evaluated only if its end is no time.
+pub fn single_interval(attrs: &[u32], strings: &[u8], e: xml::Element, ctx: TimingCtx) -> Timed
+    requires { ⌜ HasRows (now attrs) (now strings) (e .first) (e .many) ⌝ }
+    ensures { λ r. ⌜ OfRows (now (attrs .entry)) (now (strings .entry)) (e .first) (e .many) (λ l.
+        timedSaid r ≡ singleOf ctx (e .place) l) ⌝ }
+{
+    match begin_of(attrs, strings, e, ctx) {
+        Moment::Refused(r) => Timed::Refused(r),
+        Moment::Is(start) => match time_given(attrs, strings, e, b"end", ctx) {
+            Giving::Refused(r) => Timed::Refused(r),
+            Giving::Is(end) => single_ended(attrs, strings, e, ctx, start, end),
+        },
     }
 }

@@ -1,0 +1,206 @@
+// The head: its styles and regions, in order.
+use crate::styles::Made;
+use tree::Refusal;
+use xml::Found;
+
+// Rows of a table, and rows of extras up to and with theirs.
+pub struct Count {
+    pub rows: usize,
+    pub extras: usize,
+}
+
+pub enum Counting {
+    Is(Count),
+    Refused(Refusal),
+}
+
+// The styles among the siblings in the rows from `from` up to `end`.
+fn collect_styles(
+    nodes: &[u32],
+    attrs: &[u32],
+    strings: &[u8],
+    from: usize,
+    end: usize,
+    styles: &mut [u32],
+    sizes: &mut [f32],
+    extras: &mut [u32],
+) -> Counting
+{
+    let mut n = 0;
+    let mut at = 0;
+    let mut k = from;
+    while k < end {
+        if xml::is_element(nodes, strings, k, b"style") {
+            let e = xml::element_at(nodes, k);
+            match crate::styles::build_style(
+                attrs, strings, e.first, e.many, e.place, styles, sizes, n, extras, at,
+            ) {
+                Made::Row(m) => {
+                    n += 1;
+                    at += m;
+                }
+                Made::Skipped => {}
+                Made::Refused(r) => {
+                    return Counting::Refused(r);
+                }
+            }
+        }
+        k = scan::get(nodes, k * 6 + 1);
+    }
+    Counting::Is(Count {
+        rows: n,
+        extras: at,
+    })
+}
+
+// The regions among the siblings in the rows from `from` up to `end`, where `rows` extras stand.
+fn collect_regions(
+    nodes: &[u32],
+    attrs: &[u32],
+    strings: &[u8],
+    from: usize,
+    end: usize,
+    regions: &mut [u32],
+    extras: &mut [u32],
+    rows: usize,
+) -> Counting
+{
+    let mut n = 0;
+    let mut at = rows;
+    let mut k = from;
+    while k < end {
+        if xml::is_element(nodes, strings, k, b"region") {
+            let e = xml::element_at(nodes, k);
+            match crate::regions::build_region(
+                attrs, strings, e.first, e.many, e.place, regions, n, extras, at,
+            ) {
+                Made::Row(m) => {
+                    n += 1;
+                    at += m;
+                }
+                Made::Skipped => {}
+                Made::Refused(r) => {
+                    return Counting::Refused(r);
+                }
+            }
+        }
+        k = scan::get(nodes, k * 6 + 1);
+    }
+    Counting::Is(Count {
+        rows: n,
+        extras: at,
+    })
+}
+
+// The styles in the first styling among these siblings.
+fn find_styles(
+    nodes: &[u32],
+    attrs: &[u32],
+    strings: &[u8],
+    from: usize,
+    end: usize,
+    styles: &mut [u32],
+    sizes: &mut [f32],
+    extras: &mut [u32],
+) -> Counting
+{
+    match xml::find_element(nodes, strings, from, end, b"styling") {
+        Found::Nothing => Counting::Is(Count { rows: 0, extras: 0 }),
+        Found::Row(k) => {
+            let e = xml::element_at(nodes, k);
+            collect_styles(nodes, attrs, strings, k + 1, e.end, styles, sizes, extras)
+        }
+    }
+}
+
+// The regions in the first layout among these siblings.
+fn find_regions(
+    nodes: &[u32],
+    attrs: &[u32],
+    strings: &[u8],
+    from: usize,
+    end: usize,
+    regions: &mut [u32],
+    extras: &mut [u32],
+    rows: usize,
+) -> Counting
+{
+    match xml::find_element(nodes, strings, from, end, b"layout") {
+        Found::Nothing => Counting::Is(Count {
+            rows: 0,
+            extras: rows,
+        }),
+        Found::Row(k) => {
+            let e = xml::element_at(nodes, k);
+            collect_regions(nodes, attrs, strings, k + 1, e.end, regions, extras, rows)
+        }
+    }
+}
+
+// How many styles and regions there are, and rows of their extras.
+pub struct Heads {
+    pub styles: usize,
+    pub regions: usize,
+    pub extras: usize,
+}
+
+pub enum Heading {
+    Is(Heads),
+    Refused(Refusal),
+}
+
+// Those of the head's content in the rows from `from` up to `end`.
+fn collect_inside(
+    nodes: &[u32],
+    attrs: &[u32],
+    strings: &[u8],
+    from: usize,
+    end: usize,
+    styles: &mut [u32],
+    regions: &mut [u32],
+    sizes: &mut [f32],
+    extras: &mut [u32],
+) -> Heading
+{
+    match find_styles(nodes, attrs, strings, from, end, styles, sizes, extras) {
+        Counting::Refused(r) => Heading::Refused(r),
+        Counting::Is(s) => match find_regions(
+            nodes, attrs, strings, from, end, regions, extras, s.extras,
+        ) {
+            Counting::Refused(r) => Heading::Refused(r),
+            Counting::Is(t) => Heading::Is(Heads {
+                styles: s.rows,
+                regions: t.rows,
+                extras: t.extras,
+            }),
+        },
+    }
+}
+
+// The styles and regions of the first head among the siblings in the rows from `from` up to `end`.
+pub fn collect_head(
+    nodes: &[u32],
+    attrs: &[u32],
+    strings: &[u8],
+    from: usize,
+    end: usize,
+    styles: &mut [u32],
+    regions: &mut [u32],
+    sizes: &mut [f32],
+    extras: &mut [u32],
+) -> Heading
+{
+    match xml::find_element(nodes, strings, from, end, b"head") {
+        Found::Nothing => Heading::Is(Heads {
+            styles: 0,
+            regions: 0,
+            extras: 0,
+        }),
+        Found::Row(k) => {
+            let e = xml::element_at(nodes, k);
+            collect_inside(
+                nodes, attrs, strings, k + 1, e.end, styles, regions, sizes, extras,
+            )
+        }
+    }
+}
