@@ -1,3 +1,4 @@
 -- What the proofs of several functions use.
 pub mod Queries
 pub mod Trees
+pub mod Demands
