@@ -2,3 +2,4 @@
 pub mod Queries
 pub mod Trees
 pub mod Demands
+pub mod Marked

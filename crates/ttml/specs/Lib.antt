@@ -2,3 +2,4 @@ pub mod Told
 pub mod Trees
 pub mod Queries
 pub mod Demands
+pub mod Marked
