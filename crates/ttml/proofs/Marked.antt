@@ -2,6 +2,7 @@
 use mathlib.Core.Path.{_≡_, refl}
 use lib.Ieee.{ofInt, mul, div, le, toSigned, round}
 use Rattle.scan.specs.Loop.{go, loop}
+use Rattle.scan.specs.Names.{sameBytes}
 use Rattle.scan.specs.Marks.{startsAt}
 use Rattle.scan.specs.Bytes.{digitByte, runLength}
 use Rattle.unicode.specs.Utf8.{sequenceAt, charAt, scalar, encode}
@@ -19,7 +20,7 @@ use Rattle.times.specs.Written.{clockText}
 use Rattle.ttml.specs.Marked.{Holds, All, marked}
 
 pub marked-hold : All marked
-unfolding Holds decoded reference scalar encode decodeTree decodeForest decodeAttrs timeIn offsetTime trimmed whiteAt whiteBefore isWhite
+unfolding Holds decoded reference sameBytes scalar encode decodeTree decodeForest decodeAttrs timeIn offsetTime trimmed whiteAt whiteBefore isWhite
     sequenceAt charAt loop go digitByte runLength startsAt numeralOf decimalOf charsLength microsOf checked mul div le ofInt toSigned round
     clockText padded decimalWidth
 marked-hold =
