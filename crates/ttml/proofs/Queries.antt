@@ -5,7 +5,7 @@ use mathlib.Core.Bool.{Bool, true, false, _&&_, and-false, true≢false}
 use mathlib.Core.List.{List}
 use lib.ListN.{length, replicate}
 use lib.Dec.{leb}
-use borrow.Author.Tests.{le-leb, lt-leb, leb-le}
+use borrow.Author.Tests.{le-leb, lt-leb, leb-true}
 use lib.Ieee.{Float}
 use Rattle.tree.specs.declared.answers.Refusal.{Refusal}
 use Rattle.track.specs.declared.values.Look.{Look}
@@ -48,7 +48,7 @@ module _ {P : Resolved → List ℕ → Type 0} {lent left out out′ : List ℕ
 
 -- the room for an answer
 pub room-of : (a b : ℕ) → (leb 27 a && leb 1 b) ≡ true → (27 ≤ a) × (1 ≤ b)
-room-of a b e = (leb-le 27 a (and-left (leb 27 a) (leb 1 b) e), leb-le 1 b (and-right (leb 27 a) (leb 1 b) e))
+room-of a b e = (leb-true 27 a (and-left (leb 27 a) (leb 1 b) e), leb-true 1 b (and-right (leb 27 a) (leb 1 b) e))
   where
     and-left : (x y : Bool) → (x && y) ≡ true → x ≡ true
     and-left true y e = refl
