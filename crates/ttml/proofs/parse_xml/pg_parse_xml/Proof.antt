@@ -1,4 +1,5 @@
 use borrow.Author.Needs.{needs}
+use Rattle.ttml.proofs.Trees.{reads-short, reads-refused, reads-tree, tree-small}
 use Rattle.ttml.proofs.parse_xml.pg_parse_xml.Statement.{statement}
 use Rattle.ttml.proofs.parse_xml.pg_parse_xml.Tie as tie
 use Rattle.ttml.proofs.parse_xml.pg_parse_xml.Reads as reads
@@ -37,7 +38,13 @@ same-length-4 : tie.Need-same-length-4
 same-length-4 c = search needs
 
 returns : tie.Need-returns
-returns c = ?
+returns c =
+    let s = c .before .before .before in
+    let a = s .before .before .before .before in
+    let n = a .before .before .before .before in
+    let k = n .before .before in
+    reads-short (k .before .before .before .clear .ensures) (k .if1 .taken) (c .told .ensures)
+    (record { of-nodes = n .clear2 .ensures; of-attrs = a .clear3 .ensures; of-strings = s .clear-bytes .ensures })
 
 parse-xml-requires : tie.Need-parse-xml-requires
 parse-xml-requires c κs = search needs
@@ -52,7 +59,11 @@ enum-known-n : tie.Need-enum-known-n
 enum-known-n c = search needs
 
 put-counts-requires : tie.Need-put-counts-requires
-put-counts-requires c κs = ?
+put-counts-requires c κs =
+    let n = c .before .before in
+    let x = n .before .before .before .before .before .before .before .before in
+    let t = tree-small (x .parse-xml .ensures) (n .n .given .1) in
+    (x .before .before .before .before .if1 .left, t .0, t .1)
 
 told-requires-3 : tie.Need-told-requires-3
 told-requires-3 c κs = search needs
@@ -70,7 +81,11 @@ same-length-8 : tie.Need-same-length-8
 same-length-8 c = search needs
 
 returns-2 : tie.Need-returns-2
-returns-2 c = ?
+returns-2 c =
+    let q = c .before .before in
+    let x = q .before .before .before .before .before .before .before .before in
+    let k = x .before .before .before .before in
+    reads-refused (k .before .before .before .clear .ensures) _ (k .if1 .left) (q .r .given .1) (x .parse-xml .ensures) (c .told2 .ensures)
 
 same-length-9 : tie.Need-same-length-9
 same-length-9 c = search needs
@@ -85,7 +100,12 @@ same-length-12 : tie.Need-same-length-12
 same-length-12 c = search needs
 
 returns-3 : tie.Need-returns-3
-returns-3 c = ?
+returns-3 c =
+    let p = c .before .before .before in
+    let n = p .before .before .before in
+    let x = n .before .before .before .before .before .before .before .before in
+    let k = x .before .before .before .before in
+    reads-tree (k .before .before .before .clear .ensures) _ _ (k .if1 .left) (n .n .given .1) (x .parse-xml .ensures) (c .told3 .ensures) (p .put-counts .ensures)
 
 pub pg-parse-xml-spec : {M : Type 1} → statement M
 pg-parse-xml-spec =
