@@ -1,12 +1,16 @@
 -- What the functions on queries answer, by cases. Assumes nothing.
+--     tell-style, tell-none, tell-refused    the cells of each answer
+--     no-room, answers                       to a caller in C
+--     room-of                                cleared, there is as much room
 use Prim.Native.Nat.{ℕ, _≤_}
 use mathlib.Core.Path.{_≡_, refl, sym, _∙_}
-use mathlib.Core.Bool.{Bool, true, false, _&&_, and-false, true≢false}
+use mathlib.Core.Bool.{true, false, _&&_, and-false, true≢false}
 use mathlib.Core.List.{List}
-use lib.ListN.{length, replicate}
+use lib.ListN.{length, replicate, length-replicate}
 use lib.Dec.{leb}
 use borrow.Author.Tests.{le-leb, lt-leb, leb-true}
 use lib.Ieee.{Float}
+use Rattle.scan.proofs.Every.{both}
 use Rattle.tree.specs.declared.answers.Refusal.{Refusal}
 use Rattle.track.specs.declared.values.Look.{Look}
 use Rattle.track.specs.Tables.{span, zeroFloat}
@@ -38,21 +42,19 @@ module _ {P : Resolved → List ℕ → Type 0} {lent left out out′ : List ℕ
     no-float = λ g. n;
   }
 
-  pub answers : (x : Resolved) (number : ℕ) → (leb 27 (length out) && leb 1 (length size)) ≡ true → P x left → r ≡ told number 0
-      → ToldAs x (replicate (length out) 0) out′ (replicate (length size) zeroFloat) size′ number → AnswersInC P lent left out out′ size size′ r
-  answers x number h p e t = record {
-    room = λ g f. record { answer = x; promised = p; number = number; is = e; stands = t };
+  pub answers : (x : Resolved) (number : ℕ) {cleared : List ℕ} {zero : List Float} → (leb 27 (length out) && leb 1 (length size)) ≡ true → P x left
+      → r ≡ told number 0 → cleared ≡ replicate (length out) 0 → zero ≡ replicate (length size) zeroFloat
+      → ToldAs x cleared out′ zero size′ number → AnswersInC P lent left out out′ size size′ r
+  answers x number h p e a b t = record {
+    room = λ g f. record { answer = x; promised = p; number = number; is = e; stands = rw (a, b) at t };
     no-cells = λ g. absurd (true≢false (sym h ∙ rw (lt-leb 27 (length out) g)));
     no-float = λ g. absurd (true≢false (sym h ∙ rw (lt-leb 1 (length size) g) (and-false (leb 27 (length out)))));
   }
 
--- the room for an answer
-pub room-of : (a b : ℕ) → (leb 27 a && leb 1 b) ≡ true → (27 ≤ a) × (1 ≤ b)
-room-of a b e = (leb-true 27 a (and-left (leb 27 a) (leb 1 b) e), leb-true 1 b (and-right (leb 27 a) (leb 1 b) e))
-  where
-    and-left : (x y : Bool) → (x && y) ≡ true → x ≡ true
-    and-left true y e = refl
-    and-left false y e = e
-    and-right : (x y : Bool) → (x && y) ≡ true → y ≡ true
-    and-right true y e = e
-    and-right false y e = absurd (true≢false (sym e))
+-- cleared, there is as much room
+pub room-of : {cleared : List ℕ} {zero : List Float} (out : List ℕ) (size : List Float) → (leb 27 (length out) && leb 1 (length size)) ≡ true
+    → cleared ≡ replicate (length out) 0 → zero ≡ replicate (length size) zeroFloat → (27 ≤ length cleared) × (1 ≤ length zero)
+room-of out size e a b =
+    let h = both {a = leb 27 (length out)} {b = leb 1 (length size)} e in
+    rw (a, b, length-replicate {A = ℕ} (length out) 0, length-replicate (length size) zeroFloat)
+    (leb-true 27 (length out) (h .0), leb-true 1 (length size) (h .1))

@@ -5,5 +5,6 @@ ghost use Rattle.ttml.specs.Told.{told};
 pub fn told(number: u32, high: usize) -> u64
     ensures { λ r. ⌜ r ≡ told number high ⌝ }
 {
-    (number as u64) + ((high as u32) as u64) * 4294967296
+    let low = (high as u64) % 4294967296;
+    (number as u64) + low * 4294967296
 }
