@@ -236,6 +236,7 @@ pub record Child (b : Base) (limit : ℕ) (t u z : List ℕ) (k : ℕ) (line : L
   pub holds : Holds t u z k own (placed.elem place len attrs content placed.nil)
   pub hi : ℕ
   pub placed : InOrder hi (spans (placed.elem place len attrs content placed.nil)) limit
+  pub within : limit ≤ b .lengths .texts
   pub earlier : List (Cue Placed)
   pub standing : Lined b hi earlier line T
   pub room : line .extras + (length attrs + length (attrsOf content)) ≤ 8192
@@ -248,6 +249,7 @@ pub record Children (b : Base) (limit : ℕ) (t u z : List ℕ) (from end : ℕ)
   pub rows : from + size forest ≡ end
   pub hi : ℕ
   pub placed : InOrder hi (spans forest) limit
+  pub within : limit ≤ b .lengths .texts
   pub earlier : List (Cue Placed)
   pub standing : Lined b hi earlier line T
   pub room : line .extras + length (attrsOf forest) ≤ 8192
