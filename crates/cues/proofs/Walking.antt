@@ -535,110 +535,118 @@ module _ (t u z : List ℕ) (from end : ℕ) (seq : Bool) (begin : ℤ) (ctx : T
     goes = λ b limit x. record { to = x; same = refl; few = omega arith };
   }
 
-  module _ (a : AsksCues t u z from end line T₀) {k : ℕ} {s : Line} {latest reference : ℤ} {T : CueTables} (i : Walked k s latest reference T) where
-    abbrev here : Children (a .base) (a .limit) t u z k end s T
-    here = i .goes (a .base) (a .limit) (a .children) .to
+module _ {t u z : List ℕ} {from end : ℕ} {seq : Bool} {begin : ℤ} {ctx : TimingCtx} {ws : WsMode} {line : Line} {T₀ : CueTables}
+    (a : AsksCues t u z from end line T₀) {k : ℕ} {s : Line} {latest reference : ℤ} {T : CueTables}
+    (i : Walked t u z from end seq begin ctx ws line T₀ k s latest reference T) where
+  abbrev WalkedTo : ℕ → Line → (latest reference : ℤ) → CueTables → Type 0
+  WalkedTo k s latest reference T = Walked t u z from end seq begin ctx ws line T₀ k s latest reference T
 
-    -- row k stands in the table, and the row after its node
-    pub walked-row : k < end → k * 6 + 6 ≤ length t
-    walked-row j = has-row (siblings-of (here .holds)) (omega (arith, here .rows)) .row
+  abbrev meantHere : (reference latest : ℤ) → List (Cue Placed) → Forest → Answer (meaning.Line Placed)
+  meantHere reference latest cues f = cuesIn withPlaces ctx seq (spaceIn ws) begin reference latest cues (nodesIn z f)
 
-    pub walked-next : k < end → (k < getD t (k * 6 + 1) 0) × (getD t (k * 6 + 1) 0 ≤ end)
-    walked-next j = row-end t u z k (here .own) end (here .forest) (here .holds) (here .rows) j
+  abbrev here : Children (a .base) (a .limit) t u z k end s T
+  here = i .goes (a .base) (a .limit) (a .children) .to
 
-    pub walked-asks : k < end → getD t (k * 6) 0 ≡ 2 → AsksChild t u z k s T
-    walked-asks j kind =
-        let h = headed here j kind in
-        record { spacious = still-spacious (i .lengths) (a .spacious); base = a .base; limit = h .mid; child = h .child }
+  -- row k stands in the table, and the row after its node
+  pub walked-row : k < end → k * 6 + 6 ≤ length t
+  walked-row j = has-row (siblings-of (here .holds)) (omega (arith, here .rows)) .row
 
-    module _ (j : k < end) where
-      -- ---- a text or a section is passed over
-      pub walked-pass : (getD t (k * 6) 0 ≡ 2 → ⊥) → Walked (getD t (k * 6 + 1) 0) s latest reference T
-      walked-pass ne = record {
+  pub walked-next : k < end → (k < getD t (k * 6 + 1) 0) × (getD t (k * 6 + 1) 0 ≤ end)
+  walked-next j = row-end t u z k (here .own) end (here .forest) (here .holds) (here .rows) j
+
+  pub walked-asks : k < end → getD t (k * 6) 0 ≡ 2 → AsksChild t u z k s T
+  walked-asks j kind =
+      let h = headed here j kind in
+      record { spacious = still-spacious (i .lengths) (a .spacious); base = a .base; limit = h .mid; child = h .child }
+
+  module _ (j : k < end) where
+    -- ---- a text or a section is passed over
+    pub walked-pass : (getD t (k * 6) 0 ≡ 2 → ⊥) → WalkedTo (getD t (k * 6 + 1) 0) s latest reference T
+    walked-pass ne = record {
+      low = omega (arith, i .low, walked-next j .0);
+      lengths = i .lengths;
+      goes = λ b limit x.
+          let g = i .goes b limit x in
+          let p = passed (g .to) j ne in
+          record {
+            to = record {
+              own = p .own;
+              forest = p .others;
+              holds = p .holds;
+              rows = p .rows;
+              hi = g .to .hi;
+              placed = p .order;
+              within = g .to .within;
+              earlier = g .to .earlier;
+              standing = g .to .standing;
+              room = omega (arith, g .to .room, p .many);
+            };
+            same = g .same ∙ p .same ctx seq ws begin reference latest (g .to .earlier);
+            few = omega (arith, g .few, p .many);
+          };
+    }
+
+    module _ (kind : getD t (k * 6) 0 ≡ 2) where
+      element-is : {b : Base} {limit : ℕ} (x : Children b limit t u z from end line T₀) → (h : Headed (i .goes b limit x .to))
+          → meantHere begin begin (x .earlier) (x .forest)
+          ≡ (childIn ctx seq ws reference (h .child .earlier) (h .child .place) (nameIn z (h .child .place + 1) (h .child .len))
+          (attrsIn z (h .child .attrs)) (nodesIn z (h .child .content)) >>= λ v.
+          meantHere (following seq begin (v .end)) (later latest (v .end)) (v .cues) (h .others))
+      unfolding nodesIn
+      element-is {b} {limit} x h =
+          let g = i .goes b limit x in
+          let c = h .child in
+          g .same ∙ ap (meantHere reference latest (g .to .earlier)) (h .forest-is)
+          ∙ ap (λ v. meantHere reference latest v (placed.elem (c .place) (c .len) (c .attrs) (c .content) (h .others))) (sym (h .earlier-is))
+          ∙ cues-element ctx seq ws begin reference latest (c .earlier) (c .place) (nameIn z (c .place + 1) (c .len)) (attrsIn z (c .attrs))
+          (nodesIn z (c .content)) (nodesIn z (h .others))
+
+      pub walked-step : {r : Line} (T′ : CueTables) → SameLengths T T′ → ElementPost t u z k seq reference ctx ws s T T′ (Lining.Is r)
+          → WalkedTo (getD t (k * 6 + 1) 0) r (later latest (r .end)) (following seq begin (r .end)) T′
+      walked-step {r} T′ same post = record {
         low = omega (arith, i .low, walked-next j .0);
-        lengths = i .lengths;
+        lengths = lengths-then (i .lengths) same;
         goes = λ b limit x.
             let g = i .goes b limit x in
-            let p = passed (g .to) j ne in
+            let h = headed (g .to) j kind in
+            let c = post b (h .mid) (h .child) in
+            let n = head-many h in
             record {
               to = record {
-                own = p .own;
-                forest = p .others;
-                holds = p .holds;
-                rows = p .rows;
-                hi = g .to .hi;
-                placed = p .order;
+                own = h .own;
+                forest = h .others;
+                holds = h .holds;
+                rows = h .rows;
+                hi = c .hi;
+                placed = in-lower (spans (h .others)) (c .hi) (h .mid) limit (c .below) (h .order);
                 within = g .to .within;
-                earlier = g .to .earlier;
-                standing = g .to .standing;
-                room = omega (arith, g .to .room, p .many);
+                earlier = c .cues;
+                standing = c .standing;
+                room = omega (arith, g .to .room, c .few, n);
               };
-              same = g .same ∙ p .same ctx seq ws begin reference latest (g .to .earlier);
-              few = omega (arith, g .few, p .many);
+              same = element-is x h ∙ bind-is _ (c .means);
+              few = omega (arith, g .few, c .few, n);
             };
       }
 
-      module _ (kind : getD t (k * 6) 0 ≡ 2) where
-        element-is : {b : Base} {limit : ℕ} (x : Children b limit t u z from end line T₀) → (h : Headed (i .goes b limit x .to))
-            → means begin begin (x .earlier) (x .forest)
-            ≡ (childIn ctx seq ws reference (h .child .earlier) (h .child .place) (nameIn z (h .child .place + 1) (h .child .len))
-            (attrsIn z (h .child .attrs)) (nodesIn z (h .child .content)) >>= λ v.
-            means (following seq begin (v .end)) (later latest (v .end)) (v .cues) (h .others))
-        unfolding nodesIn
-        element-is {b} {limit} x h =
-            let g = i .goes b limit x in
-            let c = h .child in
-            g .same ∙ ap (means reference latest (g .to .earlier)) (h .forest-is)
-            ∙ ap (λ v. means reference latest v (placed.elem (c .place) (c .len) (c .attrs) (c .content) (h .others))) (sym (h .earlier-is))
-            ∙ cues-element ctx seq ws begin reference latest (c .earlier) (c .place) (nameIn z (c .place + 1) (c .len)) (attrsIn z (c .attrs))
-            (nodesIn z (c .content)) (nodesIn z (h .others))
+      pub walked-fail : {q : Refusal} (T′ : CueTables) → ElementPost t u z k seq reference ctx ws s T T′ (Lining.Refused q)
+          → CuesPost t u z from end seq begin ctx ws line T₀ T′ (Lining.Refused q)
+      walked-fail T′ post b limit x =
+          let h = headed (i .goes b limit x .to) j kind in
+          element-is x h ∙ bind-no _ (post b (h .mid) (h .child))
 
-        pub walked-step : {r : Line} (T′ : CueTables) → SameLengths T T′ → ElementPost t u z k seq reference ctx ws s T T′ (Lining.Is r)
-            → Walked (getD t (k * 6 + 1) 0) r (later latest (r .end)) (following seq begin (r .end)) T′
-        walked-step {r} T′ same post = record {
-          low = omega (arith, i .low, walked-next j .0);
-          lengths = lengths-then (i .lengths) same;
-          goes = λ b limit x.
-              let g = i .goes b limit x in
-              let h = headed (g .to) j kind in
-              let c = post b (h .mid) (h .child) in
-              let n = head-many h in
-              record {
-                to = record {
-                  own = h .own;
-                  forest = h .others;
-                  holds = h .holds;
-                  rows = h .rows;
-                  hi = c .hi;
-                  placed = in-lower (spans (h .others)) (c .hi) (h .mid) limit (c .below) (h .order);
-                  within = g .to .within;
-                  earlier = c .cues;
-                  standing = c .standing;
-                  room = omega (arith, g .to .room, c .few, n);
-                };
-                same = element-is x h ∙ bind-is _ (c .means);
-                few = omega (arith, g .few, c .few, n);
-              };
-        }
-
-        pub walked-fail : {q : Refusal} (T′ : CueTables) → ElementPost t u z k seq reference ctx ws s T T′ (Lining.Refused q)
-            → CuesPost t u z from end seq begin ctx ws line T₀ T′ (Lining.Refused q)
-        walked-fail T′ post b limit x =
-            let h = headed (i .goes b limit x .to) j kind in
-            element-is x h ∙ bind-no _ (post b (h .mid) (h .child))
-
-    pub walked-done : end ≤ k
-        → CuesPost t u z from end seq begin ctx ws line T₀ T (Lining.Is (record { cues = s .cues; rows = s .rows; extras = s .extras; end = latest }))
-    unfolding nodesIn spans attrsOf
-    walked-done j b limit x =
-        let g = i .goes b limit x in
-        let none : g .to .forest ≡ placed.nil = no-size (g .to .forest) (omega (arith, g .to .rows)) in
-        let low : InOrder (g .to .hi) [] limit = rw none at (g .to .placed) in
-        record {
-          cues = g .to .earlier;
-          means = g .same ∙ ap (means reference latest (g .to .earlier)) none ∙ cues-end ctx seq ws begin reference latest (g .to .earlier);
-          hi = g .to .hi;
-          below = low;
-          standing = lined-end refl refl refl (g .to .standing);
-          few = omega (arith, g .few);
-        }
+  pub walked-done : end ≤ k
+      → CuesPost t u z from end seq begin ctx ws line T₀ T (Lining.Is (record { cues = s .cues; rows = s .rows; extras = s .extras; end = latest }))
+  unfolding nodesIn spans attrsOf
+  walked-done j b limit x =
+      let g = i .goes b limit x in
+      let none : g .to .forest ≡ placed.nil = no-size (g .to .forest) (omega (arith, g .to .rows)) in
+      let low : InOrder (g .to .hi) [] limit = rw none at (g .to .placed) in
+      record {
+        cues = g .to .earlier;
+        means = g .same ∙ ap (meantHere reference latest (g .to .earlier)) none ∙ cues-end ctx seq ws begin reference latest (g .to .earlier);
+        hi = g .to .hi;
+        below = low;
+        standing = lined-end refl refl refl (g .to .standing);
+        few = omega (arith, g .few);
+      }
