@@ -1,30 +1,31 @@
 -- The walk over timed elements: what the readers answer is what the elements mean. Assumes nothing.
---     cues-end, cues-text, cues-element                    `cuesIn` by its nodes
---     div-is, body-is, timed-div, timed-p, timed-unknown   a div, the body, and what an element is
---     outcome-same                                         an outcome of fewer attributes
---     child-row, child-room, child-attrs, child-end        what a child's row says
---     inner-asks, inner-outcome                            its content
---     div-refused, div-inside, div-came                    a div, as far as it is read
---     child-div, child-p, child-unknown                    a child by its name
---     Walked, walked-start, walked-row, walked-asks, walked-next, walked-pass, walked-step, walked-fail, walked-done     the loop over siblings
+--     cues-end, cues-text, cues-element                         `cuesIn` by its nodes
+--     div-is, body-is, timed-div, timed-p, timed-unknown        a div, the body, what an element is
+--     child-row, child-room, child-end, child-is, child-attrs, child-said     what a child's row says
+--     inner, inner-asks, container-came                         its content, and a container
+--     div-refused, div-inside, div-came                         a div, as far as it is read
+--     child-div, child-p, child-unknown                         a child by its name
+--     headed, passed                                            the first of siblings is an element, or not
+--     Walked, walked-start, walked-row, walked-next, walked-asks, walked-pass, walked-step, walked-fail, walked-done    the loop over siblings
+--     body-child, body-asks, body-none, body-refused, body-came                                                         the body
 use Prim.Native.Nat.{ℕ, _+_, _-_, _*_, _≤_, _<_}
 use mathlib.Core.Path.{_≡_, refl, sym, ap, _∙_, subst}
-use mathlib.Core.Bool.{Bool, true, false, cond}
-use mathlib.Core.List.{List, [], _∷_, _++_, append-assoc}
+use mathlib.Core.Bool.{Bool, true, false}
+use mathlib.Core.List.{List, [], _++_, append-assoc}
 use mathlib.Core.Option.{Option, none, some}
 use native.Mathlib.Omega.{arith}
-use lib.IntN.{ℤ, pos}
-use lib.Ieee.{Float}
+use lib.IntN.{ℤ}
 use lib.ListN.{length, getD, length-append}
 use Rattle.scan.specs.Part.{stringAt}
 use Rattle.times.specs.declared.offset.TimingCtx.{TimingCtx}
 use Rattle.tree.specs.declared.answers.Refusal.{Refusal}
 use Rattle.tree.specs.Trees.{Forest, size, attrsOf, Span, attrSpans, spans, InOrder}
 use Rattle.tree.specs.Trees as placed
-use Rattle.tree.proofs.Places.{in-lower, in-higher, in-first, in-rest, in-whole}
+use Rattle.tree.proofs.Places.{in-lower, in-first, in-rest, in-whole}
 use Rattle.track.specs.Track.{Cue}
+use Rattle.xml.specs.declared.find.Found.{Found}
 use Rattle.xml.specs.declared.find.Element.{Element}
-use Rattle.xml.specs.Find.{named, Holds, isElement, HasRow, elementRow, ElementAt}
+use Rattle.xml.specs.Find.{named, Holds, OfSiblings, findRow, isElement, HasRow, elementRow, ElementAt}
 use Rattle.xml.specs.Reading.{Placed}
 use Rattle.xml.proofs.Lays.{in-split}
 use Rattle.xml.proofs.FindLaws.{holds-text, holds-section, holds-elem, holds-alone, siblings-of, has-row, is-element-elem}
@@ -33,20 +34,21 @@ use Rattle.meaning.specs.Words.{ascii}
 use Rattle.meaning.specs.Nodes.{Attr, Nodes, nil, text, element, firstElement}
 use Rattle.meaning.specs.Nodes as nodes
 use Rattle.meaning.specs.Kinds.{withPlaces, attrsIn, nodesIn}
-use Rattle.meaning.specs.Space.{Space, spaceOf}
+use Rattle.meaning.specs.Space.{spaceOf}
 use Rattle.meaning.specs.Timing.{timeOf, sum, orZero, lastingTo, isSeq}
-use Rattle.meaning.specs.Cues.{a-div, a-p, unknown, timedOf, pOf, divOf, cuesIn, later}
+use Rattle.meaning.specs.Cues.{a-div, a-p, unknown, timedOf, divOf, cuesIn, later}
 use Rattle.meaning.specs.Cues as meaning
 use Rattle.meaning.specs.Meaning.{bodyOf}
 use Rattle.styling.specs.declared.space.WsMode.{WsMode}
-use Rattle.styling.specs.Posts.{HasRows, OfRows, turned, spaceIn}
+use Rattle.styling.specs.Posts.{HasRows, OfRows, spaceIn}
 use Rattle.content.proofs.Reading.{bind-is, bind-no, no-size, row-end}
 use Rattle.cues.specs.declared.lines.Line.{Line}
 use Rattle.cues.specs.declared.lines.Lining.{Lining}
 use Rattle.cues.specs.declared.sums.Moment.{Moment}
 use Rattle.cues.specs.Steps.{momentSaid, beginFrom, startFrom, endFrom, CueTables, Spacious, Base, Lined, Child, Children, AsksChild, AsksCues}
-use Rattle.cues.specs.Steps.{Came, Outcome, ChildPost, ParagraphPost, within, ContainerPost, divIn, DivPost, Closes, childIn, ElementPost}
-use Rattle.cues.specs.Steps.{following, CuesPost}
+use Rattle.cues.specs.Steps.{Came, Outcome, ParagraphPost, within, ContainerPost, divIn, DivPost, Closes, childIn, ElementPost}
+use Rattle.cues.specs.Steps.{following, CuesPost, noLine, Bodies, AsksBody, BodyOutcome, BodyPost}
+use Rattle.extras.proofs.Counts.{First, first-found, first-nothing}
 
 -- ---- steps of an answer
 
@@ -88,20 +90,20 @@ div-is ctx reference at l children = by (timeOf withPlaces ctx at (ascii "begin"
     ended : ℤ → meaning.Line Placed → Answer (meaning.Line Placed)
     ended start inner = timeOf withPlaces ctx at (ascii "dur") l >>= λ dur. lastingTo at start dur (inner .end) >>= done inner
 
-    ends : (start : ℤ) (m : Answer (meaning.Line Placed))
-        → (m >>= ended start) ≡ (m >>= λ inner. endFrom ctx at start (inner .end) l >>= done inner)
+    closed : ℤ → meaning.Line Placed → Answer (meaning.Line Placed)
+    closed start inner = endFrom ctx at start (inner .end) l >>= done inner
+
+    ends : (start : ℤ) (m : Answer (meaning.Line Placed)) → (m >>= ended start) ≡ (m >>= closed start)
     ends start (is inner) = sym (bind-assoc (timeOf withPlaces ctx at (ascii "dur") l) _ _)
     ends start (refused i p) = refl
 
-    starts : (m : Answer ℤ)
-        → (m >>= λ start. children start >>= ended start)
-        ≡ (m >>= λ start. children start >>= λ inner. endFrom ctx at start (inner .end) l >>= done inner)
+    starts : (m : Answer ℤ) → (m >>= λ start. children start >>= ended start) ≡ (m >>= λ start. children start >>= closed start)
     starts (is start) = ends start (children start)
     starts (refused i p) = refl
 
     by : (m : Answer (Option ℤ))
         → (m >>= λ begin. sum at reference (orZero begin) >>= λ start. children start >>= ended start)
-        ≡ (m >>= (λ begin. sum at reference (orZero begin)) >>= λ start. children start >>= λ inner. endFrom ctx at start (inner .end) l >>= done inner)
+        ≡ (m >>= (λ begin. sum at reference (orZero begin)) >>= λ start. children start >>= closed start)
     by (is begin) = starts (sum at reference (orZero begin))
     by (refused i p) = refl
 
@@ -414,7 +416,7 @@ module _ {b : Base} {limit : ℕ} {t u z : List ℕ} {k end : ℕ} {line : Line}
         mid-within = top′;
       }
 
-pub headed : {b : Base} {limit : ℕ} {t u z : List ℕ} {k end : ℕ} {line : Line} {T : CueTables} (x : Children b limit t u z k end line T)
+headed : {b : Base} {limit : ℕ} {t u z : List ℕ} {k end : ℕ} {line : Line} {T : CueTables} (x : Children b limit t u z k end line T)
     → k < end → getD t (k * 6) 0 ≡ 2 → Headed x
 headed x j kind = head-of (x .own) (x .hi) (x .earlier) (x .within) (x .standing) (x .forest) (x .holds) (x .rows) (x .placed) (x .room) j kind
 
@@ -650,3 +652,94 @@ module _ {t u z : List ℕ} {from end : ℕ} {seq : Bool} {begin : ℤ} {ctx : T
         standing = lined-end refl refl refl (g .to .standing);
         few = omega (arith, g .few);
       }
+
+-- ---- the body
+
+module _ {b : Base} {limit : ℕ} {t u z : List ℕ} {from end rows : ℕ} {T : CueTables} (x : Bodies b limit t u z from end rows T) where
+  abbrev bodyRow : Found
+  bodyRow = findRow z (ascii "body") from (x .forest)
+
+  abbrev bodyMeant : TimingCtx → WsMode → Answer (List (Cue Placed))
+  bodyMeant ctx ws = bodyOf withPlaces ctx (spaceIn ws) (firstElement withPlaces (ascii "body") (nodesIn z (x .forest)))
+
+  -- what the search for a row answered
+  found-is : (r : Found) → OfSiblings t from end (λ f. r ≡ findRow z (ascii "body") from f) → bodyRow ≡ r
+  found-is r h = sym (h (x .own) (x .forest) (x .holds .stands) (x .size))
+
+  module _ {k : ℕ} (h : OfSiblings t from end (λ f. Found.Row k ≡ findRow z (ascii "body") from f)) where
+    pub its-row : First t u z (ascii "body") from (x .forest) k
+    its-row = first-found (x .forest) (x .holds) (found-is (Found.Row k) h)
+
+    abbrev pub body-child : Child b limit t u z k (noLine rows) T
+    body-child =
+        let y = its-row in
+        record {
+          own = y .first;
+          place = y .place;
+          len = y .len;
+          attrs = y .attrs;
+          content = y .content;
+          holds = y .holds;
+          hi = 0;
+          placed = y .placed 0 limit (x .placed);
+          within = x .within;
+          earlier = [];
+          standing = x .standing;
+          room = omega (arith, x .room, y .many);
+        }
+
+pub body-asks : {t u z : List ℕ} {from end rows k : ℕ} {T : CueTables} (a : AsksBody t u z from end rows T)
+    → OfSiblings t from end (λ f. Found.Row k ≡ findRow z (ascii "body") from f) → AsksChild t u z k (noLine rows) T
+body-asks a h = record { spacious = a .spacious; base = a .base; limit = a .limit; child = body-child (a .bodies) h }
+
+module _ (t u z : List ℕ) (from end : ℕ) (ctx : TimingCtx) (ws : WsMode) (rows : ℕ) (T : CueTables) where
+  pub body-none : OfSiblings t from end (λ f. Found.Nothing ≡ findRow z (ascii "body") from f)
+      → BodyPost t u z from end ctx ws rows T T (Lining.Is (noLine rows))
+  unfolding bodyOf
+  body-none h b limit x = record {
+    cues = [];
+    means = ap (bodyOf withPlaces ctx (spaceIn ws)) (first-nothing z (ascii "body") from (x .forest) (found-is x Found.Nothing h));
+    hi = 0;
+    below = omega arith;
+    standing = x .standing;
+  }
+
+  module _ (k : ℕ) (h : OfSiblings t from end (λ f. Found.Row k ≡ findRow z (ascii "body") from f)) (e : Element) (row : e ≡ elementRow t k) where
+    abbrev pub Begins : Moment → Type 0
+    Begins m = OfRows u z (e .first) (e .many) (λ l. momentSaid m ≡ beginFrom ctx (e .place) l)
+
+    module _ {b : Base} {limit : ℕ} (x : Bodies b limit t u z from end rows T) where
+      abbrev its-attrs : List (Attr Placed)
+      its-attrs = attrsIn z (body-child x h .attrs)
+
+      abbrev its-children : ℤ → Answer (meaning.Line Placed)
+      its-children begin = within ctx ws begin [] its-attrs (nodesIn z (body-child x h .content))
+
+      body-begins : (m : Moment) → Begins m → bodyMeant x ctx ws ≡ (momentSaid m >>= λ begin. its-children begin >>= λ line. is (line .cues))
+      body-begins m g =
+          let y = body-child x h in
+          let s = child-said y e row (λ l. momentSaid m ≡ beginFrom ctx (e .place) l) g in
+          let s′ : momentSaid m ≡ beginFrom ctx (y .place) its-attrs = rw (ap (λ (v : Element). v .place) (child-is y e row)) at s in
+          ap (bodyOf withPlaces ctx (spaceIn ws)) (its-row x h .is)
+          ∙ body-is ctx ws (record { at = y .place; attrs = its-attrs; content = nodesIn z (y .content) })
+          ∙ ap (λ v. v >>= λ begin. its-children begin >>= λ line. is (line .cues)) (sym s′)
+
+    pub body-refused : (T′ : CueTables) (q : Refusal) → Begins (Moment.Refused q) → BodyPost t u z from end ctx ws rows T T′ (Lining.Refused q)
+    body-refused T′ q g b limit x = body-begins x (Moment.Refused q) g
+
+    module _ (T′ : CueTables) (begin : ℤ) (g : Begins (Moment.Is begin)) where
+      body-outcome : {b : Base} {limit : ℕ} (x : Bodies b limit t u z from end rows T) (many : ℕ) (r : Lining)
+          → Outcome b limit (noLine rows) many T′ (its-children x begin) r → BodyOutcome b limit T′ (bodyMeant x ctx ws) r
+      body-outcome x many (Lining.Is r) c = record {
+        cues = c .cues;
+        means = body-begins x (Moment.Is begin) g ∙ bind-is _ (c .means);
+        hi = c .hi;
+        below = c .below;
+        standing = c .standing;
+      }
+      body-outcome x many (Lining.Refused q) c = body-begins x (Moment.Is begin) g ∙ bind-no _ c
+
+      pub body-came : (r : Lining) → ContainerPost t u z k begin ctx ws (noLine rows) T T′ r → BodyPost t u z from end ctx ws rows T T′ r
+      body-came r post b limit x =
+          let y = body-child x h in
+          body-outcome x (length (y .attrs) + length (attrsOf (y .content))) r (post b limit y)

@@ -288,7 +288,7 @@ ChildPost m t u z k line T T′ r =
     (b : Base) (limit : ℕ) (x : Child b limit t u z k line T)
     → Outcome b limit line (length (x .attrs) + length (attrsOf (x .content))) T′
     (m (x .earlier) (x .place) (record { place = x .place + 1; bytes = stringAt z (x .place + 1) (x .len) }) (attrsIn z (x .attrs))
-        (nodesIn z (x .content))) r
+    (nodesIn z (x .content))) r
 
 abbrev pub ParagraphPost : (t u z : List ℕ) (k : ℕ) (reference : ℤ) → TimingCtx → WsMode → (line : Line) (T T′ : CueTables) → Lining → Type 0
 ParagraphPost t u z k reference ctx ws line T T′ r =

@@ -9,19 +9,15 @@ use Rattle.cues.proofs.collect.close_div.Reads as reads
 use Rattle.cues.proofs.collect.close_div.Lts as lts
 use Rattle.cues.proofs.sums.lasting_to.Reads as lasting-to-reads
 
--- src/collect.rt:46:11
 lasting-to-requires : tie.Need-lasting-to-requires
 lasting-to-requires c κs = search needs
 
--- src/collect.rt:47:25
 enum-known-r : tie.Need-enum-known-r
 enum-known-r c = search needs
 
--- src/collect.rt:48:20
 enum-known-end : tie.Need-enum-known-end
 enum-known-end c = search needs
 
--- src/collect.rt:35:1
 returns : tie.Need-returns
 returns c =
     λ l o.
@@ -31,7 +27,6 @@ returns c =
     let e = rw (c .before .r .given .1, toZ-ofZ (s .fits .start), at) at (d .lasting-to .ensures l o) in
     sym e
 
--- src/collect.rt:35:1
 returns-2 : tie.Need-returns-2
 returns-2 c =
     λ l o.

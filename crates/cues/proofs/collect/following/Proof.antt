@@ -4,11 +4,9 @@ use Rattle.cues.proofs.collect.following.Tie as tie
 use Rattle.cues.proofs.collect.following.Reads as reads
 use Rattle.cues.proofs.collect.following.Lts as lts
 
--- src/collect.rt:29:9
 returns : tie.Need-returns
 returns c = rw (toZ-ofZ (c .before .fits .end), c .if1 .taken)
 
--- src/collect.rt:25:1
 returns-2 : tie.Need-returns-2
 returns-2 c = rw (toZ-ofZ (c .before .fits .begin), c .if1 .left)
 

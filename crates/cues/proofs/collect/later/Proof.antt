@@ -5,7 +5,6 @@ use Rattle.cues.proofs.collect.later.Tie as tie
 use Rattle.cues.proofs.collect.later.Reads as reads
 use Rattle.cues.proofs.collect.later.Lts as lts
 
--- src/collect.rt:19:9
 returns : tie.Need-returns
 unfolding later
 returns c =
@@ -13,7 +12,6 @@ returns c =
     let e = rw (toZ-ofZ (f .a), toZ-ofZ (f .b)) at (c .if1 .taken) in
     rw (toZ-ofZ (f .b), e)
 
--- src/collect.rt:15:1
 returns-2 : tie.Need-returns-2
 unfolding later
 returns-2 c =
