@@ -113,10 +113,10 @@ bind-assoc (is x) f g = refl
 bind-assoc (refused n p) f g = refl
 
 module _ (id : Placed) (l : List (Attr Placed)) where
-  abbrev made : Look Placed → Answer (Style Placed)
+  abbrev pub made : Look Placed → Answer (Style Placed)
   made look = is (styleOfLook id l look)
 
-  style-is : lookAnswer l >>= made ≡ styleOf withPlaces id l
+  pub style-is : lookAnswer l >>= made ≡ styleOf withPlaces id l
   unfolding styleOf
   style-is = by-color (colorOf withPlaces (ascii "tts:color") l)
     where

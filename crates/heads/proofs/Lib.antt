@@ -1,3 +1,5 @@
 pub mod Cells
 pub mod Standing
 pub mod Turns
+pub mod Making
+pub mod Looping

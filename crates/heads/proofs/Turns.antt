@@ -6,7 +6,7 @@
 --     along-refused, along-done                 the answer
 use Prim.Native.Nat.{ℕ, suc, _+_, _-_, _*_, _≤_, _<_}
 use mathlib.Core.Path.{_≡_, refl, sym, ap, _∙_, subst}
-use mathlib.Core.Bool.{Bool, true, false, cond, true≢false}
+use mathlib.Core.Bool.{true, false, cond, true≢false}
 use mathlib.Core.List.{List, [], _∷_, _++_, append-assoc, append-nil}
 use mathlib.Core.Option.{Option, none, some}
 use native.Mathlib.Omega.{arith}
@@ -50,18 +50,15 @@ bind-none : {A : Type 0} (a : Answer (List A)) → a ≡ (a >>= λ more. is ([] 
 bind-none (is l) = refl
 bind-none (refused n p) = refl
 
-never : {A : Type 0} → true ≡ false → A
-never e = absurd (true≢false e)
-
 module _ {A : Type 0} (name : List ℕ) (make : Placed → List (Attr Placed) → Answer A) (extras : A → ℕ) where
   -- what is made of an element, with its limit
-  abbrev oneOf : Placed → List (Attr Placed) → (place n : ℕ) → Answer A
+  abbrev pub oneOf : Placed → List (Attr Placed) → (place n : ℕ) → Answer A
   oneOf id l place n = make id l >>= λ x. within 256 (n + 1) place x
 
-  abbrev among : (z : List ℕ) (n : ℕ) → Forest → Answer (List A)
+  abbrev pub among : (z : List ℕ) (n : ℕ) → Forest → Answer (List A)
   among z n f = listed withPlaces name make n (nodesIn z f)
 
-  within-limit : (id : Placed) (l : List (Attr Placed)) (place n : ℕ) (x : A) → oneOf id l place n ≡ is x → n < 256
+  pub within-limit : (id : Placed) (l : List (Attr Placed)) (place n : ℕ) (x : A) → oneOf id l place n ≡ is x → n < 256
   within-limit id l place n x e =
       let w = any (λ (v : A). n + 1 ≤ 256) (make id l) (λ v. within 256 (n + 1) place v)
       (λ v. within-holds (λ (v : A). n + 1 ≤ 256) 256 (n + 1) place v (λ h. h)) in
@@ -107,6 +104,47 @@ module _ {A : Type 0} (name : List ℕ) (make : Placed → List (Attr Placed) �
     stood = s;
   }
 
+  -- ---- what `listed` says of siblings after n others
+  module _ (z : List ℕ) (n : ℕ) where
+    -- nothing of the first of f, the others are g
+    none-listed : (f g : Forest) → among z n f ≡ among z n g → among z n f ≡ (among z (n + 0) g >>= λ more. is ([] ++ more))
+    none-listed f g e = e ∙ bind-none (among z n g) ∙ ap (λ (i : ℕ). among z i g >>= λ more. is ([] ++ more)) (sym (add-zero n))
+
+    -- an element
+    module _ (p m : ℕ) (l : List placed.Attr) (c g : Forest) where
+      abbrev itsId : Option Placed
+      itsId =
+          cond (nodes.named withPlaces name (record { place = p + 1; bytes = stringAt z (p + 1) m })) (idOf withPlaces (attrsIn z l)) none
+
+      unnamed : named name (stringAt z (p + 1) m) ≡ false → itsId ≡ none
+      unfolding nodes.named named
+      unnamed e = rw e
+
+      id-is : named name (stringAt z (p + 1) m) ≡ true → (o : Option Placed) → idOf withPlaces (attrsIn z l) ≡ o → itsId ≡ o
+      unfolding nodes.named named
+      id-is e o h = rw (e, h)
+
+      -- of another name, or without an id
+      other-is : itsId ≡ none → among z n (placed.elem p m l c g) ≡ among z n g
+      unfolding nodesIn
+      other-is e = listed-other withPlaces name make n p _ (attrsIn z l) (nodesIn z c) (nodesIn z g) e
+
+      module _ (id : Placed) (e : itsId ≡ some id) where
+        abbrev rest-of : A → Answer (List A)
+        rest-of one = among z (n + 1) g >>= λ more. is (one ∷ more)
+
+        one-is : among z n (placed.elem p m l c g) ≡ (oneOf id (attrsIn z l) p n >>= rest-of)
+        unfolding nodesIn
+        one-is =
+            listed-one withPlaces name make n p _ (attrsIn z l) (nodesIn z c) (nodesIn z g) id e
+            ∙ sym (bind-assoc (make id (attrsIn z l)) (λ made. within 256 (n + 1) p made) rest-of)
+
+        taken-is : (x : A) → oneOf id (attrsIn z l) p n ≡ is x → among z n (placed.elem p m l c g) ≡ rest-of x
+        taken-is x h = one-is ∙ ap (λ (v : Answer A). v >>= rest-of) h
+
+        refused-is : (q : Refusal) → oneOf id (attrsIn z l) p n ≡ turned q → among z n (placed.elem p m l c g) ≡ turned q
+        refused-is q h = one-is ∙ ap (λ (v : Answer A). v >>= rest-of) h
+
   -- ---- the siblings g, the first of which stands in row k: it gives x, and has so many attributes
   record Next (t u z : List ℕ) (end k n : ℕ) (g : Forest) (x : List A) (many : ℕ) : Type 0 where
     pub own : ℕ
@@ -117,10 +155,6 @@ module _ {A : Type 0} (name : List ℕ) (make : Placed → List (Attr Placed) �
     pub fewer : many + length (attrsOf rest) ≤ length (attrsOf g)
 
   module _ (t u z : List ℕ) (end k own n : ℕ) where
-    -- nothing of the first is listed
-    none-listed : (f g : Forest) → among z n f ≡ among z n g → among z n f ≡ (among z (n + 0) g >>= λ more. is ([] ++ more))
-    none-listed f g e = e ∙ bind-none (among z n g) ∙ ap (λ (i : ℕ). among z i g >>= λ more. is ([] ++ more)) (sym (add-zero n))
-
     -- a text or a section
     leaf : (kind p m : ℕ) (f g : Forest) → TextAt t u z kind k own p m g → k + 1 + size g ≡ end → among z n f ≡ among z n g
         → length (attrsOf g) ≤ length (attrsOf f) → Next t u z end k n f [] 0
@@ -129,77 +163,37 @@ module _ {A : Type 0} (name : List ℕ) (make : Placed → List (Attr Placed) �
       rest = g;
       holds = rw (a .row .end-is) (a .later);
       ends = rw (a .row .end-is) e;
-      means = none-listed f g means;
+      means = none-listed z n f g means;
       fewer = omega arith;
     }
 
     -- an element
-    module _ (p m : ℕ) (l : List placed.Attr) (c g : Forest) where
-      abbrev it : Forest
-      it = placed.elem p m l c g
-
-      abbrev full : Placed
-      full = record { place = p + 1; bytes = stringAt z (p + 1) m }
-
-      abbrev its : List (Attr Placed)
-      its = attrsIn z l
-
-      gives : Holds t u z k own it → k + size it ≡ end → (x : List A) → among z n it ≡ (among z (n + length x) g >>= λ more. is (x ++ more))
-          → Next t u z end k n it x (length l)
-      unfolding size attrsOf
-      gives h e x means =
-          let a = holds-elem h in
-          record {
-            own = own + length l + length (attrsOf c);
-            rest = g;
-            holds = rw (a .row .end-is) (a .later);
-            ends = rw (a .row .end-is) (omega (arith, e));
-            means = means;
-            fewer = simp length-append (omega arith);
-          }
-
-      -- of another name, or without an id
-      other-is : cond (nodes.named withPlaces name full) (idOf withPlaces its) none ≡ none → among z n it ≡ among z n g
-      unfolding nodesIn
-      other-is e = listed-other withPlaces name make n p full its (nodesIn z c) (nodesIn z g) e
-
-      module _ (id : Placed) (e : cond (nodes.named withPlaces name full) (idOf withPlaces its) none ≡ some id) where
-        abbrev rest-of : A → Answer (List A)
-        rest-of one = among z (n + 1) g >>= λ more. is (one ∷ more)
-
-        one-is : among z n it ≡ (oneOf id its p n >>= rest-of)
-        unfolding nodesIn
-        one-is =
-            listed-one withPlaces name make n p full its (nodesIn z c) (nodesIn z g) id e
-            ∙ sym (bind-assoc (make id its) (λ made. within 256 (n + 1) p made) rest-of)
-
-        taken-is : (x : A) → oneOf id its p n ≡ is x → among z n it ≡ rest-of x
-        taken-is x h = one-is ∙ ap (λ (v : Answer A). v >>= rest-of) h
-
-        refused-is : (q : Refusal) → oneOf id its p n ≡ turned q → among z n it ≡ turned q
-        refused-is q h = one-is ∙ ap (λ (v : Answer A). v >>= rest-of) h
-
-      unnamed : named name (stringAt z (p + 1) m) ≡ false → cond (nodes.named withPlaces name full) (idOf withPlaces its) none ≡ none
-      unfolding nodes.named named
-      unnamed e = rw e
-
-      with-id : named name (stringAt z (p + 1) m) ≡ true → (o : Option Placed) → idOf withPlaces its ≡ o
-          → cond (nodes.named withPlaces name full) (idOf withPlaces its) none ≡ o
-      unfolding nodes.named named
-      with-id e o h = rw (e, h)
+    gives : (p m : ℕ) (l : List placed.Attr) (c g : Forest) → Holds t u z k own (placed.elem p m l c g) → k + size (placed.elem p m l c g) ≡ end
+        → (x : List A) → among z n (placed.elem p m l c g) ≡ (among z (n + length x) g >>= λ more. is (x ++ more))
+        → Next t u z end k n (placed.elem p m l c g) x (length l)
+    unfolding size attrsOf
+    gives p m l c g h e x means =
+        let a = holds-elem h in
+        record {
+          own = own + length l + length (attrsOf c);
+          rest = g;
+          holds = rw (a .row .end-is) (a .later);
+          ends = rw (a .row .end-is) (omega (arith, e));
+          means = means;
+          fewer = simp length-append (omega arith);
+        }
 
     passed : (g : Forest) → Holds t u z k own g → k + size g ≡ end → k < end → isElement t z name k ≡ false → Next t u z end k n g [] 0
     unfolding size attrsOf nodesIn
     passed placed.nil h e j w = absurd (omega arith)
     passed (placed.text p m g) h e j w =
-        leaf 1 p m (placed.text p m g) g (holds-text h) (omega (arith, e))
-        (listed-text withPlaces name make n p (record { place = p; bytes = stringAt z p m }) (nodesIn z g)) (omega arith)
+        leaf 1 p m (placed.text p m g) g (holds-text h) (omega (arith, e)) (listed-text withPlaces name make n p _ (nodesIn z g)) (omega arith)
     passed (placed.section p m g) h e j w =
-        leaf 3 p m (placed.section p m g) g (holds-section h) (omega (arith, e))
-        (listed-text withPlaces name make n (p - 9) (record { place = p; bytes = stringAt z p m }) (nodesIn z g)) (omega arith)
+        leaf 3 p m (placed.section p m g) g (holds-section h) (omega (arith, e)) (listed-text withPlaces name make n (p - 9) _ (nodesIn z g))
+        (omega arith)
     passed (placed.elem p m l c g) h e j w =
-        let x = gives p m l c g h e [] (none-listed (it p m l c g) g
-        (other-is p m l c g (unnamed p m l c g (sym (is-element-elem z name (h .stands)) ∙ w)))) in
+        let other = unnamed z n p m l c g (sym (is-element-elem z name (h .stands)) ∙ w) in
+        let x = gives p m l c g h e [] (none-listed z n (placed.elem p m l c g) g (other-is z n p m l c g other)) in
         record { own = x .own; rest = x .rest; holds = x .holds; ends = x .ends; means = x .means; fewer = omega (arith, x .fewer) }
 
     -- the element of that name in row k
@@ -217,8 +211,8 @@ module _ {A : Type 0} (name : List ℕ) (make : Placed → List (Attr Placed) �
     here : (g : Forest) → Holds t u z k own g → k + size g ≡ end → k < end → isElement t z name k ≡ true → Here g
     unfolding size
     here placed.nil h e j w = absurd (omega arith)
-    here (placed.text p m g) h e j w = never (sym w ∙ is-element-text z name (h .stands))
-    here (placed.section p m g) h e j w = never (sym w ∙ is-element-section z name (h .stands))
+    here (placed.text p m g) h e j w = absurd (true≢false (sym w ∙ is-element-text z name (h .stands)))
+    here (placed.section p m g) h e j w = absurd (true≢false (sym w ∙ is-element-section z name (h .stands)))
     here (placed.elem p m l c g) h e j w = record {
       place = p;
       len = m;
@@ -231,132 +225,144 @@ module _ {A : Type 0} (name : List ℕ) (make : Placed → List (Attr Placed) �
       matches = sym (is-element-elem z name (h .stands)) ∙ w;
     }
 
-  module _ {t u z : List ℕ} {end rows : ℕ} {f : Forest} {k n at : ℕ} {Stood : List A → Type 0} (x : Along t u z end rows f k n at Stood) where
-    -- ---- what is asked of row k
-    pub along-row : k < end → HasRow t z k
-    along-row j = has-row (siblings-of (x .holds)) (omega (arith, x .ends))
+-- ---- the loop
+module _ {A : Type 0} {name : List ℕ} {make : Placed → List (Attr Placed) → Answer A} {extras : A → ℕ} {t u z : List ℕ} {end rows : ℕ} {f : Forest}
+    {k n at : ℕ} {Stood : List A → Type 0} (x : Along name make extras t u z end rows f k n at Stood) where
+  abbrev listedIn : (n : ℕ) → Forest → Answer (List A)
+  listedIn n g = among name make extras z n g
 
-    pub along-next : k < end → (k < getD t (k * 6 + 1) 0) × (getD t (k * 6 + 1) 0 ≤ end)
-    along-next j =
-        let y = onward (siblings-of (x .holds)) (omega (arith, x .ends)) in
-        (y .after, omega (arith, y .within, x .ends))
+  abbrev AlongAt : (k n at : ℕ) → (List A → Type 0) → Type 0
+  AlongAt k n at Stood′ = Along name make extras t u z end rows f k n at Stood′
 
-    -- ---- the next row
-    on : (n′ at′ m many : ℕ) (y : List A) → Next t u z end k n (x .rest) y many → n′ ≡ n + length y → at′ ≡ at + m → m ≡ total extras y → m ≤ many
-        → n′ ≤ 256 → (Stood′ : List A → Type 0) → Stood′ (x .done ++ y) → Along t u z end rows f (getD t (k * 6 + 1) 0) n′ at′ Stood′
-    on n′ at′ m many y w a b c d few Stood′ s = record {
-      own = w .own;
-      rest = w .rest;
-      holds = w .holds;
-      ends = w .ends;
-      done = x .done ++ y;
-      means =
-          x .means
-          ∙ ap (λ (v : Answer (List A)). v >>= λ more. is (x .done ++ more)) (w .means ∙ ap (λ (i : ℕ). among z i (w .rest) >>= λ more. is (y ++ more)) (sym a))
-          ∙ joined-more (among z n′ (w .rest)) (x .done) y;
-      count = omega (arith, x .count, length-append (x .done) y);
-      few = few;
-      kept = omega (arith, x .kept, total-join extras (x .done) y);
-      room = omega (arith, x .room, w .fewer);
-      stood = s;
-    }
+  abbrev NextGives : List A → (many : ℕ) → Type 0
+  NextGives y many = Next name make extras t u z end k n (x .rest) y many
 
-    pub along-passed : k < end → isElement t z name k ≡ false → Along t u z end rows f (getD t (k * 6 + 1) 0) n at Stood
-    unfolding total
-    along-passed j w =
-        on n at 0 0 [] (passed t u z end k (x .own) n (x .rest) (x .holds) (x .ends) j w) (omega arith) (omega arith) refl (omega arith) (x .few) Stood
-        (rw append-nil (x .stood))
+  -- ---- what is asked of row k, and the next row
+  pub along-row : k < end → HasRow t z k
+  along-row j = has-row (siblings-of (x .holds)) (omega (arith, x .ends))
 
-    module _ (j : k < end) (w : isElement t z name k ≡ true) where
-      abbrev the : Here t u z end k (x .own) n (x .rest)
-      the = here t u z end k (x .own) n (x .rest) (x .holds) (x .ends) j w
+  pub along-next : k < end → (k < getD t (k * 6 + 1) 0) × (getD t (k * 6 + 1) 0 ≤ end)
+  along-next j =
+      let y = onward (siblings-of (x .holds)) (omega (arith, x .ends)) in
+      (y .after, omega (arith, y .within, x .ends))
 
-      its-row : elementRow t k ≡ record {
-        place = the .place;
-        «name_len» = the .len;
-        end = k + 1 + size (the .content);
-        first = x .own;
-        many = length (the .attrs);
+  on : (n′ at′ m many : ℕ) (y : List A) → NextGives y many → n′ ≡ n + length y → at′ ≡ at + m → m ≡ total extras y → m ≤ many → n′ ≤ 256
+      → (Stood′ : List A → Type 0) → Stood′ (x .done ++ y) → AlongAt (getD t (k * 6 + 1) 0) n′ at′ Stood′
+  on n′ at′ m many y w a b c d few Stood′ s =
+      let first : listedIn n (x .rest) ≡ (listedIn n′ (w .rest) >>= λ more. is (y ++ more)) =
+      w .means ∙ ap (λ (i : ℕ). listedIn i (w .rest) >>= λ more. is (y ++ more)) (sym a) in
+      record {
+        own = w .own;
+        rest = w .rest;
+        holds = w .holds;
+        ends = w .ends;
+        done = x .done ++ y;
+        means =
+            x .means
+            ∙ ap (λ (v : Answer (List A)). v >>= λ more. is (x .done ++ more)) first
+            ∙ joined-more (listedIn n′ (w .rest)) (x .done) y;
+        count = omega (arith, x .count, length-append (x .done) y);
+        few = few;
+        kept = omega (arith, x .kept, total-join extras (x .done) y);
+        room = omega (arith, x .room, w .fewer);
+        stood = s;
       }
-      its-row = holds-elem (the .holds) .cells
 
-      module _ (e : Element) (row : e ≡ elementRow t k) where
-        pub along-attrs : HasRows u z (e .first) (e .many)
-        along-attrs = rw (row ∙ its-row) (the .attrs, holds-elem (the .holds) .owned)
+  -- nothing is listed
+  on-none : (many : ℕ) → NextGives [] many → (Stood′ : List A → Type 0) → Stood′ (x .done) → AlongAt (getD t (k * 6 + 1) 0) n at Stood′
+  unfolding total
+  on-none many w Stood′ s = on n at 0 many [] w (omega arith) (omega arith) refl (omega arith) (x .few) Stood′ (rw append-nil s)
 
-        pub along-room : at + e .many ≤ rows + length (attrsOf f)
-        unfolding attrsOf
-        along-room =
-            let l = the .attrs in
-            let more = attrsOf (the .content) ++ attrsOf (the .later) in
-            let a : length (attrsOf (x .rest)) ≡ length l + length more = ap (λ (v : Forest). length (attrsOf v)) (the .is) ∙ length-append l more in
-            rw (row ∙ its-row) (omega (arith, x .room))
+  pub along-passed : k < end → isElement t z name k ≡ false → AlongAt (getD t (k * 6 + 1) 0) n at Stood
+  along-passed j w = on-none 0 (passed name make extras t u z end k (x .own) n (x .rest) (x .holds) (x .ends) j w) Stood (x .stood)
 
-        module _ (Stood′ : List A → Type 0) where
-          abbrev TurnAt : Made → Type 0
-          TurnAt r = OfRows u z (e .first) (e .many) (λ l. Turn rows n at Stood Stood′ (e .many) (e .place) l r)
+  module _ (j : k < end) (w : isElement t z name k ≡ true) where
+    abbrev the : Here name make extras t u z end k (x .own) n (x .rest)
+    the = here name make extras t u z end k (x .own) n (x .rest) (x .holds) (x .ends) j w
 
-          its-turn : (r : Made) → TurnAt r → Turn rows n at Stood Stood′ (length (the .attrs)) (the .place) (attrsIn z (the .attrs)) r
-          its-turn r y =
-              subst (λ (v : Element). OfRows u z (v .first) (v .many) (λ l. Turn rows n at Stood Stood′ (v .many) (v .place) l r)) (row ∙ its-row) y
-              (the .attrs) (holds-elem (the .holds) .owned)
-
-          next-is : (y : List A)
-              → among z n (placed.elem (the .place) (the .len) (the .attrs) (the .content) (the .later))
-              ≡ (among z (n + length y) (the .later) >>= λ more. is (y ++ more))
-              → Next t u z end k n (x .rest) y (length (the .attrs))
-          next-is y q =
-              subst (λ (v : Forest). Next t u z end k n v y (length (the .attrs))) (sym (the .is))
-              (gives t u z end k (x .own) n (the .place) (the .len) (the .attrs) (the .content) (the .later) (the .holds) (the .ends) y q)
-
-          has-id : (o : Option Placed) → idOf withPlaces (attrsIn z (the .attrs)) ≡ o
-              → cond (nodes.named withPlaces name (record { place = the .place + 1; bytes = stringAt z (the .place + 1) (the .len) }))
-              (idOf withPlaces (attrsIn z (the .attrs))) none
-              ≡ o
-          has-id o q = with-id t u z end k (x .own) n (the .place) (the .len) (the .attrs) (the .content) (the .later) (the .matches) o q
-
-          pub along-skipped : TurnAt Made.Skipped → Along t u z end rows f (getD t (k * 6 + 1) 0) n at Stood′
-          unfolding total
-          along-skipped y =
-              let a = its-turn Made.Skipped y in
-              let q = none-listed t u z end k (x .own) n _ (the .later)
-              (other-is t u z end k (x .own) n (the .place) (the .len) (the .attrs) (the .content) (the .later) (has-id none (a .0))) in
-              on n at 0 (length (the .attrs)) [] (next-is [] q) (omega arith) (omega arith) refl (omega arith) (x .few) Stood′
-              (rw append-nil (a .1 (x .done) (x .stood)))
-
-          pub along-taken : (m : ℕ) → TurnAt (Made.Row m) → Along t u z end rows f (getD t (k * 6 + 1) 0) (n + 1) (at + m) Stood′
-          unfolding total
-          along-taken m y =
-              let a = its-turn (Made.Row m) y in
-              let b = a .2 in
-              let q = taken-is t u z end k (x .own) n (the .place) (the .len) (the .attrs) (the .content) (the .later) (a .0)
-              (has-id (some (a .0)) (a .1)) (b .0) (b .1) in
-              on (n + 1) (at + m) m (length (the .attrs)) (b .0 ∷ []) (next-is (b .0 ∷ []) q) refl refl (b .2 ∙ sym (add-zero (extras (b .0)))) (b .3)
-              (omega (arith, within-limit (a .0) (attrsIn z (the .attrs)) (the .place) n (b .0) (b .1))) Stood′
-              (b .4 (x .done) (sym (x .count)) (x .kept) (x .stood))
-
-          pub along-refused : (q : Refusal) → TurnAt (Made.Refused q) → among z 0 f ≡ turned q
-          along-refused q y =
-              let a = its-turn (Made.Refused q) y in
-              let b = refused-is t u z end k (x .own) n (the .place) (the .len) (the .attrs) (the .content) (the .later) (a .0)
-              (has-id (some (a .0)) (a .1)) q (a .2) in
-              x .means ∙ ap (λ (v : Answer (List A)). v >>= λ more. is (x .done ++ more)) (ap (among z n) (the .is) ∙ b)
-
-    -- ---- none left
-    pub along-done : end ≤ k → Listing extras (among z 0 f) rows (length (attrsOf f)) Stood (record { rows = n; extras = at })
-    unfolding size nodesIn listed
-    along-done j = record {
-      all = x .done;
-      means = all-is (x .rest) (omega (arith, x .ends)) (x .means);
-      count = x .count;
-      few = omega (arith, x .few, x .count);
-      kept = x .kept;
-      within = omega (arith, x .room);
-      standing = x .stood;
+    its-row : elementRow t k ≡ record {
+      place = the .place;
+      «name_len» = the .len;
+      end = k + 1 + size (the .content);
+      first = x .own;
+      many = length (the .attrs);
     }
-      where
-        all-is : (g : Forest) → size g ≡ 0 → among z 0 f ≡ (among z n g >>= λ more. is (x .done ++ more)) → among z 0 f ≡ is (x .done)
-        all-is placed.nil e h = h ∙ ap is (append-nil (x .done))
-        all-is (placed.text p m g) e h = absurd (omega arith)
-        all-is (placed.section p m g) e h = absurd (omega arith)
-        all-is (placed.elem p m l c g) e h = absurd (omega arith)
+    its-row = holds-elem (the .holds) .cells
+
+    gives-on : (y : List A)
+        → listedIn n (placed.elem (the .place) (the .len) (the .attrs) (the .content) (the .later))
+        ≡ (listedIn (n + length y) (the .later) >>= λ more. is (y ++ more))
+        → NextGives y (length (the .attrs))
+    gives-on y q =
+        subst (λ (v : Forest). Next name make extras t u z end k n v y (length (the .attrs))) (sym (the .is))
+        (gives name make extras t u z end k (x .own) n (the .place) (the .len) (the .attrs) (the .content) (the .later) (the .holds) (the .ends) y q)
+
+    module _ (e : Element) (row : e ≡ elementRow t k) where
+      -- ---- what is asked of its attributes
+      pub along-attrs : HasRows u z (e .first) (e .many)
+      along-attrs = rw (row ∙ its-row) (the .attrs, holds-elem (the .holds) .owned)
+
+      pub along-room : at + e .many ≤ rows + length (attrsOf f)
+      unfolding attrsOf
+      along-room =
+          let l = the .attrs in
+          let more = attrsOf (the .content) ++ attrsOf (the .later) in
+          let a : length (attrsOf (x .rest)) ≡ length l + length more = ap (λ (v : Forest). length (attrsOf v)) (the .is) ∙ length-append l more in
+          rw (row ∙ its-row) (omega (arith, x .room))
+
+      -- ---- what it gives
+      module _ (Stood′ : List A → Type 0) where
+        abbrev TurnBy : Element → Made → Type 0
+        TurnBy v r = OfRows u z (v .first) (v .many) (λ l. Turn name make extras rows n at Stood Stood′ (v .many) (v .place) l r)
+
+        its-turn : (r : Made) → TurnBy e r
+            → Turn name make extras rows n at Stood Stood′ (length (the .attrs)) (the .place) (attrsIn z (the .attrs)) r
+        its-turn r y = subst (λ (v : Element). TurnBy v r) (row ∙ its-row) y (the .attrs) (holds-elem (the .holds) .owned)
+
+        its-id : (o : Option Placed) → idOf withPlaces (attrsIn z (the .attrs)) ≡ o
+            → itsId name make extras z n (the .place) (the .len) (the .attrs) (the .content) (the .later) ≡ o
+        its-id o q = id-is name make extras z n (the .place) (the .len) (the .attrs) (the .content) (the .later) (the .matches) o q
+
+        pub along-skipped : TurnBy e Made.Skipped → AlongAt (getD t (k * 6 + 1) 0) n at Stood′
+        along-skipped y =
+            let a = its-turn Made.Skipped y in
+            let q = other-is name make extras z n (the .place) (the .len) (the .attrs) (the .content) (the .later) (its-id none (a .0)) in
+            on-none (length (the .attrs)) (gives-on [] (none-listed name make extras z n _ (the .later) q)) Stood′ (a .1 (x .done) (x .stood))
+
+        pub along-taken : (m : ℕ) → TurnBy e (Made.Row m) → AlongAt (getD t (k * 6 + 1) 0) (n + 1) (at + m) Stood′
+        unfolding total
+        along-taken m y =
+            let a = its-turn (Made.Row m) y in
+            let b = a .2 in
+            let q = taken-is name make extras z n (the .place) (the .len) (the .attrs) (the .content) (the .later) (a .0)
+            (its-id (some (a .0)) (a .1)) (b .0) (b .1) in
+            let few = within-limit name make extras (a .0) (attrsIn z (the .attrs)) (the .place) n (b .0) (b .1) in
+            let many = b .2 ∙ sym (add-zero (extras (b .0))) in
+            on (n + 1) (at + m) m (length (the .attrs)) (b .0 ∷ []) (gives-on (b .0 ∷ []) q) refl refl many (b .3) (omega (arith, few)) Stood′
+            (b .4 (x .done) (sym (x .count)) (x .kept) (x .stood))
+
+        pub along-refused : (q : Refusal) → TurnBy e (Made.Refused q) → listedIn 0 f ≡ turned q
+        along-refused q y =
+            let a = its-turn (Made.Refused q) y in
+            let b = refused-is name make extras z n (the .place) (the .len) (the .attrs) (the .content) (the .later) (a .0)
+            (its-id (some (a .0)) (a .1)) q (a .2) in
+            x .means ∙ ap (λ (v : Answer (List A)). v >>= λ more. is (x .done ++ more)) (ap (listedIn n) (the .is) ∙ b)
+
+  -- ---- none left
+  pub along-done : end ≤ k → Listing extras (listedIn 0 f) rows (length (attrsOf f)) Stood (record { rows = n; extras = at })
+  unfolding size nodesIn listed
+  along-done j = record {
+    all = x .done;
+    means = all-is (x .rest) (omega (arith, x .ends)) (x .means);
+    count = x .count;
+    few = omega (arith, x .few, x .count);
+    kept = x .kept;
+    within = omega (arith, x .room);
+    standing = x .stood;
+  }
+    where
+      all-is : (g : Forest) → size g ≡ 0 → listedIn 0 f ≡ (listedIn n g >>= λ more. is (x .done ++ more)) → listedIn 0 f ≡ is (x .done)
+      all-is placed.nil e h = h ∙ ap is (append-nil (x .done))
+      all-is (placed.text p m g) e h = absurd (omega arith)
+      all-is (placed.section p m g) e h = absurd (omega arith)
+      all-is (placed.elem p m l c g) e h = absurd (omega arith)
