@@ -3,3 +3,4 @@ pub mod Standing
 pub mod Turns
 pub mod Making
 pub mod Looping
+pub mod Finding
