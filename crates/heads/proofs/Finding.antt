@@ -12,6 +12,7 @@ use lib.ListN.{length}
 use lib.Ieee.{Float}
 use Rattle.tree.specs.Trees.{Forest, size, attrsOf}
 use Rattle.track.specs.Tables.{Lengths}
+use Rattle.track.specs.Layout as placing
 use Rattle.xml.specs.declared.find.Found.{Found}
 use Rattle.xml.specs.declared.find.Element.{Element}
 use Rattle.xml.specs.Find.{OfSiblings, findRow, elementRow}
@@ -23,14 +24,15 @@ use Rattle.meaning.specs.Kinds.{withPlaces, nodesIn}
 use Rattle.meaning.specs.Meaning.{contentFrom, inside, listed}
 use Rattle.xml.specs.Reading.{Placed}
 use Rattle.extras.specs.Counts.{attrsNamed}
-use Rattle.extras.proofs.Counts.{First, first-found, first-nothing}
-use Rattle.laid.specs.Laid.{total}
+use Rattle.extras.proofs.Counts.{First, first-found, first-nothing, attrs-few}
+use Rattle.laid.specs.Laid.{laidStyles, laidRegions, total}
 use Rattle.heads.specs.declared.collect.Counting.{Counting}
 use Rattle.heads.specs.declared.collect.Heading.{Heading}
 use Rattle.heads.specs.Steps.{Children, inAll, inStyling, inLayout, inHead, Outcome}
 use Rattle.heads.specs.Steps.{extrasOfStyle, listedStyles, stylesIn, StylesStand, AsksStyles, StylesPost}
 use Rattle.heads.specs.Steps.{extrasOfRegion, listedRegions, regionsIn, RegionsStand, AsksRegions, RegionsPost, alone, insideHead, Cleared, AsksHead, Headed}
 use Rattle.heads.specs.Steps.{HeadTables, HeadOutcome, HeadPost}
+use Rattle.heads.proofs.Standing.{styles-none, regions-none}
 
 -- ---- what `find_element` answers
 abbrev Finds : (t z name : List ℕ) (from end : ℕ) → Found → Type 0
@@ -148,3 +150,73 @@ module _ {t u z : List ℕ} {from end rows : ℕ} {s e : List ℕ} where
       → RegionsPost regionsIn inLayout t u z from end rows s s e e (Counting.Is (record { rows = 0; extras = rows }))
   unfolding listed
   regions-nothing w n st x = outcome-none extrasOfRegion rows (λ l. RegionsStand n rows e l s e) _ _ (ap listedRegions (inside-nothing (ascii "layout") x w)) st
+
+-- ---- the first head
+headed-more : (n : Lengths) (g : Nodes Placed) (T : HeadTables) (many many′ : ℕ) → many ≤ many′ → (r : Heading) → HeadOutcome n g many T r
+    → HeadOutcome n g many′ T r
+headed-more n g T many many′ h (Heading.Is r) y = record {
+  styles = y .styles;
+  regions = y .regions;
+  means-styles = y .means-styles;
+  means-regions = y .means-regions;
+  count-styles = y .count-styles;
+  count-regions = y .count-regions;
+  few-styles = y .few-styles;
+  few-regions = y .few-regions;
+  kept = y .kept;
+  within = omega (arith, y .within);
+  in-styles = y .in-styles;
+  in-regions = y .in-regions;
+  in-sizes = y .in-sizes;
+  in-extras = y .in-extras;
+}
+headed-more n g T many many′ h (Heading.Refused q) y = y
+
+module _ {t u z : List ℕ} {from end : ℕ} {T : HeadTables} where
+  pub head-inside : (a : AsksHead t u z from end T) (k : ℕ) (v : Element) → v ≡ elementRow t k → Finds t z (ascii "head") from end (Found.Row k)
+      → AsksHead t u z (k + 1) (v .end) T
+  head-inside a k v row w =
+      let y = found-first (ascii "head") (a .children) k w in
+      record {
+        small = a .small;
+        long-styles = a .long-styles;
+        long-regions = a .long-regions;
+        long-sizes = a .long-sizes;
+        long-extras = a .long-extras;
+        lengths = a .lengths;
+        cleared = a .cleared;
+        children = first-children y v row;
+        room = omega (arith, first-few y, attrs-few z (ascii "head") (a .children .forest), a .room);
+      }
+
+  pub head-found : (T′ : HeadTables) (k : ℕ) (v : Element) → v ≡ elementRow t k → Finds t z (ascii "head") from end (Found.Row k) → (r : Heading)
+      → HeadPost alone inAll t u z (k + 1) (v .end) T T′ r → HeadPost insideHead inHead t u z from end T T′ r
+  head-found T′ k v row w r p n c x =
+      let y = found-first (ascii "head") x k w in
+      subst (λ (g : Nodes Placed). HeadOutcome n g (inHead z (x .forest)) T′ r) (sym (first-inside y))
+      (headed-more n (nodesIn z (y .content)) T′ (inAll z (y .content)) (inHead z (x .forest)) (first-few y) r (p n c (first-children y v row)))
+
+  -- without a head
+  pub head-nothing : AsksHead t u z from end T → Finds t z (ascii "head") from end Found.Nothing
+      → HeadPost insideHead inHead t u z from end T T (Heading.Is (record { styles = 0; regions = 0; extras = 0 }))
+  unfolding inside firstElement listed total laidRegions placing.regionExtras
+  head-nothing a w n c x =
+      let no : StylesStand n (T .extras) [] (T .styles) (T .sizes) (T .extras) = styles-none (c .styles) (c .sizes) (a .long-sizes) in
+      let none : RegionsStand n 0 (T .extras) [] (T .regions) (T .extras) = regions-none (c .regions) in
+      subst (λ (g : Nodes Placed). HeadOutcome n g (inHead z (x .forest)) T (Heading.Is (record { styles = 0; regions = 0; extras = 0 })))
+      (sym (inside-nothing (ascii "head") x w)) (record {
+        styles = [];
+        regions = [];
+        means-styles = refl;
+        means-regions = refl;
+        count-styles = refl;
+        count-regions = refl;
+        few-styles = omega arith;
+        few-regions = omega arith;
+        kept = refl;
+        within = omega arith;
+        in-styles = no .in-styles;
+        in-regions = none .in-regions;
+        in-sizes = no .in-sizes;
+        in-extras = no .in-extras ∙ ap (λ b. placing.styleExtras b (laidStyles 0 [])) (c .extras);
+      })

@@ -4,3 +4,4 @@ pub mod Turns
 pub mod Making
 pub mod Looping
 pub mod Finding
+pub mod Joining

@@ -133,9 +133,12 @@ RegionsPost m many t u z from end rows s s′ e e′ r =
 
 -- ---- the head
 
+abbrev pub paired : {A B : Type 0} → Answer A → Answer B → Answer (A × B)
+paired a b = a >>= λ x. b >>= λ y. is (x, y)
+
 -- what the head's content means; what tt's content says of it
 abbrev pub headOf : Nodes Placed → Answer (List (Style Placed) × List (Region Placed))
-headOf f = stylesIn f >>= λ ss. regionsIn f >>= λ rs. is (ss, rs)
+headOf f = paired (stylesIn f) (regionsIn f)
 
 abbrev pub insideHead : Nodes Placed → Nodes Placed
 insideHead f = inside withPlaces (ascii "head") f
