@@ -108,15 +108,15 @@ module _ (z : List ℕ) (l : List (Attr Placed)) (name c : Span) (look : declare
       ∙ ap (parts (spanOf (spanIn z name)) (optionSpan (s .chain)) (lookCells (laidLook (lookIn z look)))) (f ∙ sym (rows-after at (s .extras)))))
 
 -- ---- what is evaluated
-bind-assoc : {A B C : Type 0} (a : Answer A) (f : A → Answer B) (g : B → Answer C) → ((a >>= f) >>= g) ≡ (a >>= λ x. f x >>= g)
+pub bind-assoc : {A B C : Type 0} (a : Answer A) (f : A → Answer B) (g : B → Answer C) → ((a >>= f) >>= g) ≡ (a >>= λ x. f x >>= g)
 bind-assoc (is x) f g = refl
 bind-assoc (refused n p) f g = refl
 
 module _ (id : Placed) (l : List (Attr Placed)) where
-  abbrev made : Look Placed → Answer (Style Placed)
+  abbrev pub made : Look Placed → Answer (Style Placed)
   made look = is (styleOfLook id l look)
 
-  style-is : lookAnswer l >>= made ≡ styleOf withPlaces id l
+  pub style-is : lookAnswer l >>= made ≡ styleOf withPlaces id l
   unfolding styleOf
   style-is = by-color (colorOf withPlaces (ascii "tts:color") l)
     where
