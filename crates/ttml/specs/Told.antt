@@ -13,23 +13,19 @@ told number high = number + high % 2 ^ 32 * 2 ^ 32
 
 -- ---- for each case of an answer
 unfoldable pub treeTold : tree.Answer → ℕ
-unfolding told
 treeTold (tree.Answer.Tree n m) = told 0 0
 treeTold (tree.Answer.Refused r) = told (r .number) (r .place)
 
 unfoldable pub checkTold : track.Check → ℕ
-unfolding told
 checkTold track.Check.Track = told 0 0
 checkTold (track.Check.Refused r) = told (r .number) (r .place)
 
 unfoldable pub readTold : reader.Answer → ℕ
-unfolding told
 readTold reader.Answer.Track = told 0 0
 readTold (reader.Answer.Refused r) = told (r .number) (r .place)
 
 -- a text by how many bytes it has
 unfoldable pub writtenTold : writer.Answer → ℕ
-unfolding told
 writtenTold (writer.Answer.Bytes n) = told 0 n
 writtenTold (writer.Answer.Refused r) = told (r .number) (r .place)
 

@@ -21,7 +21,9 @@ told-requires-2 c κs = search needs
 
 returns : tie.Need-returns
 unfolding checkTold
-returns c = record { answer = _; promised = c .before .before .before .check-track .ensures; is = rw (c .before .enum-told .given .1) (c .told .ensures) }
+returns c =
+    let k = c .before .before .before in
+    record { answer = _; promised = k .check-track .ensures; is = rw (c .before .enum-told .given .1) (c .told .ensures) }
 
 returns-2 : tie.Need-returns-2
 unfolding checkTold

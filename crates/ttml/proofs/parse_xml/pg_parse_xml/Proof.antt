@@ -1,14 +1,8 @@
+-- `pg_parse_xml` meets its contract, by the cases of what `parse_xml` answers.
 use borrow.Author.Needs.{needs}
 use Rattle.ttml.proofs.Trees.{reads-short, reads-refused, reads-tree, tree-small}
 use Rattle.ttml.proofs.parse_xml.pg_parse_xml.Statement.{statement}
 use Rattle.ttml.proofs.parse_xml.pg_parse_xml.Tie as tie
-use Rattle.ttml.proofs.parse_xml.pg_parse_xml.Reads as reads
-use Rattle.ttml.proofs.parse_xml.pg_parse_xml.Lts as lts
-use Rattle.scan.proofs.clear.Reads as clear-reads
-use Rattle.scan.proofs.clear_bytes.Reads as clear-bytes-reads
-use Rattle.ttml.proofs.parse_xml.put_counts.Reads as put-counts-reads
-use Rattle.ttml.proofs.told.told.Reads as told-reads
-use Rattle.xml.proofs.parse_xml.Reads as parse-xml-reads
 
 clear-requires : tie.Need-clear-requires
 clear-requires c κs = search needs
@@ -105,7 +99,8 @@ returns-3 c =
     let n = p .before .before .before in
     let x = n .before .before .before .before .before .before .before .before in
     let k = x .before .before .before .before in
-    reads-tree (k .before .before .before .clear .ensures) _ _ (k .if1 .left) (n .n .given .1) (x .parse-xml .ensures) (c .told3 .ensures) (p .put-counts .ensures)
+    reads-tree (k .before .before .before .clear .ensures) _ _ (k .if1 .left) (n .n .given .1) (x .parse-xml .ensures) (c .told3 .ensures)
+    (p .put-counts .ensures)
 
 pub pg-parse-xml-spec : {M : Type 1} → statement M
 pg-parse-xml-spec =

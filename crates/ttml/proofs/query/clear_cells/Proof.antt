@@ -1,4 +1,5 @@
--- `clear_cells` meets its contract. The loop's invariant: the first `i` cells are 0, the others as they were. The measure is what is left of the table.
+-- `clear_cells` meets its contract. The loop's invariant: the first `i` cells are 0, the others as they were. The measure is what is left of
+-- the table.
 use Prim.Native.Nat.{ℕ, _-_}
 use native.Mathlib.Omega.{arith}
 use borrow.Author.Needs.{needs}

@@ -1,3 +1,4 @@
+-- `put_answer` meets its contract: its parts, one after the other.
 use borrow.Author.Needs.{needs}
 use Rattle.ttml.proofs.query.put_answer.Statement.{statement}
 use Rattle.ttml.proofs.query.put_answer.Tie as tie
@@ -24,7 +25,14 @@ same-length-2 : tie.Need-same-length-2
 same-length-2 c = search needs
 
 returns : tie.Need-returns
-returns c = record { cells = rw (c .before .before .before .put-rest .ensures, c .before .before .before .before .before .before .before .put-font .ensures, c .before .before .before .before .before .before .before .before .before .before .before .put-colors .ensures, c .before .before .before .before .before .before .before .before .before .before .before .before .before .before .before .put-start .ensures); float = search needs }
+returns c =
+    let r = c .before .before .before in
+    let f = r .before .before .before .before in
+    let k = f .before .before .before .before in
+    record {
+      cells = rw (r .put-rest .ensures, f .put-font .ensures, k .put-colors .ensures, k .before .before .before .before .put-start .ensures);
+      float = search needs;
+    }
 
 pub put-answer-spec : {M : Type 1} → statement M
 put-answer-spec =

@@ -1,3 +1,4 @@
+-- `put_colors` meets its contract: the two colours, each with its flag.
 use borrow.Author.Needs.{needs}
 use Rattle.ttml.proofs.query.put_colors.Statement.{statement}
 use Rattle.ttml.proofs.query.put_colors.Tie as tie
@@ -18,7 +19,9 @@ same-length : tie.Need-same-length
 same-length c = search needs
 
 returns : tie.Need-returns
-returns c = rw (c .before .before .put-back .ensures, c .before .before .before .before .before .before .before .put-color .ensures, c .before .before .before .before .before .before .before .before .flag .ensures, c .before .before .before .flag2 .ensures)
+returns c =
+    let k = c .before .before .before .before .before .before .before in
+    rw (c .before .before .put-back .ensures, k .put-color .ensures, k .before .flag .ensures, c .before .before .before .flag2 .ensures)
 
 pub put-colors-spec : {M : Type 1} → statement M
 put-colors-spec =

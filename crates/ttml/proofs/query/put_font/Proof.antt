@@ -1,3 +1,4 @@
+-- `put_font` meets its contract: the family and the size, each with its flag.
 use borrow.Author.Needs.{needs}
 use Rattle.ttml.proofs.query.put_font.Statement.{statement}
 use Rattle.ttml.proofs.query.put_font.Tie as tie
@@ -21,7 +22,10 @@ same-length : tie.Need-same-length
 same-length c = search needs
 
 returns : tie.Need-returns
-returns c = rw (c .before .before .put-size .ensures, c .before .before .before .before .before .before .before .before .put-family .ensures, c .before .before .before .before .before .before .before .before .before .flag .ensures, c .before .before .before .before .flag2 .ensures, c .before .before .before .flag3 .ensures)
+returns c =
+    let z = c .before .before in
+    let k = c .before .before .before .before .before .before .before .before in
+    rw (z .put-size .ensures, k .put-family .ensures, k .before .flag .ensures, z .before .before .flag2 .ensures, z .before .flag3 .ensures)
 
 pub put-font-spec : {M : Type 1} → statement M
 put-font-spec =

@@ -1,3 +1,4 @@
+-- `put_rest` meets its contract: four flags and the alignment.
 use borrow.Author.Needs.{needs}
 use Rattle.ttml.proofs.query.put_rest.Statement.{statement}
 use Rattle.ttml.proofs.query.put_rest.Tie as tie
@@ -24,7 +25,11 @@ same-length : tie.Need-same-length
 same-length c = search needs
 
 returns : tie.Need-returns
-returns c = rw (c .before .before .put-flags .ensures, c .before .before .before .before .before .before .before .before .flag .ensures, c .before .before .before .before .before .before .before .flag2 .ensures, c .before .before .before .before .before .before .flag3 .ensures, c .before .before .before .before .before .flag4 .ensures, c .before .before .before .align .ensures)
+returns c =
+    let z = c .before .before in
+    let f = z .before .before .before in
+    rw (z .put-flags .ensures, f .before .before .before .flag .ensures, f .before .before .flag2 .ensures, f .before .flag3 .ensures)
+    (rw (f .flag4 .ensures, z .before .align .ensures))
 
 pub put-rest-spec : {M : Type 1} → statement M
 put-rest-spec =

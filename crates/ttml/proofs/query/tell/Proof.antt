@@ -1,5 +1,6 @@
-use Rattle.ttml.proofs.Queries.{tell-refused, tell-none, tell-style}
+-- `tell` meets its contract, by the cases of an answer.
 use borrow.Author.Needs.{needs}
+use Rattle.ttml.proofs.Queries.{tell-refused, tell-none, tell-style}
 use Rattle.ttml.proofs.query.tell.Statement.{statement}
 use Rattle.ttml.proofs.query.tell.Tie as tie
 
@@ -34,7 +35,10 @@ same-length-2 : tie.Need-same-length-2
 same-length-2 c = search needs
 
 returns : tie.Need-returns
-returns c = tell-refused _ _ _ (c .before .before .before .before .before .before .before .before .before .answer .given .1) (c .before .before .before .before .before .before .before .blank .ensures) (c .before .before .before .before .put-answer .ensures)
+returns c =
+    let p = c .before .before .before .before in
+    let k = p .before .before .before in
+    tell-refused _ _ _ (k .before .before .answer .given .1) (k .blank .ensures) (p .put-answer .ensures)
 
 same-length-3 : tie.Need-same-length-3
 same-length-3 c = search needs
@@ -43,7 +47,10 @@ same-length-4 : tie.Need-same-length-4
 same-length-4 c = search needs
 
 returns-2 : tie.Need-returns-2
-returns-2 c = tell-none _ _ _ (c .before .before .before .before .before .before .before .before .before .answer2 .given .1) (c .before .before .before .before .before .before .before .blank2 .ensures) (c .before .before .before .before .put-answer2 .ensures)
+returns-2 c =
+    let p = c .before .before .before .before in
+    let k = p .before .before .before in
+    tell-none _ _ _ (k .before .before .answer2 .given .1) (k .blank2 .ensures) (p .put-answer2 .ensures)
 
 same-length-5 : tie.Need-same-length-5
 same-length-5 c = search needs
@@ -52,7 +59,9 @@ same-length-6 : tie.Need-same-length-6
 same-length-6 c = search needs
 
 returns-3 : tie.Need-returns-3
-returns-3 c = tell-style _ _ (c .before .before .before .before .before .before .before .before .before .before .answer3 .given .1) (c .before .before .before .before .put-answer3 .ensures)
+returns-3 c =
+    let p = c .before .before .before .before in
+    tell-style _ _ (p .before .before .before .before .before .before .answer3 .given .1) (p .put-answer3 .ensures)
 
 pub tell-spec : {M : Type 1} → statement M
 tell-spec =
