@@ -11,7 +11,7 @@
 use Prim.Native.Nat.{ℕ, _+_, _-_, _*_, _≤_, _<_}
 use mathlib.Core.Path.{_≡_, refl, sym, ap, _∙_, subst}
 use mathlib.Core.Bool.{Bool, true, false}
-use mathlib.Core.List.{List, [], _++_, append-assoc}
+use mathlib.Core.List.{List, [], _++_}
 use mathlib.Core.Option.{Option, none, some}
 use native.Mathlib.Omega.{arith}
 use lib.IntN.{ℤ}
@@ -48,7 +48,7 @@ use Rattle.cues.specs.declared.sums.Moment.{Moment}
 use Rattle.cues.specs.Steps.{momentSaid, beginFrom, startFrom, endFrom, CueTables, Spacious, Base, Lined, Child, Children, AsksChild, AsksCues}
 use Rattle.cues.specs.Steps.{Came, Outcome, ParagraphPost, within, ContainerPost, divIn, DivPost, Closes, childIn, ElementPost}
 use Rattle.cues.specs.Steps.{following, CuesPost, noLine, Bodies, AsksBody, BodyOutcome, BodyPost}
-use Rattle.extras.proofs.Counts.{First, first-found, first-nothing}
+use Rattle.extras.proofs.Counts.{First, first-found, first-nothing, regroup}
 
 -- ---- steps of an answer
 
@@ -355,9 +355,6 @@ pub record Headed {b : Base} {limit : ℕ} {t u z : List ℕ} {k end : ℕ} {lin
   pub holds : Holds t u z (getD t (k * 6 + 1) 0) own others
   pub rows : getD t (k * 6 + 1) 0 + size others ≡ end
   pub order : InOrder mid (spans others) limit
-
-regroup : (a b c : List Span) → a ++ (b ++ c) ≡ (a ++ (b ++ [])) ++ c
-regroup a b c = simp append-assoc
 
 module _ {b : Base} {limit : ℕ} {t u z : List ℕ} {k end : ℕ} {line : Line} {T : CueTables} (own hi : ℕ) (earlier : List (Cue Placed))
     (st : Lined b hi earlier line T) where
