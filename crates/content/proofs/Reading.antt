@@ -1,4 +1,5 @@
 -- What the readers of nodes answer is what the nodes mean. Assumes nothing.
+--     bind-is, bind-no, no-size, row-end          steps of an answer; siblings without rows; the row after a node
 --     given-came                                  a node that gives segments, or number 13
 --     text-came, break-came, unknown-came         by kinds of nodes
 --     span-refused, span-inside, span-came        a span, as far as it is read

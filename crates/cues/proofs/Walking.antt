@@ -11,7 +11,7 @@
 use Prim.Native.Nat.{ℕ, _+_, _-_, _*_, _≤_, _<_}
 use mathlib.Core.Path.{_≡_, refl, sym, ap, _∙_, subst}
 use mathlib.Core.Bool.{Bool, true, false}
-use mathlib.Core.List.{List, [], _++_, append-assoc}
+use mathlib.Core.List.{List, [], _++_}
 use mathlib.Core.Option.{Option, none, some}
 use native.Mathlib.Omega.{arith}
 use lib.IntN.{ℤ}
@@ -21,7 +21,7 @@ use Rattle.times.specs.declared.offset.TimingCtx.{TimingCtx}
 use Rattle.tree.specs.declared.answers.Refusal.{Refusal}
 use Rattle.tree.specs.Trees.{Forest, size, attrsOf, Span, attrSpans, spans, InOrder}
 use Rattle.tree.specs.Trees as placed
-use Rattle.tree.proofs.Places.{in-lower, in-first, in-rest, in-whole}
+use Rattle.tree.proofs.Places.{in-lower, in-first, in-rest}
 use Rattle.track.specs.Track.{Cue}
 use Rattle.xml.specs.declared.find.Found.{Found}
 use Rattle.xml.specs.declared.find.Element.{Element}
@@ -48,7 +48,7 @@ use Rattle.cues.specs.declared.sums.Moment.{Moment}
 use Rattle.cues.specs.Steps.{momentSaid, beginFrom, startFrom, endFrom, CueTables, Spacious, Base, Lined, Child, Children, AsksChild, AsksCues}
 use Rattle.cues.specs.Steps.{Came, Outcome, ParagraphPost, within, ContainerPost, divIn, DivPost, Closes, childIn, ElementPost}
 use Rattle.cues.specs.Steps.{following, CuesPost, noLine, Bodies, AsksBody, BodyOutcome, BodyPost}
-use Rattle.extras.proofs.Counts.{First, first-found, first-nothing}
+use Rattle.extras.proofs.Counts.{First, first-found, first-nothing, regroup}
 
 -- ---- steps of an answer
 
@@ -221,7 +221,6 @@ module _ {b : Base} {limit : ℕ} {t u z : List ℕ} {k : ℕ} {line : Line} {T 
     rows = refl;
     hi = x .hi;
     placed = inner-order;
-    within = x .within;
     earlier = x .earlier;
     standing = x .standing;
     room = omega (arith, x .room);
@@ -356,13 +355,9 @@ pub record Headed {b : Base} {limit : ℕ} {t u z : List ℕ} {k end : ℕ} {lin
   pub holds : Holds t u z (getD t (k * 6 + 1) 0) own others
   pub rows : getD t (k * 6 + 1) 0 + size others ≡ end
   pub order : InOrder mid (spans others) limit
-  pub mid-within : mid ≤ limit
-
-regroup : (a b c : List Span) → a ++ (b ++ c) ≡ (a ++ (b ++ [])) ++ c
-regroup a b c = simp append-assoc
 
 module _ {b : Base} {limit : ℕ} {t u z : List ℕ} {k end : ℕ} {line : Line} {T : CueTables} (own hi : ℕ) (earlier : List (Cue Placed))
-    (top : limit ≤ b .lengths .texts) (st : Lined b hi earlier line T) where
+    (st : Lined b hi earlier line T) where
   abbrev of-forest : (f : Forest) → Holds t u z k own f → k + size f ≡ end → InOrder hi (spans f) limit
       → line .extras + length (attrsOf f) ≤ 8192 → Children b limit t u z k end line T
   of-forest f h e o m = record {
@@ -372,7 +367,6 @@ module _ {b : Base} {limit : ℕ} {t u z : List ℕ} {k end : ℕ} {line : Line}
     rows = e;
     hi = hi;
     placed = o;
-    within = top;
     earlier = earlier;
     standing = st;
     room = m;
@@ -389,7 +383,6 @@ module _ {b : Base} {limit : ℕ} {t u z : List ℕ} {k end : ℕ} {line : Line}
       let inside : List Span = attrSpans l ++ (spans c ++ []) in
       let o′ : InOrder (p + 1 + n) (inside ++ spans g) limit = rw (← (regroup (attrSpans l) (spans c) (spans g))) (o .1) in
       let w = in-split inside (spans g) (p + 1 + n) limit o′ in
-      let top′ : w .mid ≤ limit = in-whole (spans g) (w .mid) limit (w .rest) in
       record {
         mid = w .mid;
         child = record {
@@ -401,7 +394,6 @@ module _ {b : Base} {limit : ℕ} {t u z : List ℕ} {k end : ℕ} {line : Line}
           holds = holds-alone h;
           hi = hi;
           placed = (o .0, w .first);
-          within = omega (arith, top, top′);
           earlier = earlier;
           standing = st;
           room = omega (arith, simp length-append at m);
@@ -413,12 +405,11 @@ module _ {b : Base} {limit : ℕ} {t u z : List ℕ} {k end : ℕ} {line : Line}
         holds = rw (a .row .end-is) (a .later);
         rows = rw (a .row .end-is) (omega arith);
         order = w .rest;
-        mid-within = top′;
       }
 
 headed : {b : Base} {limit : ℕ} {t u z : List ℕ} {k end : ℕ} {line : Line} {T : CueTables} (x : Children b limit t u z k end line T)
     → k < end → getD t (k * 6) 0 ≡ 2 → Headed x
-headed x j kind = head-of (x .own) (x .hi) (x .earlier) (x .within) (x .standing) (x .forest) (x .holds) (x .rows) (x .placed) (x .room) j kind
+headed x j kind = head-of (x .own) (x .hi) (x .earlier) (x .standing) (x .forest) (x .holds) (x .rows) (x .placed) (x .room) j kind
 
 head-many : {b : Base} {limit : ℕ} {t u z : List ℕ} {k end : ℕ} {line : Line} {T : CueTables} {x : Children b limit t u z k end line T}
     (h : Headed x) → length (attrsOf (x .forest)) ≡ length (h .child .attrs) + length (attrsOf (h .child .content)) + length (attrsOf (h .others))
@@ -439,9 +430,9 @@ pub record Passed {b : Base} {limit : ℕ} {t u z : List ℕ} {k end : ℕ} {lin
       ≡ cuesIn withPlaces ctx seq (spaceIn ws) begin reference latest cues (nodesIn z others)
 
 module _ {b : Base} {limit : ℕ} {t u z : List ℕ} {k end : ℕ} {line : Line} {T : CueTables} (own hi : ℕ) (earlier : List (Cue Placed))
-    (top : limit ≤ b .lengths .texts) (st : Lined b hi earlier line T) where
+    (st : Lined b hi earlier line T) where
   passed-of : (f : Forest) (h : Holds t u z k own f) (e : k + size f ≡ end) (o : InOrder hi (spans f) limit)
-      (m : line .extras + length (attrsOf f) ≤ 8192) → k < end → (getD t (k * 6) 0 ≡ 2 → ⊥) → Passed (of-forest own hi earlier top st f h e o m)
+      (m : line .extras + length (attrsOf f) ≤ 8192) → k < end → (getD t (k * 6) 0 ≡ 2 → ⊥) → Passed (of-forest own hi earlier st f h e o m)
   unfolding size spans attrsOf nodesIn
   passed-of placed.nil h e o m j ne = absurd (omega arith)
   passed-of (placed.text p n g) h e o m j ne =
@@ -470,7 +461,7 @@ module _ {b : Base} {limit : ℕ} {t u z : List ℕ} {k end : ℕ} {line : Line}
 
 passed : {b : Base} {limit : ℕ} {t u z : List ℕ} {k end : ℕ} {line : Line} {T : CueTables} (x : Children b limit t u z k end line T)
     → k < end → (getD t (k * 6) 0 ≡ 2 → ⊥) → Passed x
-passed x j ne = passed-of (x .own) (x .hi) (x .earlier) (x .within) (x .standing) (x .forest) (x .holds) (x .rows) (x .placed) (x .room) j ne
+passed x j ne = passed-of (x .own) (x .hi) (x .earlier) (x .standing) (x .forest) (x .holds) (x .rows) (x .placed) (x .room) j ne
 
 -- how long the tables are
 pub record SameLengths (T T′ : CueTables) : Type 0 where
@@ -578,7 +569,6 @@ module _ {t u z : List ℕ} {from end : ℕ} {seq : Bool} {begin : ℤ} {ctx : T
               rows = p .rows;
               hi = g .to .hi;
               placed = p .order;
-              within = g .to .within;
               earlier = g .to .earlier;
               standing = g .to .standing;
               room = omega (arith, g .to .room, p .many);
@@ -621,7 +611,6 @@ module _ {t u z : List ℕ} {from end : ℕ} {seq : Bool} {begin : ℤ} {ctx : T
                 rows = h .rows;
                 hi = c .hi;
                 placed = in-lower (spans (h .others)) (c .hi) (h .mid) limit (c .below) (h .order);
-                within = g .to .within;
                 earlier = c .cues;
                 standing = c .standing;
                 room = omega (arith, g .to .room, c .few, n);
@@ -682,7 +671,6 @@ module _ {b : Base} {limit : ℕ} {t u z : List ℕ} {from end rows : ℕ} {T : 
           holds = y .holds;
           hi = 0;
           placed = y .placed 0 limit (x .placed);
-          within = x .within;
           earlier = [];
           standing = x .standing;
           room = omega (arith, x .room, y .many);

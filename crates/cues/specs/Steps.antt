@@ -319,7 +319,6 @@ pub record Child (b : Base) (limit : ℕ) (t u z : List ℕ) (k : ℕ) (line : L
   pub holds : Holds t u z k own (placed.elem place len attrs content placed.nil)
   pub hi : ℕ
   pub placed : InOrder hi (spans (placed.elem place len attrs content placed.nil)) limit
-  pub within : limit ≤ b .lengths .texts
   pub earlier : List (Cue Placed)
   pub standing : Lined b hi earlier line T
   pub room : line .extras + (length attrs + length (attrsOf content)) ≤ 8192
@@ -332,7 +331,6 @@ pub record Children (b : Base) (limit : ℕ) (t u z : List ℕ) (from end : ℕ)
   pub rows : from + size forest ≡ end
   pub hi : ℕ
   pub placed : InOrder hi (spans forest) limit
-  pub within : limit ≤ b .lengths .texts
   pub earlier : List (Cue Placed)
   pub standing : Lined b hi earlier line T
   pub room : line .extras + length (attrsOf forest) ≤ 8192
@@ -371,7 +369,7 @@ ChildPost m t u z k line T T′ r =
     (b : Base) (limit : ℕ) (x : Child b limit t u z k line T)
     → Outcome b limit line (length (x .attrs) + length (attrsOf (x .content))) T′
     (m (x .earlier) (x .place) (record { place = x .place + 1; bytes = stringAt z (x .place + 1) (x .len) }) (attrsIn z (x .attrs))
-    (nodesIn z (x .content))) r
+        (nodesIn z (x .content))) r
 
 abbrev pub ParagraphPost : (t u z : List ℕ) (k : ℕ) (reference : ℤ) → TimingCtx → WsMode → (line : Line) (T T′ : CueTables) → Lining → Type 0
 ParagraphPost t u z k reference ctx ws line T T′ r =

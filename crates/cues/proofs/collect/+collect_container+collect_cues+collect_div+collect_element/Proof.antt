@@ -1,7 +1,7 @@
 -- The four readers of timed elements meet their contracts. The measure is four times how many rows are read, and which of them reads. The loop
 -- over siblings is `Walked`. Assumes nothing.
 use Prim.Native.Nat.{ℕ, _+_, _-_, _*_, _≤_, _<_}
-use mathlib.Core.Path.{_≡_, sym, _∙_}
+use mathlib.Core.Path.{_≡_, sym, ap, _∙_}
 use native.Mathlib.Omega.{arith}
 use lib.ListN.{length, getD}
 use mir.Syntax.{w64}
@@ -11,7 +11,8 @@ use mir.ValLaws as laws
 use borrow.Author.Needs.{needs}
 use Rattle.content.proofs.Reading.{element-end}
 use Rattle.meaning.specs.Cues.{later}
-use Rattle.cues.specs.Steps.{seven, following}
+use Rattle.cues.specs.declared.sums.Moment.{Moment}
+use Rattle.cues.specs.Steps.{momentSaid, seven, following}
 use Rattle.cues.proofs.Walking.{child-row, child-room, child-end, child-attrs, inner-asks, container-came, div-refused, div-inside, div-came}
 use Rattle.cues.proofs.Walking.{child-div, child-p, child-unknown, Walked, walked-start, walked-row, walked-next, walked-asks}
 use Rattle.cues.proofs.Walking.{walked-pass, walked-step, walked-fail, walked-done}
@@ -546,11 +547,11 @@ collect-div-returns-2 t c =
     let e = c27 .element-at in
     let x = c24 .start .given .0 .0 in
     let h = rw (toZ-ofZ (s .fits .reference)) at (c26 .start-of .ensures) in
-    let at = laws.toZ-ofZ w64 x (record { sfits = c23 .known-told2 .given .0 .1 }) in
+    let said = ap (λ v. momentSaid (Moment.Is v)) (laws.toZ-ofZ w64 x (record { sfits = c23 .known-told2 .given .0 .1 })) in
     div-inside _ _ _ _ _ (a .ws) _ _
     (seven (v .0) (v .1 .0) (v .1 .1 .0) (v .1 .1 .1 .0) (v .1 .1 .1 .1 .0) (v .1 .1 .1 .1 .1 .0) (v .1 .1 .1 .1 .1 .1 .0))
-    (e .result) (e .ensures) (a .reference) x (λ l o. rw (c24 .start .given .1) at (h l o)) (c .before .r2 .given .0 .0)
-    (rw (c .before .r2 .given .1, at) at (d .ensures))
+    (e .result) (e .ensures) (a .reference) (toZ w64 (ofZ w64 x)) (λ l o. said ∙ (rw (c24 .start .given .1) at (h l o))) (c .before .r2 .given .0 .0)
+    (rw (c .before .r2 .given .1) at (d .ensures))
 
 collect-div-same-length-8 : (t : ℕ) → collect-div-lts.Need-same-length-8 (div t) (collect-div-at t) collect-div.Post
 collect-div-same-length-8 t c = search needs
@@ -587,11 +588,11 @@ collect-div-returns-3 t c =
     let e = c28 .element-at in
     let x = c25 .start .given .0 .0 in
     let h = rw (toZ-ofZ (s .fits .reference)) at (c27 .start-of .ensures) in
-    let at = laws.toZ-ofZ w64 x (record { sfits = c24 .known-told2 .given .0 .1 }) in
+    let said = ap (λ v. momentSaid (Moment.Is v)) (laws.toZ-ofZ w64 x (record { sfits = c24 .known-told2 .given .0 .1 })) in
     div-came _ _ _ _ _ (a .ws) _ _
     (seven (v .0) (v .1 .0) (v .1 .1 .0) (v .1 .1 .1 .0) (v .1 .1 .1 .1 .0) (v .1 .1 .1 .1 .1 .0) (v .1 .1 .1 .1 .1 .1 .0))
-    (e .result) (e .ensures) (a .reference) x (λ l o. rw (c25 .start .given .1) at (h l o)) (c .before .before .inner .given .0 .0)
-    (rw (c .before .before .inner .given .1, at) at (d .ensures)) (c .close-div .result) (rw at at (c .close-div .ensures))
+    (e .result) (e .ensures) (a .reference) (toZ w64 (ofZ w64 x)) (λ l o. said ∙ (rw (c25 .start .given .1) at (h l o))) (c .before .before .inner .given .0 .0)
+    (rw (c .before .before .inner .given .1) at (d .ensures)) (c .close-div .result) (c .close-div .ensures)
 
 collect-element-slice-aggregate-is-element : (t : ℕ) → collect-element-lts.Need-slice-aggregate-is-element (element t)
     (collect-element-at t) collect-element.Post

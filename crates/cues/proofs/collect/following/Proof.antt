@@ -5,10 +5,10 @@ use Rattle.cues.proofs.collect.following.Reads as reads
 use Rattle.cues.proofs.collect.following.Lts as lts
 
 returns : tie.Need-returns
-returns c = rw (toZ-ofZ (c .before .fits .end), c .if1 .taken)
+returns c = let f = c .before .fits in simp (toZ-ofZ (f .begin), toZ-ofZ (f .end), c .if1 .taken)
 
 returns-2 : tie.Need-returns-2
-returns-2 c = rw (toZ-ofZ (c .before .fits .begin), c .if1 .left)
+returns-2 c = let f = c .before .fits in simp (toZ-ofZ (f .begin), toZ-ofZ (f .end), c .if1 .left)
 
 pub following-spec : {M : Type 1} → statement M
 following-spec = tie.close (tie.spec returns returns-2)
