@@ -1,5 +1,5 @@
 -- The first styling, layout and head: what is read of its content is what its siblings mean. Assumes nothing.
---     found-first, found-row, found-children, inside-found, inside-nothing     what `find_element` answers
+--     found-first, first-row                           the element that `find_element` answers
 --     styles-inside, styles-found, styles-nothing      the first styling
 --     regions-inside, regions-found, regions-nothing   the first layout
 --     head-inside, head-found, head-nothing            the first head
@@ -7,10 +7,9 @@ use Prim.Native.Nat.{ℕ, _+_, _*_, _≤_}
 use mathlib.Core.Path.{_≡_, refl, sym, ap, _∙_, subst}
 use mathlib.Core.List.{List, []}
 use native.Mathlib.Omega.{arith}
-use native.Mathlib.Nat.{sub-zero}
 use lib.ListN.{length}
 use lib.Ieee.{Float}
-use Rattle.tree.specs.Trees.{Forest, size, attrsOf}
+use Rattle.tree.specs.Trees.{Forest}
 use Rattle.track.specs.Tables.{Lengths}
 use Rattle.track.specs.Layout as placing
 use Rattle.xml.specs.declared.find.Found.{Found}
@@ -30,8 +29,8 @@ use Rattle.heads.specs.declared.collect.Counting.{Counting}
 use Rattle.heads.specs.declared.collect.Heading.{Heading}
 use Rattle.heads.specs.Steps.{Children, inAll, inStyling, inLayout, inHead, Outcome}
 use Rattle.heads.specs.Steps.{extrasOfStyle, listedStyles, stylesIn, StylesStand, AsksStyles, StylesPost}
-use Rattle.heads.specs.Steps.{extrasOfRegion, listedRegions, regionsIn, RegionsStand, AsksRegions, RegionsPost, alone, insideHead, Cleared, AsksHead, Headed}
-use Rattle.heads.specs.Steps.{HeadTables, HeadOutcome, HeadPost}
+use Rattle.heads.specs.Steps.{extrasOfRegion, listedRegions, regionsIn, RegionsStand, AsksRegions, RegionsPost}
+use Rattle.heads.specs.Steps.{alone, insideHead, AsksHead, HeadTables, HeadOutcome, HeadPost}
 use Rattle.heads.proofs.Standing.{styles-none, regions-none}
 
 -- ---- what `find_element` answers
@@ -116,12 +115,14 @@ module _ {t u z : List ℕ} {from end : ℕ} {s : List ℕ} {f : List Float} {e 
         → StylesPost listedStyles inAll t u z (k + 1) (v .end) s s′ f f′ e e′ r → StylesPost stylesIn inStyling t u z from end s s′ f f′ e e′ r
     styles-found k v row w r p n st x =
         let y = found-first (ascii "styling") x k w in
-        outcome-more extrasOfStyle 0 (λ l. StylesStand n e l s′ f′ e′) _ _ _ _ (ap listedStyles (first-inside y)) (first-few y) r (p n st (first-children y v row))
+        outcome-more extrasOfStyle 0 (λ l. StylesStand n e l s′ f′ e′) _ _ _ _ (ap listedStyles (first-inside y)) (first-few y) r
+        (p n st (first-children y v row))
 
   pub styles-nothing : Finds t z (ascii "styling") from end Found.Nothing
       → StylesPost stylesIn inStyling t u z from end s s f f e e (Counting.Is (record { rows = 0; extras = 0 }))
   unfolding listed
-  styles-nothing w n st x = outcome-none extrasOfStyle 0 (λ l. StylesStand n e l s f e) _ _ (ap listedStyles (inside-nothing (ascii "styling") x w)) st
+  styles-nothing w n st x =
+      outcome-none extrasOfStyle 0 (λ l. StylesStand n e l s f e) _ _ (ap listedStyles (inside-nothing (ascii "styling") x w)) st
 
 -- ---- the first layout
 module _ {t u z : List ℕ} {from end rows : ℕ} {s e : List ℕ} where
@@ -144,12 +145,14 @@ module _ {t u z : List ℕ} {from end rows : ℕ} {s e : List ℕ} where
         → RegionsPost listedRegions inAll t u z (k + 1) (v .end) rows s s′ e e′ r → RegionsPost regionsIn inLayout t u z from end rows s s′ e e′ r
     regions-found k v row w r p n st x =
         let y = found-first (ascii "layout") x k w in
-        outcome-more extrasOfRegion rows (λ l. RegionsStand n rows e l s′ e′) _ _ _ _ (ap listedRegions (first-inside y)) (first-few y) r (p n st (first-children y v row))
+        outcome-more extrasOfRegion rows (λ l. RegionsStand n rows e l s′ e′) _ _ _ _ (ap listedRegions (first-inside y)) (first-few y) r
+        (p n st (first-children y v row))
 
   pub regions-nothing : Finds t z (ascii "layout") from end Found.Nothing
       → RegionsPost regionsIn inLayout t u z from end rows s s e e (Counting.Is (record { rows = 0; extras = rows }))
   unfolding listed
-  regions-nothing w n st x = outcome-none extrasOfRegion rows (λ l. RegionsStand n rows e l s e) _ _ (ap listedRegions (inside-nothing (ascii "layout") x w)) st
+  regions-nothing w n st x =
+      outcome-none extrasOfRegion rows (λ l. RegionsStand n rows e l s e) _ _ (ap listedRegions (inside-nothing (ascii "layout") x w)) st
 
 -- ---- the first head
 headed-more : (n : Lengths) (g : Nodes Placed) (T : HeadTables) (many many′ : ℕ) → many ≤ many′ → (r : Heading) → HeadOutcome n g many T r

@@ -1,4 +1,5 @@
 -- The styles and the regions of a head, together what its content means. Assumes nothing.
+--     head-stops                                  a head that is refused, in `trackIn`
 --     apart-of                                    an element has one name
 --     asks-styles, asks-regions                   what is asked of the one and then of the other
 --     head-styles, head-regions, head-both        the answer
@@ -31,7 +32,7 @@ use Rattle.heads.specs.declared.collect.Count.{Count}
 use Rattle.heads.specs.declared.collect.Counting.{Counting}
 use Rattle.heads.specs.declared.collect.Heading.{Heading}
 use Rattle.heads.specs.Steps.{inAll, inStyling, inLayout, stylesIn, StylesStand, AsksStyles, StylesPost}
-use Rattle.heads.specs.Steps.{regionsIn, RegionsStand, AsksRegions, RegionsPost, alone, paired, headOf, four, Cleared, AsksHead, HeadPost}
+use Rattle.heads.specs.Steps.{regionsIn, AsksRegions, RegionsPost, alone, paired, headOf, four, Cleared, AsksHead, HeadPost}
 use Rattle.heads.proofs.Standing.{styles-none, regions-none}
 
 -- ---- one answer after the other

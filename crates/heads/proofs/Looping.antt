@@ -1,8 +1,8 @@
 -- The loops over styles and regions. Assumes nothing.
---     StylesAlong, styles-start, styles-row, styles-asks           the styles up to row k are read, and what is asked of the next
---     styles-passed, styles-skipped, styles-taken                  one turn
---     styles-refused, styles-done                                  the answer
---     RegionsAlong, regions-start, regions-row, regions-asks, regions-passed, regions-skipped, regions-taken, regions-refused, regions-done
+--     StylesAlong, styles-start, styles-row, styles-next, style-asks, styles-few    styles up to row k are read, and what is asked of the next
+--     styles-passed, styles-skipped, styles-taken                                   one turn
+--     styles-refused, styles-done                                                   the answer
+--     RegionsAlong, regions-start, and so on                                        the same of regions
 use Prim.Native.Nat.{ℕ, _+_, _*_, _≤_, _<_, _^_}
 use mathlib.Core.Path.{_≡_, refl, _∙_}
 use mathlib.Core.Bool.{true, false}

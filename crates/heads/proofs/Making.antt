@@ -1,24 +1,23 @@
 -- What `build_style` and `build_region` ensure is one turn of the loops over styles and regions. Assumes nothing.
 --     style-turn, region-turn
-use Prim.Native.Nat.{ℕ, _+_, _≤_, _<_}
-use mathlib.Core.Path.{_≡_, refl, sym, ap, _∙_}
-use mathlib.Core.List.{List, [], _∷_, _++_}
+use Prim.Native.Nat.{ℕ, _+_, _≤_}
+use mathlib.Core.Path.{_≡_}
+use mathlib.Core.List.{List}
 use native.Mathlib.Omega.{arith}
 use lib.ListN.{length}
 use lib.Ieee.{Float}
-use Rattle.names.specs.Lists.{styleExtra, regionAttr}
 use Rattle.names.specs.declared.tables.Listed.{Listed}
 use Rattle.tree.specs.Trees as placed
-use Rattle.track.specs.Track.{Look, Style, Region}
+use Rattle.track.specs.Track.{Style, Region}
 use Rattle.track.specs.Tables.{Lengths}
 use Rattle.xml.specs.Find.{Owned}
 use Rattle.xml.specs.Reading.{Placed}
-use Rattle.meaning.specs.Answers.{Answer, is, _>>=_, within}
+use Rattle.meaning.specs.Answers.{is, within}
 use Rattle.meaning.specs.Words.{ascii}
 use Rattle.meaning.specs.Nodes.{Attr}
 use Rattle.meaning.specs.Kinds.{withPlaces, attrsIn}
-use Rattle.meaning.specs.Styling.{extraOfStyle, everyExtra, extrasFrom, styleOf, regionOf}
-use Rattle.meaning.proofs.Within.{Holds, holds-is, any, bind, within-holds}
+use Rattle.meaning.specs.Styling.{styleOf, regionOf}
+use Rattle.meaning.proofs.Within.{holds-is, any, bind, within-holds}
 use Rattle.styling.specs.Posts.{lookAnswer}
 use Rattle.extras.proofs.Keeping.{few-extras}
 use Rattle.heads.specs.declared.styles.Made.{Made}
@@ -57,7 +56,8 @@ module _ {u z : List ℕ} {first many : ℕ} {l : List placed.Attr} (y : Owned u
   module _ (e₀ s s′ : List ℕ) (f f′ : List Float) (e e′ : List ℕ) (a : 6912 ≤ length s) (b : 16640 ≤ length f) where
     abbrev StyleTurn : Made → Type 0
     StyleTurn r =
-        Turn (ascii "style") (styleOf withPlaces) extrasOfStyle 0 n at (λ d. StylesStand L e₀ d s f e) (λ d. StylesStand L e₀ d s′ f′ e′) many place attrs r
+        Turn (ascii "style") (styleOf withPlaces) extrasOfStyle 0 n at (λ d. StylesStand L e₀ d s f e) (λ d. StylesStand L e₀ d s′ f′ e′) many place
+        attrs r
 
     pub style-turn : (r : Made) → StyleMade attrs place n at s s′ f f′ e e′ r → StyleTurn r
     style-turn (Made.Row m) w =

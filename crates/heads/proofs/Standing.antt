@@ -50,7 +50,8 @@ unfolding joinedCells extraCells each laidExtra placedCells
 placed-cells [] = refl
 placed-cells (x ∷ xs) = rw (placed-cells xs)
 
-pub cells-kept : (t : List ℕ) (at : ℕ) (xs : List (Extra Placed)) → layExtras t (rowsAfter at xs) (each laidExtra xs) ≡ sets t (at * 3) (placedCells xs)
+pub cells-kept : (t : List ℕ) (at : ℕ) (xs : List (Extra Placed))
+    → layExtras t (rowsAfter at xs) (each laidExtra xs) ≡ sets t (at * 3) (placedCells xs)
 unfolding layExtras rowsAfter joinedCells each placedCells
 cells-kept t at [] = refl
 cells-kept t at (x ∷ xs) = ap (sets t (at * 3)) (placed-cells (x ∷ xs))

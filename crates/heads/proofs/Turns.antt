@@ -1,10 +1,10 @@
 -- The loop over the elements of one name among siblings, whatever is made of each. Assumes nothing.
---     Turn                                      what one element gives
+--     oneOf, among, within-limit, Turn          what one element gives, and what siblings mean
 --     Along, along-start, along-row, along-next the siblings up to row k are read
---     along-attrs, along-place                  what is asked of the element in row k
+--     along-attrs, along-room                   what is asked of the element in row k
 --     along-passed, along-skipped, along-taken  one turn
 --     along-refused, along-done                 the answer
-use Prim.Native.Nat.{ℕ, suc, _+_, _-_, _*_, _≤_, _<_}
+use Prim.Native.Nat.{ℕ, _+_, _-_, _*_, _≤_, _<_}
 use mathlib.Core.Path.{_≡_, refl, sym, ap, _∙_, subst}
 use mathlib.Core.Bool.{true, false, cond, true≢false}
 use mathlib.Core.List.{List, [], _∷_, _++_, append-assoc, append-nil}
@@ -17,7 +17,7 @@ use Rattle.tree.specs.declared.answers.Refusal.{Refusal}
 use Rattle.tree.specs.Trees.{Forest, size, attrsOf}
 use Rattle.tree.specs.Trees as placed
 use Rattle.xml.specs.declared.find.Element.{Element}
-use Rattle.xml.specs.Find.{named, Holds, isElement, HasRow, elementRow, TextAt, ElementAt}
+use Rattle.xml.specs.Find.{named, Holds, isElement, HasRow, elementRow, TextAt}
 use Rattle.xml.specs.Reading.{Placed}
 use Rattle.xml.proofs.FindLaws.{holds-text, holds-section, holds-elem, siblings-of, has-row, is-element-text, is-element-section, is-element-elem}
 use Rattle.xml.proofs.FindSteps.{onward}
@@ -30,7 +30,6 @@ use Rattle.meaning.proofs.Laws.{listed-text, listed-other, listed-one}
 use Rattle.meaning.proofs.Within.{any, within-holds}
 use Rattle.laid.specs.Laid.{total}
 use Rattle.styling.specs.Posts.{HasRows, OfRows, turned}
-use Rattle.heads.specs.declared.collect.Count.{Count}
 use Rattle.heads.specs.declared.styles.Made.{Made}
 use Rattle.heads.specs.Steps.{Children, Listing}
 use Rattle.heads.proofs.Cells.{bind-assoc}
@@ -73,7 +72,7 @@ module _ {A : Type 0} (name : List ℕ) (make : Placed → List (Attr Placed) �
   Turn rows n at Stood Stood′ many place l Made.Skipped = (idOf withPlaces l ≡ none) × ((d : List A) → Stood d → Stood′ d)
   Turn rows n at Stood Stood′ many place l (Made.Refused q) = (id : Placed) × (idOf withPlaces l ≡ some id) × (oneOf id l place n ≡ turned q)
 
-  -- the siblings up to row k are read: n of those that stand from row `from` on as f are listed, their extras in rows `rows` up to `at`
+  -- the siblings f are read up to row k: n of them are listed, with their extras in rows `rows` up to `at`, and stand as `Stood` says
   pub record Along (t u z : List ℕ) (end rows : ℕ) (f : Forest) (k n at : ℕ) (Stood : List A → Type 0) : Type 0 where
     pub own : ℕ
     pub rest : Forest

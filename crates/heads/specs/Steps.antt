@@ -34,7 +34,7 @@ pub record Children (t u z : List ℕ) (from end : ℕ) : Type 0 where
   pub holds : Holds t u z from own forest
   pub rows : from + size forest ≡ end
 
--- how many attributes they have with all that stands in them; the first styling, layout or head among them
+-- how many attributes they have with all that stands in them; and how many the first styling, layout or head among them has
 abbrev pub inAll : (z : List ℕ) → Forest → ℕ
 inAll z f = length (attrsOf f)
 
@@ -136,7 +136,7 @@ RegionsPost m many t u z from end rows s s′ e e′ r =
 abbrev pub paired : {A B : Type 0} → Answer A → Answer B → Answer (A × B)
 paired a b = a >>= λ x. b >>= λ y. is (x, y)
 
--- what the head's content means; what tt's content says of it
+-- what the head's content means; what tt's content means, as far as its head
 abbrev pub headOf : Nodes Placed → Answer (List (Style Placed) × List (Region Placed))
 headOf f = paired (stylesIn f) (regionsIn f)
 
@@ -195,7 +195,7 @@ abbrev pub HeadOutcome : Lengths → Nodes Placed → (many : ℕ) → HeadTable
 HeadOutcome n f many T (Heading.Is r) = Headed n f many T r
 HeadOutcome n f many T (Heading.Refused q) = headOf f ≡ turned q
 
--- the nodes that stand there are the head's content, or `content` of them is
+-- Of the nodes f that stand there, `content f` is the head's content: they themselves, or what stands in the first head.
 abbrev pub alone : Nodes Placed → Nodes Placed
 alone f = f
 

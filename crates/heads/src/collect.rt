@@ -38,7 +38,16 @@ fn collect_styles(
         if xml::is_element(nodes, strings, k, b"style") {
             let e = xml::element_at(nodes, k);
             match crate::styles::build_style(
-                attrs, strings, e.first, e.many, e.place, styles, sizes, n, extras, at,
+                attrs,
+                strings,
+                e.first,
+                e.many,
+                e.place,
+                styles,
+                sizes,
+                n,
+                extras,
+                at,
             ) {
                 Made::Row(m) => {
                     n += 1;
@@ -80,7 +89,15 @@ fn collect_regions(
         if xml::is_element(nodes, strings, k, b"region") {
             let e = xml::element_at(nodes, k);
             match crate::regions::build_region(
-                attrs, strings, e.first, e.many, e.place, regions, n, extras, at,
+                attrs,
+                strings,
+                e.first,
+                e.many,
+                e.place,
+                regions,
+                n,
+                extras,
+                at,
             ) {
                 Made::Row(m) => {
                     n += 1;
@@ -183,7 +200,14 @@ fn collect_inside(
     match find_styles(nodes, attrs, strings, from, end, styles, sizes, extras) {
         Counting::Refused(r) => Heading::Refused(r),
         Counting::Is(s) => match find_regions(
-            nodes, attrs, strings, from, end, regions, extras, s.extras,
+            nodes,
+            attrs,
+            strings,
+            from,
+            end,
+            regions,
+            extras,
+            s.extras,
         ) {
             Counting::Refused(r) => Heading::Refused(r),
             Counting::Is(t) => Heading::Is(Heads {
@@ -221,7 +245,15 @@ pub fn collect_head(
         Found::Row(k) => {
             let e = xml::element_at(nodes, k);
             collect_inside(
-                nodes, attrs, strings, k + 1, e.end, styles, regions, sizes, extras,
+                nodes,
+                attrs,
+                strings,
+                k + 1,
+                e.end,
+                styles,
+                regions,
+                sizes,
+                extras,
             )
         }
     }

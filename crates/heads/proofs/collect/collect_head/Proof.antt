@@ -1,74 +1,71 @@
+-- `collect_head`, by whether there is a head.
 use native.Mathlib.Omega.{arith}
 use Rattle.meaning.specs.Words.{ascii}
 use Rattle.heads.proofs.Finding.{found-first, first-row, head-inside, head-found, head-nothing}
 use borrow.Author.Needs.{needs}
 use Rattle.heads.proofs.collect.collect_head.Statement.{statement}
 use Rattle.heads.proofs.collect.collect_head.Tie as tie
-use Rattle.heads.proofs.collect.collect_head.Reads as reads
-use Rattle.heads.proofs.collect.collect_head.Lts as lts
-use Rattle.heads.proofs.collect.collect_inside.Reads as collect-inside-reads
-use Rattle.xml.proofs.element_at.Reads as element-at-reads
-use Rattle.xml.proofs.find_element.Reads as find-element-reads
 
--- src/collect.rt:215:56
 slice-aggregate-find-element : tie.Need-slice-aggregate-find-element
 slice-aggregate-find-element c = search needs
 
--- src/collect.rt:215:11
 find-element-requires : tie.Need-find-element-requires
 find-element-requires c κs = search needs
 
--- src/collect.rt:216:39
 enum-told : tie.Need-enum-told
 enum-told c = search needs
 
--- src/collect.rt:221:20
 enum-known-k : tie.Need-enum-known-k
 enum-known-k c = search needs
 
--- src/collect.rt:222:17
 element-at-requires : tie.Need-element-at-requires
 element-at-requires c κs =
-    let w = rw (c .before .k .given .1) at (c .before .before .before .find-element .ensures) in
-    first-row (found-first (ascii "head") (c .before .before .before .before .before .before .before .before .before .before .before .before .pre .children) _ w)
+    let c3 = c .before .before .before in
+    let c12 = c3 .before .before .before .before .before .before .before .before .before in
+    let w = rw (c .before .k .given .1) at (c3 .find-element .ensures) in
+    first-row (found-first (ascii "head") (c12 .pre .children) _ w)
 
--- src/collect.rt:224:40
 add-collect-inside : tie.Need-add-collect-inside
 add-collect-inside c =
-    let w = rw (c .before .before .k .given .1) at (c .before .before .before .before .find-element .ensures) in
-    omega (arith, first-row (found-first (ascii "head") (c .before .before .before .before .before .before .before .before .before .before .before .before .before .pre .children) _ w))
+    let c4 = c .before .before .before .before in
+    let c13 = c4 .before .before .before .before .before .before .before .before .before in
+    let w = rw (c .before .before .k .given .1) at (c4 .find-element .ensures) in
+    omega (arith, first-row (found-first (ascii "head") (c13 .pre .children) _ w))
 
--- src/collect.rt:223:13
 collect-inside-requires : tie.Need-collect-inside-requires
 collect-inside-requires c κs =
-    let w = rw (c .before .before .before .before .before .before .k .given .1) at (c .before .before .before .before .before .before .before .before .find-element .ensures) in
-    head-inside (c .before .before .before .before .before .before .before .before .before .before .before .before .before .before .before .before .before .pre) _ (c .before .before .before .before .element-at .result) (c .before .before .before .before .element-at .ensures) w
+    let c4 = c .before .before .before .before in
+    let c6 = c4 .before .before in
+    let c8 = c6 .before .before in
+    let c17 = c8 .before .before .before .before .before .before .before .before .before in
+    let w = rw (c6 .k .given .1) at (c8 .find-element .ensures) in
+    head-inside (c17 .pre) _ (c4 .element-at .result) (c4 .element-at .ensures) w
 
--- src/collect.rt:199:1
 returns : tie.Need-returns
-returns c = head-nothing (c .before .before .before .before .before .before .before .before .before .before .before .pre) (rw (c .enum-told .given .1) at (c .before .before .find-element .ensures))
+returns c =
+    let c11 = c .before .before .before .before .before .before .before .before .before .before .before in
+    head-nothing (c11 .pre) (rw (c .enum-told .given .1) at (c .before .before .find-element .ensures))
 
--- src/collect.rt:199:1
 same-length : tie.Need-same-length
 same-length c = search needs
 
--- src/collect.rt:199:1
 same-length-2 : tie.Need-same-length-2
 same-length-2 c = search needs
 
--- src/collect.rt:199:1
 same-length-3 : tie.Need-same-length-3
 same-length-3 c = search needs
 
--- src/collect.rt:199:1
 same-length-4 : tie.Need-same-length-4
 same-length-4 c = search needs
 
--- src/collect.rt:199:1
 returns-2 : tie.Need-returns-2
 returns-2 c =
-    let w = rw (c .before .before .before .before .before .before .before .before .before .before .before .before .before .before .before .k .given .1) at (c .before .before .before .before .before .before .before .before .before .before .before .before .before .before .before .before .before .find-element .ensures) in
-    head-found _ _ (c .before .before .before .before .before .before .before .before .before .before .before .before .before .element-at .result) (c .before .before .before .before .before .before .before .before .before .before .before .before .before .element-at .ensures) w (c .before .before .before .before .before .before .before .before .collect-inside .result) (c .before .before .before .before .before .before .before .before .collect-inside .ensures)
+    let c8 = c .before .before .before .before .before .before .before .before in
+    let c13 = c8 .before .before .before .before .before in
+    let c15 = c13 .before .before in
+    let c17 = c15 .before .before in
+    let w = rw (c15 .k .given .1) at (c17 .find-element .ensures) in
+    head-found _ _ (c13 .element-at .result) (c13 .element-at .ensures) w (c8 .collect-inside .result) (c8 .collect-inside .ensures)
 
 pub collect-head-spec : {M : Type 1} → statement M
 collect-head-spec =

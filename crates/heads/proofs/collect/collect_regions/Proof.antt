@@ -1,3 +1,4 @@
+-- `collect_regions` meets its contract. The loop's invariant is `RegionsAlong`; the measure is what is left of the rows.
 use Prim.Native.Nat.{_-_}
 use mathlib.Core.Path.{refl, sym, _∙_}
 use mathlib.Core.Logic.{⊎-elim}
@@ -5,15 +6,8 @@ use native.Mathlib.Omega.{arith}
 use borrow.Author.Needs.{needs}
 use Rattle.heads.proofs.Looping.{RegionsAlong, regions-start, regions-row, regions-next, regions-done, regions-passed, region-asks}
 use Rattle.heads.proofs.Looping.{regions-skipped, regions-taken, regions-refused, regions-few}
-use borrow.Author.Needs.{needs}
 use Rattle.heads.proofs.collect.collect_regions.Statement.{statement}
 use Rattle.heads.proofs.collect.collect_regions.Tie as tie
-use Rattle.heads.proofs.collect.collect_regions.Reads as reads
-use Rattle.heads.proofs.collect.collect_regions.Lts as lts
-use Rattle.heads.proofs.regions.build_region.Reads as build-region-reads
-use Rattle.scan.proofs.get.Reads as get-reads
-use Rattle.xml.proofs.element_at.Reads as element-at-reads
-use Rattle.xml.proofs.is_element.Reads as is-element-reads
 
 abbrev Inv-loop : tie.InvT-loop
 Inv-loop nodes attrs strings from end regions₀ extras₀ rows n₀ at₀ k₀ t15 regions extras n at k =
@@ -22,85 +16,118 @@ Inv-loop nodes attrs strings from end regions₀ extras₀ rows n₀ at₀ k₀ 
 abbrev μ-loop : tie.MeasureT-loop
 μ-loop nodes attrs strings from end regions₀ extras₀ rows n₀ at₀ k₀ t15 regions extras n at k = end - k
 
--- src/collect.rt:79:5
 loop-holds : tie.Need-loop-holds Inv-loop μ-loop
 loop-holds c = regions-start (c .before .before .before .before .before .pre)
 
--- src/collect.rt:80:47
 slice-aggregate-is-element : tie.Need-slice-aggregate-is-element Inv-loop μ-loop
 slice-aggregate-is-element c = refl
 
--- src/collect.rt:80:12
 is-element-requires : tie.Need-is-element-requires Inv-loop μ-loop
-is-element-requires c κs = regions-row (c .before .before .before .before .before .before .before .before .pre) (c .before .before .loop .inv) (c .before .loop-test .taken)
+is-element-requires c κs =
+    let c8 = c .before .before .before .before .before .before .before .before in
+    regions-row (c8 .pre) (c .before .before .loop .inv) (c .before .loop-test .taken)
 
--- src/collect.rt:81:17
 element-at-requires : tie.Need-element-at-requires Inv-loop μ-loop
-element-at-requires c κs = regions-row (c .before .before .before .before .before .before .before .before .before .before .pre) (c .before .before .before .before .loop .inv) (c .before .before .before .loop-test .taken) .row
+element-at-requires c κs =
+    let c3 = c .before .before .before in
+    let c4 = c3 .before in
+    let c10 = c4 .before .before .before .before .before .before in
+    regions-row (c10 .pre) (c4 .loop .inv) (c3 .loop-test .taken) .row
 
--- src/collect.rt:82:19
 build-region-requires : tie.Need-build-region-requires Inv-loop μ-loop
-build-region-requires c κs =     region-asks (c .before .before .before .before .before .before .before .before .before .before .before .before .before .pre) (c .before .before .before .before .before .before .before .loop .inv) (c .before .before .before .before .before .before .loop-test .taken) (sym (c .before .before .before .before .is-element .ensures) ∙ c .before .before .before .if1 .taken) (c .before .before .element-at .result) (c .before .before .element-at .ensures)
+build-region-requires c κs =
+    let c3 = c .before .before .before in
+    let c4 = c3 .before in
+    let c6 = c4 .before .before in
+    let c7 = c6 .before in
+    let c13 = c7 .before .before .before .before .before .before in
+    region-asks (c13 .pre) (c7 .loop .inv) (c6 .loop-test .taken) (sym (c4 .is-element .ensures)
+    ∙ c3 .if1 .taken) (c .before .before .element-at .result) (c .before .before .element-at .ensures)
 
--- src/collect.rt:85:27
 enum-known-m : tie.Need-enum-known-m Inv-loop μ-loop
 enum-known-m c = search needs
 
--- src/collect.rt:86:21
 add-n : tie.Need-add-n Inv-loop μ-loop
 add-n c =
-    let g = rw (c .before .m .given .1) at (c .before .before .before .before .before .before .before .build-region .ensures) in
-    let e = sym (c .before .before .before .before .before .before .before .before .before .before .before .before .is-element .ensures) ∙ c .before .before .before .before .before .before .before .before .before .before .before .if1 .taken in
-    omega (arith, regions-few (c .before .before .before .before .before .before .before .before .before .before .before .before .before .before .before .before .before .before .before .before .before .pre) (c .before .before .before .before .before .before .before .before .before .before .before .before .before .before .before .loop .inv) (c .before .before .before .before .before .before .before .before .before .before .before .before .before .before .loop-test .taken) e (c .before .before .before .before .before .before .before .before .before .before .element-at .result) (c .before .before .before .before .before .before .before .before .before .before .element-at .ensures) _ _ _ g .0)
+    let c7 = c .before .before .before .before .before .before .before in
+    let c10 = c7 .before .before .before in
+    let c11 = c10 .before in
+    let c12 = c11 .before in
+    let c14 = c12 .before .before in
+    let c15 = c14 .before in
+    let c21 = c15 .before .before .before .before .before .before in
+    let g = rw (c .before .m .given .1) at (c7 .build-region .ensures) in
+    let e = sym (c12 .is-element .ensures) ∙ c11 .if1 .taken in
+    omega (arith, regions-few (c21 .pre) (c15 .loop .inv) (c14 .loop-test .taken) e (c10 .element-at .result) (c10 .element-at .ensures) _ _ _ g .0)
 
--- src/collect.rt:87:21
 add-at : tie.Need-add-at Inv-loop μ-loop
 add-at c =
-    let g = rw (c .before .m .given .1) at (c .before .before .before .before .before .before .before .build-region .ensures) in
-    let e = sym (c .before .before .before .before .before .before .before .before .before .before .before .before .is-element .ensures) ∙ c .before .before .before .before .before .before .before .before .before .before .before .if1 .taken in
-    omega (arith, regions-few (c .before .before .before .before .before .before .before .before .before .before .before .before .before .before .before .before .before .before .before .before .before .pre) (c .before .before .before .before .before .before .before .before .before .before .before .before .before .before .before .loop .inv) (c .before .before .before .before .before .before .before .before .before .before .before .before .before .before .loop-test .taken) e (c .before .before .before .before .before .before .before .before .before .before .element-at .result) (c .before .before .before .before .before .before .before .before .before .before .element-at .ensures) _ _ _ g .1)
+    let c7 = c .before .before .before .before .before .before .before in
+    let c10 = c7 .before .before .before in
+    let c11 = c10 .before in
+    let c12 = c11 .before in
+    let c14 = c12 .before .before in
+    let c15 = c14 .before in
+    let c21 = c15 .before .before .before .before .before .before in
+    let g = rw (c .before .m .given .1) at (c7 .build-region .ensures) in
+    let e = sym (c12 .is-element .ensures) ∙ c11 .if1 .taken in
+    omega (arith, regions-few (c21 .pre) (c15 .loop .inv) (c14 .loop-test .taken) e (c10 .element-at .result) (c10 .element-at .ensures) _ _ _ g .1)
 
 enum-told : tie.Need-enum-told Inv-loop μ-loop
 enum-told c = search needs
 
--- src/collect.rt:90:31
 enum-known-r : tie.Need-enum-known-r Inv-loop μ-loop
 enum-known-r c = search needs
 
--- src/collect.rt:91:21
 same-length : tie.Need-same-length Inv-loop μ-loop
 same-length c = search needs
 
--- src/collect.rt:91:21
 same-length-2 : tie.Need-same-length-2 Inv-loop μ-loop
 same-length-2 c = search needs
 
--- src/collect.rt:91:21
 returns : tie.Need-returns Inv-loop μ-loop
 returns c =
-    let g = rw (c .before .r .given .1) at (c .before .before .before .before .before .before .before .build-region .ensures) in
-    let e = sym (c .before .before .before .before .before .before .before .before .before .before .before .before .is-element .ensures) ∙ c .before .before .before .before .before .before .before .before .before .before .before .if1 .taken in
-    regions-refused (c .before .before .before .before .before .before .before .before .before .before .before .before .before .before .before .before .before .before .before .before .before .pre) (c .before .before .before .before .before .before .before .before .before .before .before .before .before .before .before .loop .inv) (c .before .before .before .before .before .before .before .before .before .before .before .before .before .before .loop-test .taken) e (c .before .before .before .before .before .before .before .before .before .before .element-at .result) (c .before .before .before .before .before .before .before .before .before .before .element-at .ensures) _ _ _ g
+    let c7 = c .before .before .before .before .before .before .before in
+    let c10 = c7 .before .before .before in
+    let c11 = c10 .before in
+    let c12 = c11 .before in
+    let c14 = c12 .before .before in
+    let c15 = c14 .before in
+    let c21 = c15 .before .before .before .before .before .before in
+    let g = rw (c .before .r .given .1) at (c7 .build-region .ensures) in
+    let e = sym (c12 .is-element .ensures) ∙ c11 .if1 .taken in
+    regions-refused (c21 .pre) (c15 .loop .inv) (c14 .loop-test .taken) e (c10 .element-at .result) (c10 .element-at .ensures) _ _ _ g
 
--- src/collect.rt:95:30
 mul-get : tie.Need-mul-get Inv-loop μ-loop
-mul-get c = omega (arith, regions-row (c .before .before .before .before .before .before .before .before .before .before .pre) (c .before .before .before .before .loop .inv) (c .before .before .before .loop-test .taken) .row)
+mul-get c =
+    let c3 = c .before .before .before in
+    let c4 = c3 .before in
+    let c10 = c4 .before .before .before .before .before .before in
+    omega (arith, regions-row (c10 .pre) (c4 .loop .inv) (c3 .loop-test .taken) .row)
 
--- src/collect.rt:95:30
 add-get : tie.Need-add-get Inv-loop μ-loop
-add-get c = omega (arith, regions-row (c .before .before .before .before .before .before .before .before .before .before .pre) (c .before .before .before .before .loop .inv) (c .before .before .before .loop-test .taken) .row)
+add-get c =
+    let c3 = c .before .before .before in
+    let c4 = c3 .before in
+    let c10 = c4 .before .before .before .before .before .before in
+    omega (arith, regions-row (c10 .pre) (c4 .loop .inv) (c3 .loop-test .taken) .row)
 
--- src/collect.rt:95:9
 get-requires : tie.Need-get-requires Inv-loop μ-loop
-get-requires c κs = omega (arith, regions-row (c .before .before .before .before .before .before .before .before .before .before .pre) (c .before .before .before .before .loop .inv) (c .before .before .before .loop-test .taken) .row)
+get-requires c κs =
+    let c3 = c .before .before .before in
+    let c4 = c3 .before in
+    let c10 = c4 .before .before .before .before .before .before in
+    omega (arith, regions-row (c10 .pre) (c4 .loop .inv) (c3 .loop-test .taken) .row)
 
--- src/collect.rt:79:5
 loop-less : tie.Need-loop-less Inv-loop μ-loop
 loop-less c =
-    let o = regions-next (c .before .before .before .before .before .before .before .before .before .before .before .pre) (c .before .before .before .before .before .loop .inv) (c .before .before .before .before .loop-test .taken) in
+    let c4 = c .before .before .before .before in
+    let c5 = c4 .before in
+    let c11 = c5 .before .before .before .before .before .before in
+    let o = regions-next (c11 .pre) (c5 .loop .inv) (c4 .loop-test .taken) in
     omega (arith, o .0, o .1, c .get .ensures)
 
--- src/collect.rt:79:5
+-- the element gives a row, or has no id, or is another
 loop-again : tie.Need-loop-again Inv-loop μ-loop
 loop-again c =
     let a = c .before .before .before .before .before .before .before .before .before .before .before .pre in
@@ -121,15 +148,12 @@ loop-again c =
     w)
     (c .before .if1 .came))
 
--- src/collect.rt:62:1
 same-length-3 : tie.Need-same-length-3 Inv-loop μ-loop
 same-length-3 c = c .before .loop .inv .same-regions
 
--- src/collect.rt:62:1
 same-length-4 : tie.Need-same-length-4 Inv-loop μ-loop
 same-length-4 c = c .before .loop .inv .same-extras
 
--- src/collect.rt:62:1
 returns-2 : tie.Need-returns-2 Inv-loop μ-loop
 returns-2 c = regions-done (c .before .before .before .before .before .before .before .pre) (c .before .loop .inv) (c .loop-test .left)
 

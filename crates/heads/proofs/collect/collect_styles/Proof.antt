@@ -1,3 +1,4 @@
+-- `collect_styles` meets its contract. The loop's invariant is `StylesAlong`; the measure is what is left of the rows.
 use Prim.Native.Nat.{_-_}
 use mathlib.Core.Path.{refl, sym, _∙_}
 use mathlib.Core.Logic.{⊎-elim}
@@ -5,15 +6,8 @@ use native.Mathlib.Omega.{arith}
 use borrow.Author.Needs.{needs}
 use Rattle.heads.proofs.Looping.{StylesAlong, styles-start, styles-row, styles-next, styles-done, styles-passed, style-asks}
 use Rattle.heads.proofs.Looping.{styles-skipped, styles-taken, styles-refused, styles-few}
-use borrow.Author.Needs.{needs}
 use Rattle.heads.proofs.collect.collect_styles.Statement.{statement}
 use Rattle.heads.proofs.collect.collect_styles.Tie as tie
-use Rattle.heads.proofs.collect.collect_styles.Reads as reads
-use Rattle.heads.proofs.collect.collect_styles.Lts as lts
-use Rattle.heads.proofs.styles.build_style.Reads as build-style-reads
-use Rattle.scan.proofs.get.Reads as get-reads
-use Rattle.xml.proofs.element_at.Reads as element-at-reads
-use Rattle.xml.proofs.is_element.Reads as is-element-reads
 
 abbrev Inv-loop : tie.InvT-loop
 Inv-loop nodes attrs strings from end styles₀ sizes₀ extras₀ n₀ at₀ k₀ t15 styles sizes extras n at k =
@@ -22,89 +16,122 @@ Inv-loop nodes attrs strings from end styles₀ sizes₀ extras₀ n₀ at₀ k�
 abbrev μ-loop : tie.MeasureT-loop
 μ-loop nodes attrs strings from end styles₀ sizes₀ extras₀ n₀ at₀ k₀ t15 styles sizes extras n at k = end - k
 
--- src/collect.rt:37:5
 loop-holds : tie.Need-loop-holds Inv-loop μ-loop
 loop-holds c = styles-start (c .before .before .before .before .before .before .pre)
 
--- src/collect.rt:38:47
 slice-aggregate-is-element : tie.Need-slice-aggregate-is-element Inv-loop μ-loop
 slice-aggregate-is-element c = refl
 
--- src/collect.rt:38:12
 is-element-requires : tie.Need-is-element-requires Inv-loop μ-loop
-is-element-requires c κs = styles-row (c .before .before .before .before .before .before .before .before .before .pre) (c .before .before .loop .inv) (c .before .loop-test .taken)
+is-element-requires c κs =
+    let c9 = c .before .before .before .before .before .before .before .before .before in
+    styles-row (c9 .pre) (c .before .before .loop .inv) (c .before .loop-test .taken)
 
--- src/collect.rt:39:17
 element-at-requires : tie.Need-element-at-requires Inv-loop μ-loop
-element-at-requires c κs = styles-row (c .before .before .before .before .before .before .before .before .before .before .before .pre) (c .before .before .before .before .loop .inv) (c .before .before .before .loop-test .taken) .row
+element-at-requires c κs =
+    let c3 = c .before .before .before in
+    let c4 = c3 .before in
+    let c11 = c4 .before .before .before .before .before .before .before in
+    styles-row (c11 .pre) (c4 .loop .inv) (c3 .loop-test .taken) .row
 
--- src/collect.rt:40:19
 build-style-requires : tie.Need-build-style-requires Inv-loop μ-loop
-build-style-requires c κs =     style-asks (c .before .before .before .before .before .before .before .before .before .before .before .before .before .before .before .pre) (c .before .before .before .before .before .before .before .before .loop .inv) (c .before .before .before .before .before .before .before .loop-test .taken) (sym (c .before .before .before .before .before .is-element .ensures) ∙ c .before .before .before .before .if1 .taken) (c .before .before .before .element-at .result) (c .before .before .before .element-at .ensures)
+build-style-requires c κs =
+    let c3 = c .before .before .before in
+    let c4 = c3 .before in
+    let c5 = c4 .before in
+    let c7 = c5 .before .before in
+    let c8 = c7 .before in
+    let c15 = c8 .before .before .before .before .before .before .before in
+    style-asks (c15 .pre) (c8 .loop .inv) (c7 .loop-test .taken) (sym (c5 .is-element .ensures)
+    ∙ c4 .if1 .taken) (c3 .element-at .result) (c3 .element-at .ensures)
 
--- src/collect.rt:43:27
 enum-known-m : tie.Need-enum-known-m Inv-loop μ-loop
 enum-known-m c = search needs
 
--- src/collect.rt:44:21
 add-n : tie.Need-add-n Inv-loop μ-loop
 add-n c =
-    let g = rw (c .before .m .given .1) at (c .before .before .before .before .before .before .before .before .before .build-style .ensures) in
-    let e = sym (c .before .before .before .before .before .before .before .before .before .before .before .before .before .before .before .is-element .ensures) ∙ c .before .before .before .before .before .before .before .before .before .before .before .before .before .before .if1 .taken in
-    omega (arith, styles-few (c .before .before .before .before .before .before .before .before .before .before .before .before .before .before .before .before .before .before .before .before .before .before .before .before .before .pre) (c .before .before .before .before .before .before .before .before .before .before .before .before .before .before .before .before .before .before .loop .inv) (c .before .before .before .before .before .before .before .before .before .before .before .before .before .before .before .before .before .loop-test .taken) e (c .before .before .before .before .before .before .before .before .before .before .before .before .before .element-at .result) (c .before .before .before .before .before .before .before .before .before .before .before .before .before .element-at .ensures) _ _ _ _ g .0)
+    let c9 = c .before .before .before .before .before .before .before .before .before in
+    let c13 = c9 .before .before .before .before in
+    let c14 = c13 .before in
+    let c15 = c14 .before in
+    let c17 = c15 .before .before in
+    let c18 = c17 .before in
+    let c25 = c18 .before .before .before .before .before .before .before in
+    let g = rw (c .before .m .given .1) at (c9 .build-style .ensures) in
+    let e = sym (c15 .is-element .ensures) ∙ c14 .if1 .taken in
+    omega (arith, styles-few (c25 .pre) (c18 .loop .inv) (c17 .loop-test .taken) e (c13 .element-at .result) (c13 .element-at .ensures) _ _ _ _ g .0)
 
--- src/collect.rt:45:21
 add-at : tie.Need-add-at Inv-loop μ-loop
 add-at c =
-    let g = rw (c .before .m .given .1) at (c .before .before .before .before .before .before .before .before .before .build-style .ensures) in
-    let e = sym (c .before .before .before .before .before .before .before .before .before .before .before .before .before .before .before .is-element .ensures) ∙ c .before .before .before .before .before .before .before .before .before .before .before .before .before .before .if1 .taken in
-    omega (arith, styles-few (c .before .before .before .before .before .before .before .before .before .before .before .before .before .before .before .before .before .before .before .before .before .before .before .before .before .pre) (c .before .before .before .before .before .before .before .before .before .before .before .before .before .before .before .before .before .before .loop .inv) (c .before .before .before .before .before .before .before .before .before .before .before .before .before .before .before .before .before .loop-test .taken) e (c .before .before .before .before .before .before .before .before .before .before .before .before .before .element-at .result) (c .before .before .before .before .before .before .before .before .before .before .before .before .before .element-at .ensures) _ _ _ _ g .1)
+    let c9 = c .before .before .before .before .before .before .before .before .before in
+    let c13 = c9 .before .before .before .before in
+    let c14 = c13 .before in
+    let c15 = c14 .before in
+    let c17 = c15 .before .before in
+    let c18 = c17 .before in
+    let c25 = c18 .before .before .before .before .before .before .before in
+    let g = rw (c .before .m .given .1) at (c9 .build-style .ensures) in
+    let e = sym (c15 .is-element .ensures) ∙ c14 .if1 .taken in
+    omega (arith, styles-few (c25 .pre) (c18 .loop .inv) (c17 .loop-test .taken) e (c13 .element-at .result) (c13 .element-at .ensures) _ _ _ _ g .1)
 
 enum-told : tie.Need-enum-told Inv-loop μ-loop
 enum-told c = search needs
 
--- src/collect.rt:48:31
 enum-known-r : tie.Need-enum-known-r Inv-loop μ-loop
 enum-known-r c = search needs
 
--- src/collect.rt:49:21
 same-length : tie.Need-same-length Inv-loop μ-loop
 same-length c = search needs
 
--- src/collect.rt:49:21
 same-length-2 : tie.Need-same-length-2 Inv-loop μ-loop
 same-length-2 c = search needs
 
--- src/collect.rt:49:21
 same-length-3 : tie.Need-same-length-3 Inv-loop μ-loop
 same-length-3 c = search needs
 
--- src/collect.rt:49:21
 returns : tie.Need-returns Inv-loop μ-loop
 returns c =
-    let g = rw (c .before .r .given .1) at (c .before .before .before .before .before .before .before .before .before .build-style .ensures) in
-    let e = sym (c .before .before .before .before .before .before .before .before .before .before .before .before .before .before .before .is-element .ensures) ∙ c .before .before .before .before .before .before .before .before .before .before .before .before .before .before .if1 .taken in
-    styles-refused (c .before .before .before .before .before .before .before .before .before .before .before .before .before .before .before .before .before .before .before .before .before .before .before .before .before .pre) (c .before .before .before .before .before .before .before .before .before .before .before .before .before .before .before .before .before .before .loop .inv) (c .before .before .before .before .before .before .before .before .before .before .before .before .before .before .before .before .before .loop-test .taken) e (c .before .before .before .before .before .before .before .before .before .before .before .before .before .element-at .result) (c .before .before .before .before .before .before .before .before .before .before .before .before .before .element-at .ensures) _ _ _ _ g
+    let c9 = c .before .before .before .before .before .before .before .before .before in
+    let c13 = c9 .before .before .before .before in
+    let c14 = c13 .before in
+    let c15 = c14 .before in
+    let c17 = c15 .before .before in
+    let c18 = c17 .before in
+    let c25 = c18 .before .before .before .before .before .before .before in
+    let g = rw (c .before .r .given .1) at (c9 .build-style .ensures) in
+    let e = sym (c15 .is-element .ensures) ∙ c14 .if1 .taken in
+    styles-refused (c25 .pre) (c18 .loop .inv) (c17 .loop-test .taken) e (c13 .element-at .result) (c13 .element-at .ensures) _ _ _ _ g
 
--- src/collect.rt:53:30
 mul-get : tie.Need-mul-get Inv-loop μ-loop
-mul-get c = omega (arith, styles-row (c .before .before .before .before .before .before .before .before .before .before .before .pre) (c .before .before .before .before .loop .inv) (c .before .before .before .loop-test .taken) .row)
+mul-get c =
+    let c3 = c .before .before .before in
+    let c4 = c3 .before in
+    let c11 = c4 .before .before .before .before .before .before .before in
+    omega (arith, styles-row (c11 .pre) (c4 .loop .inv) (c3 .loop-test .taken) .row)
 
--- src/collect.rt:53:30
 add-get : tie.Need-add-get Inv-loop μ-loop
-add-get c = omega (arith, styles-row (c .before .before .before .before .before .before .before .before .before .before .before .pre) (c .before .before .before .before .loop .inv) (c .before .before .before .loop-test .taken) .row)
+add-get c =
+    let c3 = c .before .before .before in
+    let c4 = c3 .before in
+    let c11 = c4 .before .before .before .before .before .before .before in
+    omega (arith, styles-row (c11 .pre) (c4 .loop .inv) (c3 .loop-test .taken) .row)
 
--- src/collect.rt:53:9
 get-requires : tie.Need-get-requires Inv-loop μ-loop
-get-requires c κs = omega (arith, styles-row (c .before .before .before .before .before .before .before .before .before .before .before .pre) (c .before .before .before .before .loop .inv) (c .before .before .before .loop-test .taken) .row)
+get-requires c κs =
+    let c3 = c .before .before .before in
+    let c4 = c3 .before in
+    let c11 = c4 .before .before .before .before .before .before .before in
+    omega (arith, styles-row (c11 .pre) (c4 .loop .inv) (c3 .loop-test .taken) .row)
 
--- src/collect.rt:37:5
 loop-less : tie.Need-loop-less Inv-loop μ-loop
 loop-less c =
-    let o = styles-next (c .before .before .before .before .before .before .before .before .before .before .before .before .pre) (c .before .before .before .before .before .loop .inv) (c .before .before .before .before .loop-test .taken) in
+    let c4 = c .before .before .before .before in
+    let c5 = c4 .before in
+    let c12 = c5 .before .before .before .before .before .before .before in
+    let o = styles-next (c12 .pre) (c5 .loop .inv) (c4 .loop-test .taken) in
     omega (arith, o .0, o .1, c .get .ensures)
 
--- src/collect.rt:37:5
+-- the element gives a row, or has no id, or is another
 loop-again : tie.Need-loop-again Inv-loop μ-loop
 loop-again c =
     let a = c .before .before .before .before .before .before .before .before .before .before .before .before .pre in
@@ -125,19 +152,15 @@ loop-again c =
     w)
     (c .before .if1 .came))
 
--- src/collect.rt:20:1
 same-length-4 : tie.Need-same-length-4 Inv-loop μ-loop
 same-length-4 c = c .before .loop .inv .same-styles
 
--- src/collect.rt:20:1
 same-length-5 : tie.Need-same-length-5 Inv-loop μ-loop
 same-length-5 c = c .before .loop .inv .same-sizes
 
--- src/collect.rt:20:1
 same-length-6 : tie.Need-same-length-6 Inv-loop μ-loop
 same-length-6 c = c .before .loop .inv .same-extras
 
--- src/collect.rt:20:1
 returns-2 : tie.Need-returns-2 Inv-loop μ-loop
 returns-2 c = styles-done (c .before .before .before .before .before .before .before .before .pre) (c .before .loop .inv) (c .loop-test .left)
 
