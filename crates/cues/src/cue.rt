@@ -1,5 +1,4 @@
 // A p as a cue.
-ghost use mathlib.Core.Path.{_≡_};
 ghost use Rattle.inline.specs.Wraps.{three};
 ghost use Rattle.styling.specs.Posts.{OfRows};
 ghost use Rattle.cues.specs.Steps.{AsksSegments, SegmentsPost, AsksCue, CueOutcome, seven, AsksChild, ParagraphPost};

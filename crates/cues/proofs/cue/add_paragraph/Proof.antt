@@ -45,16 +45,19 @@ sub-t28 c = search needs
 -- src/cue.rt:100:11
 add-cue-requires : tie.Need-add-cue-requires
 add-cue-requires c κs =
-    let s = c .before .before .before .before .before .before .before .before .before .before .before .before .before .before .before .before .before .before .before in
+    let c7 = c .before .before .before .before .before .before .before in
+    let c9 = c7 .before .before in
+    let c13 = c9 .before .before .before .before in
+    let s = c13 .before .before .before .before .before .before in
     let p = s .pre in
     let l = p .attrs .0 in
     let o = p .attrs .1 in
-    let x = c .before .before .before .before .before .before .before .before .before .before .before .before .before .collect-p-inline-extras in
+    let x = c13 .collect-p-inline-extras in
     (
       p .in-cues,
       p .in-times,
-      part-small (c .before .before .before .before .before .before .before .before .before .value-of .result) (c .before .before .before .before .before .before .before .before .before .value-of .ensures l o) (p .small),
-      part-small (c .before .before .before .before .before .before .before .value-of2 .result) (c .before .before .before .before .before .before .before .value-of2 .ensures l o) (p .small),
+      part-small (c9 .value-of .result) (c9 .value-of .ensures l o) (p .small),
+      part-small (c7 .value-of2 .result) (c7 .value-of2 .ensures l o) (p .small),
       (omega (arith, p .after, p .few), omega (arith, p .after, p .few)),
       rows-small (x .result) (x .ensures .1 l o) (s .args .e .many) (x .ensures .0) (omega (arith, p .kept)),
     )
@@ -69,7 +72,11 @@ enum-known-n c = search needs
 
 -- src/cue.rt:108:21
 add-t37 : tie.Need-add-t37
-add-t37 c =     omega (arith, c .before .before .before .before .before .before .before .before .before .before .before .before .before .before .before .before .before .before .before .before .before .collect-p-inline-extras .ensures .0, c .before .before .before .before .before .before .before .before .before .before .before .before .before .before .before .before .before .before .before .before .before .before .before .before .before .before .before .pre .kept)
+add-t37 c =
+    let c12 = c .before .before .before .before .before .before .before .before .before .before .before .before in
+    let c21 = c12 .before .before .before .before .before .before .before .before .before in
+    let c27 = c21 .before .before .before .before .before .before in
+    omega (arith, c21 .collect-p-inline-extras .ensures .0, c27 .pre)
 
 -- src/cue.rt:63:1
 same-length : tie.Need-same-length
@@ -85,7 +92,7 @@ same-length-3 c = search needs
 
 -- src/cue.rt:63:1
 returns : tie.Need-returns
-returns c =     λ l o. ((rw (c .enum-told .given .1) at (c .before .before .before .before .before .add-cue .ensures .0)) .0, refl)
+returns c = λ l o. ((rw (c .enum-told .given .1) at (c .before .before .before .before .before .add-cue .ensures .0)) .0, refl)
 
 -- src/cue.rt:63:1
 same-length-4 : tie.Need-same-length-4
@@ -102,19 +109,27 @@ same-length-6 c = search needs
 -- src/cue.rt:63:1
 returns-2 : tie.Need-returns-2
 returns-2 c =
+    let c3 = c .before .before .before in
+    let c8 = c3 .before .before .before .before .before in
+    let c11 = c8 .before .before .before in
+    let c13 = c11 .before .before in
+    let c16 = c13 .before .before .before in
+    let c18 = c16 .before .before in
+    let c22 = c18 .before .before .before .before in
+    let c28 = c22 .before .before .before .before .before .before in
     λ l o.
-    let a = c .before .before .before .before .before .before .before .before .before .before .before .before .before .before .before .before .before .before .before .before .before .before .before .before .before .before .before .before .args in
-    let x = c .before .before .before .before .before .before .before .before .before .before .before .before .before .before .before .before .before .before .before .before .before .before .collect-p-inline-extras in
-    let v = c .before .before .before .before .before .before .before .before .add-cue .last in
-    let g = c .before .before .before .before .before .before .before .before .before .before .before .struct-told .given in
+    let a = c28 .args in
+    let x = c22 .collect-p-inline-extras in
+    let v = c8 .add-cue .last in
+    let g = c11 .struct-told .given in
     let from = laws.toZ-ofZ w64 (a .when .start) (record { sfits = g .0 .1 }) in
     let to = laws.toZ-ofZ w64 (a .when .end) (record { sfits = g .1 .0 .1 }) in
-    let row = rw (c .before .before .before .n .given .1, from, to) at (c .before .before .before .before .before .before .before .before .add-cue .ensures .0) in
-    let times = rw (c .before .before .before .n .given .1, from, to) at (c .before .before .before .before .before .before .before .before .add-cue .ensures .1) in
+    let row = simp (from, to) at (rw (c3 .n .given .1) at (c8 .add-cue .ensures .0)) in
+    let times = simp (from, to) at (rw (c3 .n .given .1) at (c8 .add-cue .ensures .1)) in
     rw to
-    (cue-added (a .e) (a .when) (a .ws) (a .line) (a .rows) (attrsIn (a .strings .now) l) (c .before .before .before .before .before .before .before .before .before .before .before .before .before .before .before .before .before .before .value-of .result) (c .before .before .before .before .before .before .before .before .before .before .before .before .before .before .before .before .value-of2 .result)
-    (c .before .before .before .before .before .before .before .before .before .before .before .before .before .is-preserve .result) (x .result) (a .cues .now) (v .0) (a .times .now) (v .1 .0) (c .before .before .before .n .given .0 .0) (c .before .before .before .before .before .before .before .before .before .before .before .before .before .before .before .before .before .before .value-of .ensures l o)
-    (c .before .before .before .before .before .before .before .before .before .before .before .before .before .before .before .before .value-of2 .ensures l o) (c .before .before .before .before .before .before .before .before .before .before .before .before .before .is-preserve .ensures) (x .ensures .1 l o) (x .ensures .0) row times)
+    (cue-added (a .e) (a .when) (a .ws) (a .line) (a .rows) (attrsIn (a .strings .now) l) (c18 .value-of .result) (c16 .value-of2 .result)
+    (c13 .is-preserve .result) (x .result) (a .cues .now) (v .0) (a .times .now) (v .1 .0) (c3 .n .given .0 .0) (c18 .value-of .ensures l o)
+    (c16 .value-of2 .ensures l o) (c13 .is-preserve .ensures) (x .ensures .1 l o) (x .ensures .0) row times)
 
 pub add-paragraph-spec : {M : Type 1} → statement M
 add-paragraph-spec =

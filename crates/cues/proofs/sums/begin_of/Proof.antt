@@ -33,7 +33,6 @@ returns c =
 -- src/sums.rt:63:1
 returns-2 : tie.Need-returns-2
 returns-2 c =
-
     λ l o.
     let e = rw (c .before .before .b .given .1) at (c .before .before .before .before .time-given .ensures .1 l o) in
     let zero = rw (c .before .before .b .given .1) at (c .before .before .before .before .time-given .ensures .0) in

@@ -44,7 +44,6 @@ single-ended-requires c κs = search needs
 -- src/sums.rt:236:1
 returns : tie.Need-returns
 returns c =
-
     λ l o.
     let e = rw (c .before .r .given .1) at (c .before .before .before .begin-of .ensures l o) in
     rw (← e)
@@ -52,20 +51,25 @@ returns c =
 -- src/sums.rt:236:1
 returns-2 : tie.Need-returns-2
 returns-2 c =
-
+    let c3 = c .before .before .before in
+    let c6 = c3 .before .before .before in
+    let c8 = c6 .before .before in
     λ l o.
-    let e = rw (c .before .before .before .before .before .before .start .given .1) at (c .before .before .before .before .before .before .before .before .begin-of .ensures l o) in
-    let g = rw (c .before .r2 .given .1) at (c .before .before .before .time-given .ensures .1 l o) in
+    let e = rw (c6 .start .given .1) at (c8 .begin-of .ensures l o) in
+    let g = rw (c .before .r2 .given .1) at (c3 .time-given .ensures .1 l o) in
     rw (← e, ← g)
 
 -- src/sums.rt:236:1
 returns-3 : tie.Need-returns-3
 returns-3 c =
-
+    let c4 = c .before .before .before .before in
+    let c6 = c4 .before .before in
+    let c7 = c6 .before in
+    let c9 = c7 .before .before in
     λ l o.
-    let e = rw (c .before .before .before .before .before .before .before .start .given .1) at (c .before .before .before .before .before .before .before .before .before .begin-of .ensures l o) in
-    let g = rw (c .before .before .end .given .1) at (c .before .before .before .before .time-given .ensures .1 l o) in
-    let from = laws.toZ-ofZ w64 (c .before .before .before .before .before .before .before .start .given .0 .0) (record { sfits = c .before .before .before .before .before .before .known-told2 .given .0 .1 }) in
+    let e = rw (c7 .start .given .1) at (c9 .begin-of .ensures l o) in
+    let g = rw (c .before .before .end .given .1) at (c4 .time-given .ensures .1 l o) in
+    let from = laws.toZ-ofZ w64 (c7 .start .given .0 .0) (record { sfits = c6 .known-told2 .given .0 .1 }) in
     rw (← e, ← g) (rw (from) at (c .single-ended .ensures l o))
 
 pub single-interval-spec : {M : Type 1} → statement M
