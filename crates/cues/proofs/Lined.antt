@@ -139,8 +139,13 @@ drop-both-on : {A : Type 0} (d : A) (l : List A) (i j k m : ℕ) → i ≤ j + k
     → drop i (replicate j d ++ (replicate k d ++ l)) ≡ replicate m d ++ l
 drop-both-on d l i j k m h e =
     let long : i ≤ length (replicate (j + k) d) = rw (length-replicate (j + k) d) h in
-    rw (← (append-assoc (replicate j d) (replicate k d) l), replicate-append-replicate j k d, drop-append-le i (replicate (j + k) d) l long,
-        drop-same i (j + k) d, e)
+    rw (
+      ← (append-assoc (replicate j d) (replicate k d) l),
+      replicate-append-replicate j k d,
+      drop-append-le i (replicate (j + k) d) l long,
+      drop-same i (j + k) d,
+      e,
+    )
 
 -- nothing stands from row n on
 abbrev pub blankFrom : Base → ℕ → Three
@@ -173,10 +178,15 @@ onward-fits end n h g = omega arith
 module _ (b : Base) (first end : ℕ) (low : first ≤ end) (most : end ≤ 16384) where
   pub blank-later : later (end - first) (blankFrom b first) ≡ blankFrom b end
   blank-later =
-      rw (drop-same {A = ℕ} ((end - first) * 8) (b .lengths .segments - first * 8) 0, less-eights (b .lengths .segments) first end low,
-          drop-same (end - first) (b .lengths .reveal - first) (pos 0), less-ones (b .lengths .reveal) first end low,
-          drop-append-le (end - first) (replicate (16384 - first) zeroFloat) (b .sizes) (rw length-replicate (omega arith)),
-          drop-same (end - first) (16384 - first) zeroFloat, less-ones 16384 first end low)
+      rw (
+        drop-same {A = ℕ} ((end - first) * 8) (b .lengths .segments - first * 8) 0,
+        less-eights (b .lengths .segments) first end low,
+        drop-same (end - first) (b .lengths .reveal - first) (pos 0),
+        less-ones (b .lengths .reveal) first end low,
+        drop-append-le (end - first) (replicate (16384 - first) zeroFloat) (b .sizes) (rw length-replicate (omega arith)),
+        drop-same (end - first) (16384 - first) zeroFloat,
+        less-ones 16384 first end low,
+      )
 
   pub blank-onward : (n : ℕ) → first ≤ n → n ≤ 16384 → 131072 ≤ first * 8 + (b .lengths .segments - first * 8)
       → 16384 ≤ first + (b .lengths .reveal - first) → onward end n (blankFrom b end) ≡ blankFrom b n
@@ -184,9 +194,11 @@ module _ (b : Base) (first end : ℕ) (low : first ≤ end) (most : end ≤ 1638
       let i = onward-eights (b .lengths .segments) first end n wide low most h in
       let j = onward-ones (b .lengths .reveal) first end n wide-times low most h in
       let k = onward-ones 16384 first end n (back first) low most h in
-      rw (drop-both {A = ℕ} 0 ((n - end) * 8) ((end - n) * 8) (b .lengths .segments - end * 8) (b .lengths .segments - n * 8) i,
-          drop-both (pos 0) (n - end) (end - n) (b .lengths .reveal - end) (b .lengths .reveal - n) j,
-          drop-both-on zeroFloat (b .sizes) (n - end) (end - n) (16384 - end) (16384 - n) (onward-fits end n most g) k)
+      rw (
+        drop-both {A = ℕ} 0 ((n - end) * 8) ((end - n) * 8) (b .lengths .segments - end * 8) (b .lengths .segments - n * 8) i,
+        drop-both (pos 0) (n - end) (end - n) (b .lengths .reveal - end) (b .lengths .reveal - n) j,
+        drop-both-on zeroFloat (b .sizes) (n - end) (end - n) (16384 - end) (16384 - n) (onward-fits end n most g) k,
+      )
 
 -- ---- a row
 

@@ -14,35 +14,35 @@ use Rattle.cues.proofs.paragraph.value_of.Reads as value-of-reads
 use Rattle.extras.proofs.collect_p_inline_extras.Reads as collect-p-inline-extras-reads
 use Rattle.records.proofs.add_cue.Reads as add-cue-reads
 
--- src/cue.rt:80:9
+-- src/cue.rt:86:9
 collect-p-inline-extras-requires : tie.Need-collect-p-inline-extras-requires
 collect-p-inline-extras-requires c κs = search needs
 
--- src/cue.rt:82:63
+-- src/cue.rt:95:63
 slice-aggregate-value-of : tie.Need-slice-aggregate-value-of
 slice-aggregate-value-of c = search needs
 
--- src/cue.rt:82:9
+-- src/cue.rt:95:9
 value-of-requires : tie.Need-value-of-requires
 value-of-requires c κs = search needs
 
--- src/cue.rt:83:64
+-- src/cue.rt:96:64
 slice-aggregate-value-of-2 : tie.Need-slice-aggregate-value-of-2
 slice-aggregate-value-of-2 c = search needs
 
--- src/cue.rt:83:9
+-- src/cue.rt:96:9
 value-of-requires-2 : tie.Need-value-of-requires-2
 value-of-requires-2 c κs = search needs
 
--- src/cue.rt:93:19
+-- src/cue.rt:106:19
 is-preserve-requires : tie.Need-is-preserve-requires
 is-preserve-requires c κs = search needs
 
--- src/cue.rt:96:20
+-- src/cue.rt:109:20
 sub-t28 : tie.Need-sub-t28
 sub-t28 c = search needs
 
--- src/cue.rt:100:11
+-- src/cue.rt:113:11
 add-cue-requires : tie.Need-add-cue-requires
 add-cue-requires c κs =
     let c7 = c .before .before .before .before .before .before .before in
@@ -52,8 +52,7 @@ add-cue-requires c κs =
     let p = s .pre in
     let l = p .attrs .0 in
     let o = p .attrs .1 in
-    let x = c13 .collect-p-inline-extras in
-    (
+    let x = c13 .collect-p-inline-extras in (
       p .in-cues,
       p .in-times,
       part-small (c9 .value-of .result) (c9 .value-of .ensures l o) (p .small),
@@ -62,15 +61,15 @@ add-cue-requires c κs =
       rows-small (x .result) (x .ensures .1 l o) (s .args .e .many) (x .ensures .0) (omega (arith, p .kept)),
     )
 
--- src/cue.rt:101:40
+-- src/cue.rt:114:40
 enum-told : tie.Need-enum-told
 enum-told c = search needs
 
--- src/cue.rt:105:21
+-- src/cue.rt:118:21
 enum-known-n : tie.Need-enum-known-n
 enum-known-n c = search needs
 
--- src/cue.rt:108:21
+-- src/cue.rt:121:21
 add-t37 : tie.Need-add-t37
 add-t37 c =
     let c12 = c .before .before .before .before .before .before .before .before .before .before .before .before in
@@ -78,35 +77,35 @@ add-t37 c =
     let c27 = c21 .before .before .before .before .before .before in
     omega (arith, c21 .collect-p-inline-extras .ensures .0, c27 .pre)
 
--- src/cue.rt:63:1
+-- src/cue.rt:69:1
 same-length : tie.Need-same-length
 same-length c = search needs
 
--- src/cue.rt:63:1
+-- src/cue.rt:69:1
 same-length-2 : tie.Need-same-length-2
 same-length-2 c = search needs
 
--- src/cue.rt:63:1
+-- src/cue.rt:69:1
 same-length-3 : tie.Need-same-length-3
 same-length-3 c = search needs
 
--- src/cue.rt:63:1
+-- src/cue.rt:69:1
 returns : tie.Need-returns
 returns c = λ l o. ((rw (c .enum-told .given .1) at (c .before .before .before .before .before .add-cue .ensures .0)) .0, refl)
 
--- src/cue.rt:63:1
+-- src/cue.rt:69:1
 same-length-4 : tie.Need-same-length-4
 same-length-4 c = search needs
 
--- src/cue.rt:63:1
+-- src/cue.rt:69:1
 same-length-5 : tie.Need-same-length-5
 same-length-5 c = search needs
 
--- src/cue.rt:63:1
+-- src/cue.rt:69:1
 same-length-6 : tie.Need-same-length-6
 same-length-6 c = search needs
 
--- src/cue.rt:63:1
+-- src/cue.rt:69:1
 returns-2 : tie.Need-returns-2
 returns-2 c =
     let c3 = c .before .before .before in

@@ -15,47 +15,47 @@ use Rattle.cues.proofs.sums.interval_of.Reads as interval-of-reads
 use Rattle.styling.proofs.resolve_ws.Reads as resolve-ws-reads
 use Rattle.xml.proofs.element_at.Reads as element-at-reads
 
--- src/cue.rt:140:9
+-- src/cue.rt:153:9
 element-at-requires : tie.Need-element-at-requires
 element-at-requires c κs = p-row (c .before .before .before .before .before .before .before .before .pre)
 
--- src/cue.rt:141:11
+-- src/cue.rt:154:11
 interval-of-requires : tie.Need-interval-of-requires
 interval-of-requires c κs =
     let c9 = c .before .before .before .before .before .before .before .before .before in
     p-attrs (c9 .pre) (c .element-at .result) (c .element-at .ensures)
 
--- src/cue.rt:142:24
+-- src/cue.rt:155:24
 enum-known-r : tie.Need-enum-known-r
 enum-known-r c = search needs
 
--- src/cue.rt:143:19
+-- src/cue.rt:156:19
 enum-known-when : tie.Need-enum-known-when
 enum-known-when c = search needs
 
--- src/cue.rt:144:17
+-- src/cue.rt:157:17
 resolve-ws-requires : tie.Need-resolve-ws-requires
 resolve-ws-requires c κs =
     let c4 = c .before .before .before .before in
     let c13 = c4 .before .before .before .before .before .before .before .before .before in
     p-attrs (c13 .pre) (c4 .element-at .result) (c4 .element-at .ensures)
 
--- src/cue.rt:145:19
+-- src/cue.rt:158:19
 collect-segments-requires : tie.Need-collect-segments-requires
 collect-segments-requires c κs =
     let c10 = c .before .before .before .before .before .before .before .before .before .before in
     let c19 = c10 .before .before .before .before .before .before .before .before .before in
     p-segments (c19 .pre) (c10 .element-at .result) (c10 .element-at .ensures)
 
--- src/cue.rt:160:33
+-- src/cue.rt:173:33
 enum-known-r-2 : tie.Need-enum-known-r-2
 enum-known-r-2 c = search needs
 
--- src/cue.rt:161:28
+-- src/cue.rt:174:28
 enum-known-rows : tie.Need-enum-known-rows
 enum-known-rows c = search needs
 
--- src/cue.rt:161:37
+-- src/cue.rt:174:37
 add-paragraph-requires : tie.Need-add-paragraph-requires
 add-paragraph-requires c κs =
     let c4 = c .before .before .before .before in
@@ -72,7 +72,7 @@ add-paragraph-requires c κs =
     let from = laws.toZ-ofZ w64 (when .start) (record { sfits = c14 .struct-told .given .0 .1 }) in
     let post = rw (c4 .rows .given .1, from) at (c13 .collect-segments .ensures) in
     let more = p-after (s .pre) e row (when .start) (s .args .ctx) (c19 .resolve-ws .result) (three (v .0) (v .1 .0) (v .1 .1 .0)) (v .1 .1 .1 .0)
-        (c4 .rows .given .0 .0) post in
+    (c4 .rows .given .0 .0) post in
     record {
       attrs = p-attrs (s .pre) e row;
       small = s .pre .spacious .roomy .small;
@@ -84,7 +84,7 @@ add-paragraph-requires c κs =
       in-extras = s .pre .spacious .extras;
     }
 
--- src/cue.rt:115:1
+-- src/cue.rt:128:1
 returns : tie.Need-returns
 returns c =
     let c3 = c .before .before .before in
@@ -95,23 +95,23 @@ returns c =
     no-times (s .pre) (c4 .element-at .result) (c4 .element-at .ensures) (a .reference) (a .ctx) (a .ws) here (c .before .r .given .0 .0)
     (λ l o. rw (c .before .r .given .1, toZ-ofZ (s .fits .reference)) at (c3 .interval-of .ensures l o))
 
--- src/cue.rt:115:1
+-- src/cue.rt:128:1
 same-length : tie.Need-same-length
 same-length c = search needs
 
--- src/cue.rt:115:1
+-- src/cue.rt:128:1
 same-length-2 : tie.Need-same-length-2
 same-length-2 c = search needs
 
--- src/cue.rt:115:1
+-- src/cue.rt:128:1
 same-length-3 : tie.Need-same-length-3
 same-length-3 c = search needs
 
--- src/cue.rt:115:1
+-- src/cue.rt:128:1
 same-length-4 : tie.Need-same-length-4
 same-length-4 c = search needs
 
--- src/cue.rt:115:1
+-- src/cue.rt:128:1
 returns-2 : tie.Need-returns-2
 returns-2 c =
     let c10 = c .before .before .before .before .before .before .before .before .before .before in
@@ -131,35 +131,35 @@ returns-2 c =
     (c16 .resolve-ws .ensures)
     (c .before .r2 .given .0 .0) (rw (c .before .r2 .given .1, from) at (c10 .collect-segments .ensures))
 
--- src/cue.rt:115:1
+-- src/cue.rt:128:1
 same-length-5 : tie.Need-same-length-5
 same-length-5 c = search needs
 
--- src/cue.rt:115:1
+-- src/cue.rt:128:1
 same-length-6 : tie.Need-same-length-6
 same-length-6 c = search needs
 
--- src/cue.rt:115:1
+-- src/cue.rt:128:1
 same-length-7 : tie.Need-same-length-7
 same-length-7 c = search needs
 
--- src/cue.rt:115:1
+-- src/cue.rt:128:1
 same-length-8 : tie.Need-same-length-8
 same-length-8 c = search needs
 
--- src/cue.rt:115:1
+-- src/cue.rt:128:1
 same-length-9 : tie.Need-same-length-9
 same-length-9 c = search needs
 
--- src/cue.rt:115:1
+-- src/cue.rt:128:1
 same-length-10 : tie.Need-same-length-10
 same-length-10 c = search needs
 
--- src/cue.rt:115:1
+-- src/cue.rt:128:1
 same-length-11 : tie.Need-same-length-11
 same-length-11 c = search needs
 
--- src/cue.rt:115:1
+-- src/cue.rt:128:1
 returns-3 : tie.Need-returns-3
 returns-3 c =
     let c5 = c .before .before .before .before .before in
