@@ -156,6 +156,20 @@ static void readers(void)
     }
 }
 
+/* The calls of docs/REFUSALS.md: one on a short table, two on a track without cues. */
+static void calls(void)
+{
+    memset(&tables, 0, sizeof tables);
+    const uint64_t told = pg_check_track(tables.head, 9, PG_LEND(tables.params), PG_LEND(tables.styles), PG_LEND(tables.regions),
+        PG_LEND(tables.cues), PG_LEND(tables.times), PG_LEND(tables.segments), PG_LEND(tables.reveal), PG_LEND(tables.sizes),
+        PG_LEND(tables.extras), PG_LEND(tables.strings), PG_LEND(tables.texts));
+    SHOULD(told == PG_SHORT_TABLE && pg_check(&tables).number == PG_TAKEN);
+    pg_answer answer = pg_write_cue(&tables, 0, written, sizeof written);
+    SHOULD(answer.number == PG_NO_TRACK && answer.place == 0);
+    answer = pg_write_track(&tables, written, 10);
+    SHOULD(answer.number == PG_NO_ROOM && answer.place == 0);
+}
+
 static unsigned flags_of(pg_style style)
 {
     return (unsigned)style.bold | (unsigned)style.italic << 1 | (unsigned)style.underline << 2 | (unsigned)style.strike << 3;
@@ -219,6 +233,7 @@ int main(void)
     queries();
     writers();
     readers();
+    calls();
     one_by_one();
     names();
     printf("header.c: %d tests, %d failed\n", tests, failed);
