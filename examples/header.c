@@ -140,9 +140,19 @@ static void writers(void)
 
 static void readers(void)
 {
+    const char tree[] = "<a x b='&amp;'>c&lt;<![CDATA[&]]></a><d/>";
     uint32_t counts[2] = {7, 7};
-    pg_answer answer = pg_read_tree(&tables, "<a b='&amp;'>c</a>", 18, counts);
-    SHOULD(answer.number == PG_TAKEN && counts[0] == 2 && counts[1] == 1 && tables.strings[6] == '&' && tables.strings[13] == 'c');
+    pg_answer answer = pg_read_tree(&tables, tree, sizeof tree - 1, counts);
+    SHOULD(answer.number == PG_TAKEN && counts[0] == 4 && counts[1] == 2);
+    SHOULD(pg_node_kind(&tables, 0) == PG_NODE_ELEMENT && is(pg_node_string(&tables, 0), "a") && pg_node_end(&tables, 0) == 3);
+    SHOULD(pg_node_kind(&tables, 1) == PG_NODE_TEXT && is(pg_node_string(&tables, 1), "c<") && pg_node_end(&tables, 1) == 2);
+    SHOULD(pg_node_kind(&tables, 2) == PG_NODE_SECTION && is(pg_node_string(&tables, 2), "&") && pg_node_place(&tables, 2) == 29);
+    SHOULD(is(pg_node_string(&tables, 3), "d") && pg_node_place(&tables, 3) == 37 && pg_node_attrs(&tables, 3).count == 0);
+    SHOULD(pg_node_attrs(&tables, 0).first == 0 && pg_node_attrs(&tables, 0).count == 2);
+    SHOULD(is(pg_attr_name(&tables, 0), "x") && is(pg_attr_value(&tables, 0), ""));
+    SHOULD(is(pg_attr_name(&tables, 1), "b") && is(pg_attr_value(&tables, 1), "&"));
+    const char zero[] = "<p>&#0;</p>";
+    SHOULD(pg_read_cue(&tables, zero, sizeof zero - 1).number == PG_TAKEN && pg_cue_text(&tables, 0, text, 9) == 1 && text[0] == 0);
     answer = pg_read(&tables, NULL, 0);
     SHOULD(answer.number == PG_NO_ROOT && answer.place == 0 && !pg_names_place(answer.number));
     const char damaged[] = "<tt>\n\xC3\xA9<p/\xC3\xA9";

@@ -204,7 +204,7 @@ static inline pg_answer pg_read_cue(pg_tables *t, const void *text, size_t lengt
     return pg_answer_read(pg_bytes_to_cue(pg_bytes(text), length, PG_LEND_TREE(t), PG_LEND_TRACK(t)));
 }
 
-/* Reads the tree alone, into nodes, attrs and strings; counts[0] nodes and counts[1] attributes. */
+/* Reads the tree alone, into nodes, attrs and strings, whatever its elements are called; counts[0] nodes and counts[1] attributes. */
 static inline pg_answer pg_read_tree(pg_tables *t, const void *text, size_t length, uint32_t counts[2])
 {
     return pg_answer_read(pg_parse_xml(pg_bytes(text), length, PG_LEND_TREE(t), PG_LEND(t->strings), counts, 2));
@@ -430,6 +430,29 @@ static inline size_t pg_cue_text(const pg_tables *t, size_t cue, char *out, size
     }
     return length;
 }
+
+/* ---- the tree, which pg_read_tree, pg_read and pg_read_cue leave: rows in document order */
+
+typedef enum pg_node { PG_NODE_TEXT = 1, PG_NODE_ELEMENT = 2, PG_NODE_SECTION = 3 } pg_node;
+
+static inline pg_node pg_node_kind(const pg_tables *t, size_t row) { return (pg_node)t->nodes[6 * row]; }
+/* The row after all that stands inside: the next sibling, if the parent goes on. */
+static inline size_t pg_node_end(const pg_tables *t, size_t row) { return t->nodes[6 * row + 1]; }
+/* The place in the text of an element's "<", or of the first byte of a text or a section. */
+static inline size_t pg_node_place(const pg_tables *t, size_t row) { return t->nodes[6 * row + 2]; }
+
+/* The name of an element, which stands after its "<"; the bytes of a text, entities read, or of a section. */
+static inline pg_string pg_node_string(const pg_tables *t, size_t row)
+{
+    pg_string string = pg_string_in(t->strings, t->nodes + 6 * row + 2);
+    string.bytes += pg_node_kind(t, row) == PG_NODE_ELEMENT;
+    return string;
+}
+
+/* The rows of an element's attributes. */
+static inline pg_rows pg_node_attrs(const pg_tables *t, size_t row) { return pg_rows_in(t->nodes + 6 * row + 4); }
+static inline pg_string pg_attr_name(const pg_tables *t, size_t row) { return pg_string_in(t->strings, t->attrs + 4 * row); }
+static inline pg_string pg_attr_value(const pg_tables *t, size_t row) { return pg_string_in(t->strings, t->attrs + 4 * row + 2); }
 
 /* ---- extras: attributes that are kept as they were, their names by number in a list of their own for styles, regions and cues */
 

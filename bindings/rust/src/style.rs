@@ -106,10 +106,10 @@ pub enum Align {
 impl fmt::Display for Size {
     /// As it is written: what `{}` prints for `value`.
     fn fmt(&self, f: &mut fmt::Formatter<'_>) -> fmt::Result {
-        let power = 10_u64.pow(self.scale);
-        let (whole, behind) = (u64::from(self.digits) / power, u64::from(self.digits) % power);
+        let digits = format!("{:0width$}", self.digits, width = self.scale as usize + 1);
+        let (whole, behind) = digits.split_at(digits.len() - self.scale as usize);
         write!(f, "{}{whole}", if self.negative { "-" } else { "" })?;
-        if self.scale == 0 { Ok(()) } else { write!(f, ".{behind:0width$}", width = self.scale as usize) }
+        if behind.is_empty() { Ok(()) } else { write!(f, ".{behind}") }
     }
 }
 
