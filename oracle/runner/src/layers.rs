@@ -4,6 +4,7 @@ pub mod colors;
 pub mod decimals;
 pub mod entities;
 pub mod numerals;
+pub mod parse;
 pub mod scan;
 pub mod styles;
 pub mod times;
@@ -24,6 +25,7 @@ pub static LAYERS: &[Layer] = &[
     times::LAYER,
     colors::LAYER,
     styles::LAYER,
+    parse::LAYER,
 ];
 
 pub struct Layer {

@@ -34,6 +34,42 @@ pub struct Tables {
     rows: usize,
 }
 
+/// The same as they are handed to the port.
+#[derive(Clone, Copy)]
+pub struct Handed<'a> {
+    pub head: &'a [u32],
+    pub params: &'a [u32],
+    pub styles: &'a [u32],
+    pub regions: &'a [u32],
+    pub cues: &'a [u32],
+    pub times: &'a [i64],
+    pub segments: &'a [u32],
+    pub reveal: &'a [i64],
+    pub sizes: &'a [f32],
+    pub extras: &'a [u32],
+    pub strings: &'a [u8],
+    pub texts: &'a [u8],
+}
+
+/// How the twelve tables are lent.
+#[derive(Clone, Copy, Debug, PartialEq)]
+pub enum Lending {
+    Fixed,
+    /// With some cells behind them.
+    Longer,
+    /// This one lacks its last cell.
+    Short(usize),
+}
+
+/// A table as it is lent.
+fn lent<C>(table: &[C], number: usize, lending: Lending) -> &[C] {
+    match lending {
+        Lending::Fixed => &table[..LENGTHS[number]],
+        Lending::Longer => &table[..LENGTHS[number] + MORE],
+        Lending::Short(short) => &table[..LENGTHS[number] - (number == short) as usize],
+    }
+}
+
 /// Why a track is not one for the tables: a count or a size past its limit, or metadata that no document makes.
 #[derive(Debug)]
 pub struct Unfit(#[allow(dead_code)] pub &'static str); // it is printed
@@ -71,6 +107,28 @@ impl Tables {
             texts: vec![0; texts],
             rows: 0,
         }
+    }
+
+    pub fn handed(&self, lending: Lending) -> Handed<'_> {
+        Handed {
+            head: lent(&self.head, 0, lending),
+            params: lent(&self.params, 1, lending),
+            styles: lent(&self.styles, 2, lending),
+            regions: lent(&self.regions, 3, lending),
+            cues: lent(&self.cues, 4, lending),
+            times: lent(&self.times, 5, lending),
+            segments: lent(&self.segments, 6, lending),
+            reveal: lent(&self.reveal, 7, lending),
+            sizes: lent(&self.sizes, 8, lending),
+            extras: lent(&self.extras, 9, lending),
+            strings: lent(&self.strings, 10, lending),
+            texts: lent(&self.texts, 11, lending),
+        }
+    }
+
+    /// The Rust's track of these tables.
+    pub fn track(&self) -> Back<SubtitleTrack> {
+        self.handed(Lending::Fixed).track()
     }
 
     /// The tables of a track as the Rust's `parse` makes it. What stood in them before is cleared.
@@ -299,9 +357,9 @@ pub fn align(align: TextAlign) -> u32 {
 }
 
 /// Reading back. What no track has is an error, in words.
-type Back<A> = Result<A, String>;
+pub type Back<A> = Result<A, String>;
 
-impl Tables {
+impl Handed<'_> {
     /// The Rust's track of these tables: `lay` read backwards. Its metadata stands in the order of the Rust's `parse`.
     pub fn track(&self) -> Back<SubtitleTrack> {
         let mut track = SubtitleTrack::default();
@@ -310,10 +368,10 @@ impl Tables {
         if let Some(lang) = self.optional_at(&self.head[5..8])? {
             metadata.push(("xml:lang".into(), lang));
         }
-        for row in rows(&self.params, 4, self.head[PARAMS])? {
+        for row in rows(self.params, 4, self.head[PARAMS])? {
             metadata.push((format!("ttml_param.{}", self.string_at(row)?), self.string_at(&row[2..])?));
         }
-        for (at, row) in rows(&self.styles, 27, self.head[STYLE_COUNT])?.enumerate() {
+        for (at, row) in rows(self.styles, 27, self.head[STYLE_COUNT])?.enumerate() {
             let style = self.style_at(at, row)?;
             let (extras, chain) = (self.extras_at(&row[25..], STYLE)?, self.string_at(&row[2..])?);
             if !extras.is_empty() {
@@ -324,11 +382,11 @@ impl Tables {
             }
             track.styles.push(style);
         }
-        for row in rows(&self.regions, 4, self.head[REGIONS])? {
+        for row in rows(self.regions, 4, self.head[REGIONS])? {
             metadata.push((format!("ttml_region.{}", self.string_at(row)?), self.extras_at(&row[2..], REGION)?));
         }
         let mut segment = 0;
-        for (at, row) in rows(&self.cues, 11, self.head[CUES])?.enumerate() {
+        for (at, row) in rows(self.cues, 11, self.head[CUES])?.enumerate() {
             let end = segment + row[8] as usize;
             track.cues.push(SubtitleCue {
                 start_us: self.times[2 * at],
@@ -375,7 +433,7 @@ impl Tables {
             }
             let children = self.segments_to(last, at)?;
             segments.push(match row[0] {
-                1 => Segment::Text(string_in(&self.texts, self.head[TEXTS], &row[2..])?),
+                1 => Segment::Text(string_in(self.texts, self.head[TEXTS], &row[2..])?),
                 2 => Segment::LineBreak,
                 3 => Segment::Timestamp { offset_us: self.reveal[here] },
                 4 => Segment::Bold(children),
@@ -403,7 +461,7 @@ impl Tables {
     }
 
     fn string_at(&self, span: &[u32]) -> Back<String> {
-        string_in(&self.strings, self.head[STRINGS], span)
+        string_in(self.strings, self.head[STRINGS], span)
     }
 
     fn optional_at(&self, cells: &[u32]) -> Back<Option<String>> {
