@@ -215,6 +215,21 @@ exports! {
         strings: &mut [u8],
         texts: &mut [u8]
     ) -> u64;
+    /// The number of a handed track: 0, 1 or 17.
+    fn pg_check_track(
+        head: &[u32],
+        params: &[u32],
+        styles: &[u32],
+        regions: &[u32],
+        cues: &[u32],
+        times: &[i64],
+        segments: &[u32],
+        reveal: &[i64],
+        sizes: &[f32],
+        extras: &[u32],
+        strings: &[u8],
+        texts: &[u8]
+    ) -> u64;
     /// A handed track as text at the start of `out`: the number, 0 for a text, and in the high 32 bits how many bytes.
     fn pg_write(
         head: &[u32],

@@ -43,8 +43,12 @@ impl Cells {
     pub fn fill(&mut self, read: &Read, track: &Track) {
         self.clear();
         self.tree.fill(read);
-        let bytes = read.text.len();
-        self.texts.resize(bytes, 0);
+        self.track(track, read.text.len(), read.text.len());
+    }
+
+    /// Those of the track alone, where so many bytes of strings and of texts are used.
+    pub fn track(&mut self, track: &Track, strings: usize, texts: usize) {
+        self.texts.resize(texts, 0);
         for (name, value) in &track.params {
             self.params.extend([span(name), span(value)].concat());
         }
@@ -61,7 +65,7 @@ impl Cells {
         let counts = [track.params.len(), track.styles.len(), track.regions.len(), track.cues.len(), self.reveal.len()];
         self.head.extend(counts.map(|count| count as u32));
         self.head.extend(optional(&track.lang));
-        self.head.extend([bytes as u32; 2]);
+        self.head.extend([strings as u32, texts as u32]);
     }
 
     fn style(&mut self, style: &Style) {

@@ -5,11 +5,13 @@ pub mod decimals;
 pub mod entities;
 pub mod numerals;
 pub mod parse;
+pub mod readback;
 pub mod scan;
 pub mod styles;
 pub mod times;
 pub mod tree;
 pub mod utf8;
+pub mod write;
 
 use crate::bench::Bench;
 use crate::compare::Run;
@@ -26,6 +28,8 @@ pub static LAYERS: &[Layer] = &[
     colors::LAYER,
     styles::LAYER,
     parse::LAYER,
+    write::LAYER,
+    readback::LAYER,
 ];
 
 pub struct Layer {

@@ -17,13 +17,18 @@ mod layers;
 mod lend;
 mod lending;
 mod placed;
+mod plain;
 mod query;
 mod reach;
 mod record;
 mod rows;
 mod sheets;
+mod soil;
 mod tables;
 mod texts;
+mod tracks;
+mod valid;
+mod writing;
 
 use layers::{LAYERS, Layer};
 use std::process::ExitCode;

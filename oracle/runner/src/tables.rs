@@ -1,5 +1,6 @@
 //! The port's twelve tables of a track (docs/TABLES.md): laid out from the Rust's track, and read back as one.
 
+use crate::cells::Cells;
 use crate::extras::{INLINE, Names, REGION, STYLE, join, split};
 use crate::record::hex;
 use reference::ir::{Segment, SubtitleCue, SubtitleStyle, SubtitleTrack, TextAlign};
@@ -123,6 +124,84 @@ impl Tables {
             extras: lent(&self.extras, 9, lending),
             strings: lent(&self.strings, 10, lending),
             texts: lent(&self.texts, 11, lending),
+        }
+    }
+
+    /// These cells, and zeros. What stood in the tables before is cleared, where it was laid out or held.
+    pub fn hold(&mut self, cells: &Cells) {
+        self.clear();
+        copy(&mut self.head, &cells.head);
+        copy(&mut self.params, &cells.params);
+        copy(&mut self.styles, &cells.styles);
+        copy(&mut self.regions, &cells.regions);
+        copy(&mut self.cues, &cells.cues);
+        copy(&mut self.times, &cells.times);
+        copy(&mut self.segments, &cells.segments);
+        copy(&mut self.reveal, &cells.reveal);
+        copy(&mut self.sizes, &cells.sizes);
+        copy(&mut self.sizes[SEGMENTS..], &cells.style_sizes);
+        copy(&mut self.extras, &cells.extras);
+        copy(&mut self.strings, &cells.tree.strings);
+        copy(&mut self.texts, &cells.texts);
+        self.rows = cells.extras.len() / 3;
+    }
+
+    /// A cell of the table of this number, a float by its bits; and the cell changed.
+    pub fn cell(&self, table: usize, at: usize) -> i64 {
+        match table {
+            5 => self.times[at],
+            7 => self.reveal[at],
+            8 => self.sizes[at].to_bits() as i64,
+            10 => self.strings[at] as i64,
+            11 => self.texts[at] as i64,
+            _ => self.words(table)[at] as i64,
+        }
+    }
+
+    pub fn set(&mut self, table: usize, at: usize, value: i64) {
+        match table {
+            5 => self.times[at] = value,
+            7 => self.reveal[at] = value,
+            8 => self.sizes[at] = f32::from_bits(value as u32),
+            10 => self.strings[at] = value as u8,
+            11 => self.texts[at] = value as u8,
+            0 => self.head[at] = value as u32,
+            1 => self.params[at] = value as u32,
+            2 => self.styles[at] = value as u32,
+            3 => self.regions[at] = value as u32,
+            4 => self.cues[at] = value as u32,
+            6 => self.segments[at] = value as u32,
+            _ => self.extras[at] = value as u32,
+        }
+    }
+
+    fn words(&self, table: usize) -> &[u32] {
+        match table {
+            0 => &self.head,
+            1 => &self.params,
+            2 => &self.styles,
+            3 => &self.regions,
+            4 => &self.cues,
+            6 => &self.segments,
+            _ => &self.extras,
+        }
+    }
+
+    /// How many cells of a table are used.
+    pub fn used(&self, table: usize) -> usize {
+        let count = |at: usize| self.head[at] as usize;
+        match table {
+            0 => 10,
+            1 => 4 * count(PARAMS),
+            2 => 27 * count(STYLE_COUNT),
+            3 => 4 * count(REGIONS),
+            4 => 11 * count(CUES),
+            5 => 2 * count(CUES),
+            6 => 8 * count(SEGMENT_COUNT),
+            7 | 8 => count(SEGMENT_COUNT),
+            9 => 3 * self.rows,
+            10 => count(STRINGS),
+            _ => count(TEXTS),
         }
     }
 
@@ -325,6 +404,10 @@ impl Tables {
 /// What the metadata has under keys that begin so, with the rest of the key.
 pub fn with<'a>(track: &'a SubtitleTrack, prefix: &'a str) -> impl Iterator<Item = (&'a str, &'a str)> {
     track.metadata.iter().filter_map(move |(key, value)| Some((key.strip_prefix(prefix)?, value.as_str())))
+}
+
+fn copy<C: Copy>(table: &mut [C], cells: &[C]) {
+    table[..cells.len()].copy_from_slice(cells);
 }
 
 fn append(bytes: &mut [u8], used: &mut u32, string: &str) -> Laid<[u32; 2]> {
