@@ -1,4 +1,4 @@
-//! The port's functions, as its static library exports them. A slice passes as a pointer and a length.
+//! The port's functions, as its static libraries export them. A slice passes as a pointer and a length.
 
 /// Declares each function and wraps it, so that a signature is written once, with slices.
 ///
@@ -44,6 +44,7 @@ macro_rules! exports {
     };
 }
 
+// What libprobe.a has for the comparison.
 exports! {
     /// Where the longest valid beginning ends.
     fn probe_utf8_end(text: &[u8]) -> usize;
@@ -174,4 +175,92 @@ exports! {
         out: &mut [u64],
         size: &mut [f32]
     ) -> u32;
+}
+
+// The public calls, of libttml.a.
+exports! {
+    /// The track of a text: document 01's number in the low 32 bits, 0 for a track, and its place in the high 32.
+    fn pg_parse(
+        text: &[u8],
+        nodes: &mut [u32],
+        attrs: &mut [u32],
+        head: &mut [u32],
+        params: &mut [u32],
+        styles: &mut [u32],
+        regions: &mut [u32],
+        cues: &mut [u32],
+        times: &mut [i64],
+        segments: &mut [u32],
+        reveal: &mut [i64],
+        sizes: &mut [f32],
+        extras: &mut [u32],
+        strings: &mut [u8],
+        texts: &mut [u8]
+    ) -> u64;
+    /// The same for a single cue.
+    fn pg_bytes_to_cue(
+        text: &[u8],
+        nodes: &mut [u32],
+        attrs: &mut [u32],
+        head: &mut [u32],
+        params: &mut [u32],
+        styles: &mut [u32],
+        regions: &mut [u32],
+        cues: &mut [u32],
+        times: &mut [i64],
+        segments: &mut [u32],
+        reveal: &mut [i64],
+        sizes: &mut [f32],
+        extras: &mut [u32],
+        strings: &mut [u8],
+        texts: &mut [u8]
+    ) -> u64;
+    /// The number of a handed track: 0, 1 or 17.
+    fn pg_check_track(
+        head: &[u32],
+        params: &[u32],
+        styles: &[u32],
+        regions: &[u32],
+        cues: &[u32],
+        times: &[i64],
+        segments: &[u32],
+        reveal: &[i64],
+        sizes: &[f32],
+        extras: &[u32],
+        strings: &[u8],
+        texts: &[u8]
+    ) -> u64;
+    /// A handed track as text at the start of `out`: the number, 0 for a text, and in the high 32 bits how many bytes.
+    fn pg_write(
+        head: &[u32],
+        params: &[u32],
+        styles: &[u32],
+        regions: &[u32],
+        cues: &[u32],
+        times: &[i64],
+        segments: &[u32],
+        reveal: &[i64],
+        sizes: &[f32],
+        extras: &[u32],
+        strings: &[u8],
+        texts: &[u8],
+        out: &mut [u8]
+    ) -> u64;
+    /// The same for the cue of an index.
+    fn pg_cue_to_bytes(
+        head: &[u32],
+        params: &[u32],
+        styles: &[u32],
+        regions: &[u32],
+        cues: &[u32],
+        times: &[i64],
+        segments: &[u32],
+        reveal: &[i64],
+        sizes: &[f32],
+        extras: &[u32],
+        strings: &[u8],
+        texts: &[u8],
+        index: usize,
+        out: &mut [u8]
+    ) -> u64;
 }

@@ -5,6 +5,7 @@ use crate::cases::Rng;
 use std::collections::BTreeMap;
 use std::fmt::{Arguments, Debug, Formatter, Result};
 use std::process::ExitCode;
+use std::thread;
 use std::time::Instant;
 
 /// How many random cases a generator makes if `--count` does not say.
@@ -62,6 +63,14 @@ pub fn run(options: &Options) -> ExitCode {
     }
     println!("{agreed} agreed, {differ} differ");
     ExitCode::from((differ > 0) as u8)
+}
+
+/// The Rust calls itself for each open element and for each comment: with a stack that holds any text.
+pub fn deep(work: impl FnOnce() + Send) {
+    thread::scope(|scope| {
+        let thread = thread::Builder::new().stack_size(1 << 30);
+        thread.spawn_scoped(scope, work).expect("no thread").join().expect("stopped");
+    });
 }
 
 /// Bytes, printed as text with what is not printable ASCII escaped.

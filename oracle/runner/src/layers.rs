@@ -4,11 +4,14 @@ pub mod colors;
 pub mod decimals;
 pub mod entities;
 pub mod numerals;
+pub mod parse;
+pub mod readback;
 pub mod scan;
 pub mod styles;
 pub mod times;
 pub mod tree;
 pub mod utf8;
+pub mod write;
 
 use crate::bench::Bench;
 use crate::compare::Run;
@@ -24,6 +27,9 @@ pub static LAYERS: &[Layer] = &[
     times::LAYER,
     colors::LAYER,
     styles::LAYER,
+    parse::LAYER,
+    write::LAYER,
+    readback::LAYER,
 ];
 
 pub struct Layer {

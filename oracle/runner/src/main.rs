@@ -3,18 +3,32 @@
 mod answer;
 mod bench;
 mod cases;
+mod cells;
 mod compare;
+mod corners;
 mod document;
+mod elements;
 mod expat;
 mod extras;
 mod films;
+mod inline;
+mod judge;
 mod layers;
 mod lend;
+mod lending;
+mod placed;
+mod plain;
 mod query;
 mod reach;
 mod record;
+mod rows;
 mod sheets;
+mod soil;
 mod tables;
+mod texts;
+mod tracks;
+mod valid;
+mod writing;
 
 use layers::{LAYERS, Layer};
 use std::process::ExitCode;
@@ -42,7 +56,7 @@ fn main() -> ExitCode {
     done.unwrap_or_else(|wrong| {
         let names: Vec<&str> = LAYERS.iter().map(|layer| layer.name).collect();
         eprintln!("oracle: {wrong}");
-        eprintln!("usage: oracle/compare|record|bench [--sources DIR] [--probe DIR] [--seed S] [--count N] [LAYER..]");
+        eprintln!("usage: oracle/compare|record|bench [--sources DIR] [--probe DIR] [--ttml DIR] [--seed S] [--count N] [LAYER..]");
         eprintln!("layers: {}", names.join(" "));
         ExitCode::from(2)
     })

@@ -1,7 +1,7 @@
 //! The port's three queries asked, and its answers in the terms of the Rust.
 
 use crate::reach::Question;
-use crate::tables::{LENGTHS, MORE, Tables, align, spelling};
+use crate::tables::{Handed, Lending, Tables, align, spelling};
 use reference::ir::SubtitleStyle;
 
 /// What a query answers.
@@ -72,16 +72,6 @@ impl Outcome {
     }
 }
 
-/// How the twelve tables are lent.
-#[derive(Clone, Copy, Debug, PartialEq)]
-pub enum Lending {
-    Fixed,
-    /// With some cells behind them.
-    Longer,
-    /// This one lacks its last cell.
-    Short(usize),
-}
-
 /// Lends a table of ids with a guarded area around it.
 #[derive(Default)]
 pub struct Asker {
@@ -141,12 +131,8 @@ fn call(
     out: &mut [u64],
     size: &mut [f32],
 ) -> u32 {
-    let t = tables;
-    let (head, params, styles) = (cells(&t.head, 0, lending), cells(&t.params, 1, lending), cells(&t.styles, 2, lending));
-    let (regions, cues, times) = (cells(&t.regions, 3, lending), cells(&t.cues, 4, lending), cells(&t.times, 5, lending));
-    let (segments, reveal) = (cells(&t.segments, 6, lending), cells(&t.reveal, 7, lending));
-    let (sizes, extras) = (cells(&t.sizes, 8, lending), cells(&t.extras, 9, lending));
-    let (strings, texts) = (cells(&t.strings, 10, lending), cells(&t.texts, 11, lending));
+    let Handed { head, params, styles, regions, cues, times, segments, reveal, sizes, extras, strings, texts } =
+        tables.handed(lending);
     match question {
         Question::Value(value) => port::probe_resolve_referenced_style(
             value, head, params, styles, regions, cues, times, segments, reveal, sizes, extras, strings, texts, ids,
@@ -160,15 +146,6 @@ fn call(
             head, params, styles, regions, cues, times, segments, reveal, sizes, extras, strings, texts, *index, ids,
             out, size,
         ),
-    }
-}
-
-/// A table as it is lent.
-pub fn cells<C>(table: &[C], number: usize, lending: Lending) -> &[C] {
-    match lending {
-        Lending::Fixed => &table[..LENGTHS[number]],
-        Lending::Longer => &table[..LENGTHS[number] + MORE],
-        Lending::Short(short) => &table[..LENGTHS[number] - (number == short) as usize],
     }
 }
 

@@ -1,5 +1,6 @@
 //! The port's twelve tables of a track (docs/TABLES.md): laid out from the Rust's track, and read back as one.
 
+use crate::cells::Cells;
 use crate::extras::{INLINE, Names, REGION, STYLE, join, split};
 use crate::record::hex;
 use reference::ir::{Segment, SubtitleCue, SubtitleStyle, SubtitleTrack, TextAlign};
@@ -32,6 +33,42 @@ pub struct Tables {
     pub texts: Vec<u8>,
     /// How many rows of extras are laid out.
     rows: usize,
+}
+
+/// The same as they are handed to the port.
+#[derive(Clone, Copy)]
+pub struct Handed<'a> {
+    pub head: &'a [u32],
+    pub params: &'a [u32],
+    pub styles: &'a [u32],
+    pub regions: &'a [u32],
+    pub cues: &'a [u32],
+    pub times: &'a [i64],
+    pub segments: &'a [u32],
+    pub reveal: &'a [i64],
+    pub sizes: &'a [f32],
+    pub extras: &'a [u32],
+    pub strings: &'a [u8],
+    pub texts: &'a [u8],
+}
+
+/// How the twelve tables are lent.
+#[derive(Clone, Copy, Debug, PartialEq)]
+pub enum Lending {
+    Fixed,
+    /// With some cells behind them.
+    Longer,
+    /// This one lacks its last cell.
+    Short(usize),
+}
+
+/// A table as it is lent.
+fn lent<C>(table: &[C], number: usize, lending: Lending) -> &[C] {
+    match lending {
+        Lending::Fixed => &table[..LENGTHS[number]],
+        Lending::Longer => &table[..LENGTHS[number] + MORE],
+        Lending::Short(short) => &table[..LENGTHS[number] - (number == short) as usize],
+    }
 }
 
 /// Why a track is not one for the tables: a count or a size past its limit, or metadata that no document makes.
@@ -71,6 +108,106 @@ impl Tables {
             texts: vec![0; texts],
             rows: 0,
         }
+    }
+
+    pub fn handed(&self, lending: Lending) -> Handed<'_> {
+        Handed {
+            head: lent(&self.head, 0, lending),
+            params: lent(&self.params, 1, lending),
+            styles: lent(&self.styles, 2, lending),
+            regions: lent(&self.regions, 3, lending),
+            cues: lent(&self.cues, 4, lending),
+            times: lent(&self.times, 5, lending),
+            segments: lent(&self.segments, 6, lending),
+            reveal: lent(&self.reveal, 7, lending),
+            sizes: lent(&self.sizes, 8, lending),
+            extras: lent(&self.extras, 9, lending),
+            strings: lent(&self.strings, 10, lending),
+            texts: lent(&self.texts, 11, lending),
+        }
+    }
+
+    /// These cells, and zeros. What stood in the tables before is cleared, where it was laid out or held.
+    pub fn hold(&mut self, cells: &Cells) {
+        self.clear();
+        copy(&mut self.head, &cells.head);
+        copy(&mut self.params, &cells.params);
+        copy(&mut self.styles, &cells.styles);
+        copy(&mut self.regions, &cells.regions);
+        copy(&mut self.cues, &cells.cues);
+        copy(&mut self.times, &cells.times);
+        copy(&mut self.segments, &cells.segments);
+        copy(&mut self.reveal, &cells.reveal);
+        copy(&mut self.sizes, &cells.sizes);
+        copy(&mut self.sizes[SEGMENTS..], &cells.style_sizes);
+        copy(&mut self.extras, &cells.extras);
+        copy(&mut self.strings, &cells.tree.strings);
+        copy(&mut self.texts, &cells.texts);
+        self.rows = cells.extras.len() / 3;
+    }
+
+    /// A cell of the table of this number, a float by its bits; and the cell changed.
+    pub fn cell(&self, table: usize, at: usize) -> i64 {
+        match table {
+            5 => self.times[at],
+            7 => self.reveal[at],
+            8 => self.sizes[at].to_bits() as i64,
+            10 => self.strings[at] as i64,
+            11 => self.texts[at] as i64,
+            _ => self.words(table)[at] as i64,
+        }
+    }
+
+    pub fn set(&mut self, table: usize, at: usize, value: i64) {
+        match table {
+            5 => self.times[at] = value,
+            7 => self.reveal[at] = value,
+            8 => self.sizes[at] = f32::from_bits(value as u32),
+            10 => self.strings[at] = value as u8,
+            11 => self.texts[at] = value as u8,
+            0 => self.head[at] = value as u32,
+            1 => self.params[at] = value as u32,
+            2 => self.styles[at] = value as u32,
+            3 => self.regions[at] = value as u32,
+            4 => self.cues[at] = value as u32,
+            6 => self.segments[at] = value as u32,
+            _ => self.extras[at] = value as u32,
+        }
+    }
+
+    fn words(&self, table: usize) -> &[u32] {
+        match table {
+            0 => &self.head,
+            1 => &self.params,
+            2 => &self.styles,
+            3 => &self.regions,
+            4 => &self.cues,
+            6 => &self.segments,
+            _ => &self.extras,
+        }
+    }
+
+    /// How many cells of a table are used.
+    pub fn used(&self, table: usize) -> usize {
+        let count = |at: usize| self.head[at] as usize;
+        match table {
+            0 => 10,
+            1 => 4 * count(PARAMS),
+            2 => 27 * count(STYLE_COUNT),
+            3 => 4 * count(REGIONS),
+            4 => 11 * count(CUES),
+            5 => 2 * count(CUES),
+            6 => 8 * count(SEGMENT_COUNT),
+            7 | 8 => count(SEGMENT_COUNT),
+            9 => 3 * self.rows,
+            10 => count(STRINGS),
+            _ => count(TEXTS),
+        }
+    }
+
+    /// The Rust's track of these tables.
+    pub fn track(&self) -> Back<SubtitleTrack> {
+        self.handed(Lending::Fixed).track()
     }
 
     /// The tables of a track as the Rust's `parse` makes it. What stood in them before is cleared.
@@ -269,6 +406,10 @@ pub fn with<'a>(track: &'a SubtitleTrack, prefix: &'a str) -> impl Iterator<Item
     track.metadata.iter().filter_map(move |(key, value)| Some((key.strip_prefix(prefix)?, value.as_str())))
 }
 
+fn copy<C: Copy>(table: &mut [C], cells: &[C]) {
+    table[..cells.len()].copy_from_slice(cells);
+}
+
 fn append(bytes: &mut [u8], used: &mut u32, string: &str) -> Laid<[u32; 2]> {
     let place = *used as usize;
     let room = bytes[..BYTES].get_mut(place..place + string.len()).ok_or(Unfit("strings"))?;
@@ -299,9 +440,9 @@ pub fn align(align: TextAlign) -> u32 {
 }
 
 /// Reading back. What no track has is an error, in words.
-type Back<A> = Result<A, String>;
+pub type Back<A> = Result<A, String>;
 
-impl Tables {
+impl Handed<'_> {
     /// The Rust's track of these tables: `lay` read backwards. Its metadata stands in the order of the Rust's `parse`.
     pub fn track(&self) -> Back<SubtitleTrack> {
         let mut track = SubtitleTrack::default();
@@ -310,10 +451,10 @@ impl Tables {
         if let Some(lang) = self.optional_at(&self.head[5..8])? {
             metadata.push(("xml:lang".into(), lang));
         }
-        for row in rows(&self.params, 4, self.head[PARAMS])? {
+        for row in rows(self.params, 4, self.head[PARAMS])? {
             metadata.push((format!("ttml_param.{}", self.string_at(row)?), self.string_at(&row[2..])?));
         }
-        for (at, row) in rows(&self.styles, 27, self.head[STYLE_COUNT])?.enumerate() {
+        for (at, row) in rows(self.styles, 27, self.head[STYLE_COUNT])?.enumerate() {
             let style = self.style_at(at, row)?;
             let (extras, chain) = (self.extras_at(&row[25..], STYLE)?, self.string_at(&row[2..])?);
             if !extras.is_empty() {
@@ -324,11 +465,11 @@ impl Tables {
             }
             track.styles.push(style);
         }
-        for row in rows(&self.regions, 4, self.head[REGIONS])? {
+        for row in rows(self.regions, 4, self.head[REGIONS])? {
             metadata.push((format!("ttml_region.{}", self.string_at(row)?), self.extras_at(&row[2..], REGION)?));
         }
         let mut segment = 0;
-        for (at, row) in rows(&self.cues, 11, self.head[CUES])?.enumerate() {
+        for (at, row) in rows(self.cues, 11, self.head[CUES])?.enumerate() {
             let end = segment + row[8] as usize;
             track.cues.push(SubtitleCue {
                 start_us: self.times[2 * at],
@@ -375,7 +516,7 @@ impl Tables {
             }
             let children = self.segments_to(last, at)?;
             segments.push(match row[0] {
-                1 => Segment::Text(string_in(&self.texts, self.head[TEXTS], &row[2..])?),
+                1 => Segment::Text(string_in(self.texts, self.head[TEXTS], &row[2..])?),
                 2 => Segment::LineBreak,
                 3 => Segment::Timestamp { offset_us: self.reveal[here] },
                 4 => Segment::Bold(children),
@@ -403,7 +544,7 @@ impl Tables {
     }
 
     fn string_at(&self, span: &[u32]) -> Back<String> {
-        string_in(&self.strings, self.head[STRINGS], span)
+        string_in(self.strings, self.head[STRINGS], span)
     }
 
     fn optional_at(&self, cells: &[u32]) -> Back<Option<String>> {

@@ -142,7 +142,7 @@ const CORNERS: &[&[&str]] = &[
     &["rgb(001,0002,0000000000000000003)", "rgb(99999999999999999999,0,0)"],
 ];
 
-fn corners() -> Vec<String> {
+pub fn corners() -> Vec<String> {
     [texts(&[NAMES]), texts(CORNERS)].concat()
 }
 

@@ -6,11 +6,11 @@ use crate::answer::Answer;
 use crate::bench::Bench;
 use crate::cases::{Rng, SPACES};
 use crate::compare::{Esc, Run};
-use crate::query::{Asker, Lending, Outcome, Style};
+use crate::query::{Asker, Outcome, Style};
 use crate::record::{Lines, Recording};
 use crate::reach::{Question, Reach, text};
 use crate::sheets::{Sheet, any_sheet, any_value, attr};
-use crate::tables::{BYTES, SEGMENTS, Tables, shown, with};
+use crate::tables::{BYTES, Lending, SEGMENTS, Tables, shown, with};
 use reference::ir::SubtitleTrack;
 use reference::ttml;
 use std::fmt::{self, Debug, Formatter};
@@ -251,17 +251,17 @@ fn rust(track: &SubtitleTrack, reach: &Reach, question: &Question) -> Outcome {
 }
 
 /// A track that has something in each table.
-const WHOLE: &str = "<tt xml:lang='de' ttp:frameRate='25' ittp:aspectRatio='4 3'><head><styling>\
+pub const WHOLE: &str = "<tt xml:lang='de' ttp:frameRate='25' ittp:aspectRatio='4 3'><head><styling>\
     <style id='a' style='b  c' tts:color='red' tts:fontSize='1.5px' tts:origin='é' tts:opacity='1'/>\
     <style id='b' tts:fontFamily='Arial' tts:textAlign='end'/></styling>\
     <layout><region id='r' style='a' tts:color='#aé' tts:fontSize='1e9px' tts:zIndex='1'/><region id='q'/></layout></head>\
     <body><p begin='1s' style='a' region='q' tts:opacity='2' xml:space='preserve'>x<br/>\
     <span tts:color='blue' tts:fontSize='-3px'>y</span></p><p>z</p></body></tt>";
 
-type Break = (&'static str, fn(&mut Tables));
+pub type Break = (&'static str, fn(&mut Tables));
 
 /// What makes these tables no track.
-const BREAKS: &[Break] = &[
+pub const BREAKS: &[Break] = &[
     ("65 parameters", |t| t.head[0] = 65),
     ("257 styles", |t| t.head[1] = 257),
     ("257 regions", |t| t.head[2] = 257),

@@ -7,6 +7,7 @@ use crate::answer::{Answer, coded};
 use crate::bench::{Bench, pieces};
 use crate::cases::{Rng, damage, every_text, every_word, texts};
 use crate::compare::{Esc, Run};
+use crate::judge::Rates;
 use crate::lend::{Lent, cells};
 use crate::record::{Lines, Recording};
 use reference::ttml::access;
@@ -18,9 +19,6 @@ pub const LAYER: Layer = Layer {
     record: Some(Recording { file: "crates/replay_values/stdin", count: 1_900, lines }),
     bench: Some(bench),
 };
-
-/// A frame rate and a tick rate.
-type Rates = (Option<f64>, Option<f64>);
 
 /// What decides how a time reads: every text of up to 6 of these is asked, 12,204,241 in all.
 const SYMBOLS: &[char] = &['0', '1', '9', ':', '.', '+', '-', 's', 'm', 'h', 'f', 't', 'e', 'é', ' '];
@@ -100,7 +98,8 @@ fn write(run: &mut Run, lent: &mut Lent, us: i64) {
 
 const METRICS: &[&str] = &["ms", "s", "m", "h", "f", "t"];
 
-fn rust(text: &str, (frames, ticks): Rates) -> Answer<i64> {
+/// What the Rust answers, and where a decimal is past the limits.
+pub fn rust(text: &str, (frames, ticks): Rates) -> Answer<i64> {
     let ask = |text: &str| Answer::ask(|| access::parse_ttml_time(text, frames, ticks), number);
     let beyond = |text: &str| decimal::<f64>(text, TIMES) == Answer::Number(14);
     let trimmed = text.trim();
@@ -117,8 +116,8 @@ fn rust(text: &str, (frames, ticks): Rates) -> Answer<i64> {
     ask(text)
 }
 
-/// The Rust subtracts in one place, where it pads a fraction.
-fn number(words: &str) -> u32 {
+/// The number of the words with which the Rust stopped. It subtracts in one place, where it pads a fraction.
+pub fn number(words: &str) -> u32 {
     match words {
         "attempt to subtract with overflow" => 15,
         "attempt to add with overflow" | "attempt to multiply with overflow" => 16,
@@ -212,7 +211,7 @@ fn rates(text: &str, rate: Option<f64>) -> Rates {
     }
 }
 
-fn corners() -> Vec<(String, Rates)> {
+pub fn corners() -> Vec<(String, Rates)> {
     let mut corners = Vec::new();
     for text in texts(CORNERS) {
         corners.extend(RATES[..3].iter().map(|&rate| (text.clone(), rates(&text, rate))));
@@ -229,7 +228,7 @@ fn at((text, frames, ticks): (&str, Option<f64>, Option<f64>)) -> (String, Rates
 }
 
 /// A time, or nearly one.
-fn any_time(rng: &mut Rng) -> (String, Rates) {
+pub fn any_time(rng: &mut Rng) -> (String, Rates) {
     let mut text = match rng.below(12) {
         0..4 => format!("{}{}", any_decimal(rng, TIMES), rng.pick(METRICS)),
         4 => {

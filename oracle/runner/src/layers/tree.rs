@@ -4,21 +4,21 @@
 use super::{Layer, utf8};
 use crate::bench::Bench;
 use crate::cases::{Rng, any_char, every_word};
-use crate::compare::{Esc, Run};
-use crate::document::{self, BYTES, DEPTH, Document, Kind, Node, ROWS};
+use crate::compare::{Run, deep};
+use crate::document::{self, BYTES, DEPTH, ROWS};
 use crate::expat;
 use crate::films::{PUBLISHED, documents, film, short_film};
 use crate::lend::{Fault, cells};
-use reference::ttml::access::{self, Tree};
+use crate::rows::{self, Input, Rows};
+use reference::ttml::access;
 use std::fmt::{self, Debug, Formatter};
 use std::ops::Range;
-use std::thread;
 
 pub const LAYER: Layer = Layer { name: "tree", compare, record: None, bench: Some(bench) };
 
 /// The fixed lengths of the tables.
-const NODES: usize = 6 * ROWS;
-const ATTRS: usize = 4 * ROWS;
+pub const NODES: usize = 6 * ROWS;
+pub const ATTRS: usize = 4 * ROWS;
 const STRINGS: usize = BYTES;
 
 /// The marks that end or begin something: every text of up to 6 of these is asked, 5,229,043 in all.
@@ -66,14 +66,6 @@ fn compare(run: &mut Run) {
     });
 }
 
-/// The Rust calls itself for each open element and for each comment: with a stack that holds any text.
-fn deep(work: impl FnOnce() + Send) {
-    thread::scope(|scope| {
-        let thread = thread::Builder::new().stack_size(1 << 30);
-        thread.spawn_scoped(scope, work).expect("no thread").join().expect("stopped");
-    });
-}
-
 /// What the port did, as far as it is a difference: the answer's number, place, nodes and attributes, and the first
 /// cell that is not what it must be.
 #[derive(Debug, PartialEq)]
@@ -90,17 +82,13 @@ enum Wrong {
     Outside(&'static str),
 }
 
-/// A text in a report: a long one is cut.
-struct Input<'a>(&'a [u8], [usize; 3]);
+/// A question in a report.
+struct Lent<'a>(&'a [u8], [usize; 3]);
 
-impl Debug for Input<'_> {
+impl Debug for Lent<'_> {
     fn fmt(&self, f: &mut Formatter) -> fmt::Result {
-        let Input(text, lengths) = self;
-        if text.len() > 600 {
-            write!(f, "{:?} .. {:?}, {} bytes", Esc(&text[..300]), Esc(&text[text.len() - 100..]), text.len())?;
-        } else {
-            write!(f, "{:?}", Esc(text))?;
-        }
+        let Lent(text, lengths) = self;
+        write!(f, "{:?}", Input(text))?;
         if *lengths != FIXED { write!(f, " into tables of {lengths:?}") } else { Ok(()) }
     }
 }
@@ -126,15 +114,7 @@ struct Tables {
     attrs: Vec<u32>,
     strings: Vec<u8>,
     calls: usize,
-    must: Must,
-}
-
-/// The cells that are not zero by necessity: all rows, and the strings as far as the text goes.
-#[derive(Default)]
-struct Must {
-    nodes: Vec<u32>,
-    attrs: Vec<u32>,
-    strings: Vec<u8>,
+    must: Rows,
 }
 
 impl Tables {
@@ -145,7 +125,7 @@ impl Tables {
             attrs: vec![CELL; whole(ATTRS)],
             strings: vec![BYTE; whole(STRINGS)],
             calls: 0,
-            must: Must::default(),
+            must: Rows::default(),
         }
     }
 
@@ -166,49 +146,28 @@ impl Tables {
     }
 
     fn check_with(&mut self, run: &mut Run, text: &[u8], lengths: [usize; 3], dirt: Dirt) {
-        let input = Input(text, lengths);
         let Some(answer) = self.must(run, text, lengths) else {
             return;
         };
         let port = self.ask(text, lengths, dirt);
+        let input = Lent(text, lengths);
         run.same("parse_xml", format_args!("{input:?}"), Done { answer: Ok(answer), wrong: None }, port);
     }
 
     /// What the answer must be, by the Rust and document 01, and in `must` the cells. `None` if these two differ,
     /// which counts as a difference.
     fn must(&mut self, run: &mut Run, text: &[u8], lengths: [usize; 3]) -> Option<(u32, [u64; 3])> {
-        self.must.nodes.clear();
-        self.must.attrs.clear();
-        self.must.strings.clear();
-        let refused = |number, place: usize| Some((number, [place as u64, 0, 0]));
+        self.must.clear();
         if lengths.iter().zip(FIXED).any(|(&length, fixed)| length < fixed) {
-            return refused(1, 0);
+            return Some((1, [0; 3]));
         }
-        if text.len() > BYTES {
-            return refused(2, 0);
+        match rows::read(run, text)? {
+            Err(refusal) => Some((refusal.number, [refusal.place as u64, 0, 0])),
+            Ok(read) => {
+                self.must.fill(&read);
+                Some((0, [0, read.document.nodes.len() as u64, read.document.attrs.len() as u64]))
+            }
         }
-        let text = match std::str::from_utf8(text) {
-            Ok(text) => text,
-            Err(e) => return refused(3, e.valid_up_to()),
-        };
-        let document = document::read(text.as_bytes());
-        let tree = access::parse_xml(text);
-        // The Rust has no limits: it errs where document 01 says 6 or 8 to 11, whatever else is met before.
-        let same = match &tree {
-            Ok(tree) => document.error.is_none() && same_tree(text, &document, tree),
-            Err(_) => document.error.is_some(),
-        };
-        if !same {
-            let rust = format!("{:?}", tree.map_err(|_| "an error"));
-            let said = format!("{:?}", document.refusal());
-            run.same("document 01", format_args!("{:?}", Input(text.as_bytes(), FIXED)), rust, said);
-            return None;
-        }
-        if let Some(refusal) = document.refusal() {
-            return refused(refusal.number, refusal.place);
-        }
-        self.must.fill(text, &document, &tree.unwrap_or_default());
-        Some((0, [0, document.nodes.len() as u64, document.attrs.len() as u64]))
     }
 
     fn ask(&mut self, text: &[u8], lengths: [usize; 3], dirt: Dirt) -> Done {
@@ -298,74 +257,8 @@ fn other<C: Copy + PartialEq + Default>(table: &[C], must: &[C]) -> Option<(usiz
     Some((at, table[at], *must.get(at).unwrap_or(&zero)))
 }
 
-/// Is the Rust's tree that of document 01: kinds, nesting, names, values and texts?
-fn same_tree(text: &str, document: &Document, tree: &[Tree]) -> bool {
-    let mut row = 0;
-    tree.iter().all(|node| same_node(text, document, node, &mut row)) && row == document.nodes.len()
-}
-
-fn same_node(text: &str, document: &Document, tree: &Tree, row: &mut usize) -> bool {
-    let Some(Node { kind, string, end, attrs }) = document.nodes.get(*row) else {
-        return false;
-    };
-    *row += 1;
-    let string = &text[string.clone()];
-    match (kind, tree) {
-        (Kind::Text, Tree::Text(t)) => access::decode_entities(string) == *t && *row == *end,
-        (Kind::Section, Tree::Text(t)) => string == t && *row == *end,
-        (Kind::Element, Tree::Element { name, attrs: named, children }) => {
-            let attrs = &document.attrs[attrs.clone()];
-            let same_attr = |(attr, (name, value)): (&document::Attr, &(String, String))| {
-                text[attr.name.clone()] == *name && access::decode_entities(&text[attr.value.clone()]) == *value
-            };
-            string == name
-                && attrs.len() == named.len()
-                && attrs.iter().zip(named).all(same_attr)
-                && children.iter().all(|child| same_node(text, document, child, row))
-                && *row == *end
-        }
-        _ => false,
-    }
-}
-
-impl Must {
-    /// The cells of a tree: places from document 01, strings and lengths from the Rust.
-    fn fill(&mut self, text: &str, document: &Document, tree: &[Tree]) {
-        self.strings.resize(text.len(), 0);
-        self.nodes(document, tree);
-    }
-
-    fn nodes(&mut self, document: &Document, tree: &[Tree]) {
-        for node in tree {
-            let Node { kind, string, end, attrs } = &document.nodes[self.nodes.len() / 6];
-            let place = string.start - (*kind == Kind::Element) as usize;
-            let (bytes, children) = match node {
-                Tree::Text(text) => (text, None),
-                Tree::Element { name, children, .. } => (name, Some(children)),
-            };
-            let owned = if children.is_some() { attrs.clone() } else { 0..0 };
-            let row = [*kind as usize, *end, place, bytes.len(), owned.start, owned.len()];
-            self.nodes.extend(row.map(|cell| cell as u32));
-            self.lay(string.start, bytes);
-            if let Tree::Element { attrs: named, .. } = node {
-                for (attr, (name, value)) in document.attrs[owned].iter().zip(named) {
-                    let row = [attr.name.start, name.len(), attr.value.start, value.len()];
-                    self.attrs.extend(row.map(|cell| cell as u32));
-                    self.lay(attr.name.start, name);
-                    self.lay(attr.value.start, value);
-                }
-            }
-            self.nodes(document, children.map_or(&[], |children| &children[..]));
-        }
-    }
-
-    fn lay(&mut self, place: usize, string: &str) {
-        self.strings[place..place + string.len()].copy_from_slice(string.as_bytes());
-    }
-}
-
 /// The corners of document 01 and of the readings of it.
-fn corners() -> Vec<String> {
+pub fn corners() -> Vec<String> {
     let mut corners: Vec<String> = [
         "", " ", "a", " a", "\u{FEFF}<?xml?><a/>", "\u{FEFF}", "<", ">", "<>", "< a>", "</", "</a", "</a>", "a</a>b",
         "<a><!----></", "<a><b><!----></", "<a></", "<a><b></", "<a></b", "<a></b>c", "<a><!--", "<a><!-->",
@@ -412,7 +305,7 @@ const LAST: &[&str] = &[
 ];
 
 /// Texts at and around each limit.
-fn limits() -> Vec<String> {
+pub fn limits() -> Vec<String> {
     let mut texts = Vec::new();
     let around = |n: usize| n - 2..=n + 2;
     for depth in around(DEPTH).chain([128, 1_000]) {
@@ -488,7 +381,7 @@ fn any_tokens(rng: &mut Rng, most: usize) -> String {
 }
 
 /// A document with 1 to 5 pieces left out, doubled, swapped or put in, or that is cut; one in 16 is not UTF-8.
-fn damaged(rng: &mut Rng, document: &str) -> Vec<u8> {
+pub fn damaged(rng: &mut Rng, document: &str) -> Vec<u8> {
     let mut text = document.as_bytes().to_vec();
     let bytes = rng.below(16) == 0;
     for _ in 0..1 + rng.below(5) {

@@ -1,0 +1,241 @@
+//! `parse` and `bytes_to_cue`: the answer and every cell of the fourteen tables against `judge.rs`, which is itself held to the
+//! Rust on each text; and the track that the tables mean, read back, against the Rust's own.
+
+use super::Layer;
+use crate::answer::Answer;
+use crate::cases::every_word;
+use crate::cells::Cells;
+use crate::compare::{Run, deep};
+use crate::corners::{corners, limits, values};
+use crate::elements::Met;
+use crate::films::documents;
+use crate::judge;
+use crate::layers::{times, tree};
+use crate::lending::{Call, Care, FIXED, Lending, Lengths, MORE, Wrong};
+use crate::placed::Track;
+use crate::rows::{self, Input, Read};
+use crate::sheets::any_sheet;
+use crate::texts::{FAMILIES, Family, any_cue, any_document, any_long};
+use reference::ir::{SubtitleCue, SubtitleStyle, SubtitleTrack};
+use reference::ttml::{self, access};
+
+pub const LAYER: Layer = Layer { name: "parse", compare, record: None, bench: None };
+
+fn compare(run: &mut Run) {
+    deep(|| {
+        let side = &mut Side::new();
+        for text in corners().iter().chain(&limits()).chain(&tree::corners()) {
+            side.check_lengths(run, text.as_bytes());
+        }
+        for text in values() {
+            side.both(run, text.as_bytes());
+        }
+        // What the tree reader meets, in a p and at top level.
+        for (text, more) in tree::corners().iter().zip(tree::limits().iter().step_by(7)) {
+            side.both(run, format!("<tt><body><p>{text}").as_bytes());
+            side.both(run, format!("<p>{text}").as_bytes());
+            side.both(run, format!("<tt>{more}").as_bytes());
+        }
+        for family in FAMILIES {
+            side.family(run, family);
+        }
+        side.random(run);
+        side.told();
+    });
+}
+
+/// The port's side, and what it must leave.
+struct Side {
+    lending: Lending,
+    must: Cells,
+    /// How often each number was the answer.
+    met: [u64; 19],
+}
+
+/// The answer's number and place, and the first cell that is not what it must be.
+#[derive(Debug, PartialEq)]
+struct Done {
+    answer: (u32, u32),
+    wrong: Option<Wrong>,
+}
+
+/// What the Rust gives, as far as it is compared.
+type Told = (Vec<SubtitleStyle>, Vec<SubtitleCue>, Vec<(String, String)>);
+
+impl Side {
+    fn new() -> Side {
+        Side { lending: Lending::new(), must: Cells::default(), met: [0; 19] }
+    }
+
+    fn family(&mut self, run: &mut Run, family: &Family) {
+        let p = family.before.find("<p");
+        every_word(family.tokens, family.longest, |tokens| {
+            let text = format!("{}{}{}", family.before, tokens.concat(), family.after);
+            self.check(run, Call::Parse, text.as_bytes());
+            if let Some(p) = p {
+                self.check(run, Call::Cue, &text.as_bytes()[p..]);
+            }
+        });
+    }
+
+    fn random(&mut self, run: &mut Run) {
+        let films = documents();
+        for n in 0..run.count / 4 {
+            let document = any_document(&mut run.rng);
+            self.check(run, Call::Parse, document.as_bytes());
+            let cue = any_cue(&mut run.rng);
+            self.check(run, Call::Cue, cue.as_bytes());
+            if n % 4 == 0 {
+                let text = tree::damaged(&mut run.rng, &document);
+                self.check(run, Call::Parse, &text);
+                let text = tree::damaged(&mut run.rng, &cue);
+                self.check(run, Call::Cue, &text);
+                let text = tree::damaged(&mut run.rng, &films[n / 4 % films.len()]);
+                self.check(run, Call::Parse, &text);
+                let sheet = any_sheet(&mut run.rng);
+                self.check(run, Call::Parse, sheet.text.as_bytes());
+            }
+            if n % 500 == 0 {
+                let text = any_long(&mut run.rng);
+                self.check_lengths(run, text.as_bytes());
+            }
+        }
+    }
+
+    fn both(&mut self, run: &mut Run, text: &[u8]) {
+        self.check(run, Call::Parse, text);
+        self.check(run, Call::Cue, text);
+    }
+
+    /// Both with all cells seen: tables of the fixed lengths, longer ones, and one of them short.
+    fn check_lengths(&mut self, run: &mut Run, text: &[u8]) {
+        for call in [Call::Parse, Call::Cue] {
+            let turn = self.lending.calls;
+            let mut longer = FIXED;
+            longer.iter_mut().enumerate().for_each(|(table, length)| *length += (31 * turn + 17 * table) % MORE);
+            let mut short = longer;
+            short[turn % 14] = [FIXED[turn % 14] - 1, 0, FIXED[turn % 14] / 2][turn / 14 % 3];
+            for lengths in [FIXED, longer, short] {
+                self.check_with(run, call, text, &lengths, Care::All);
+            }
+        }
+    }
+
+    /// One question with tables of the fixed lengths: of every sixteenth short text, and of long ones, all cells are seen.
+    fn check(&mut self, run: &mut Run, call: Call, text: &[u8]) {
+        let all = self.lending.calls % 16 == 0 || text.len() > 3_000;
+        self.check_with(run, call, text, &FIXED, if all { Care::All } else { Care::Near(text.len()) });
+    }
+
+    fn check_with(&mut self, run: &mut Run, call: Call, text: &[u8], lengths: &Lengths, care: Care) {
+        let Some((answer, rust)) = self.must(run, call, text, lengths) else {
+            return;
+        };
+        let port = self.lending.ask(call, text, lengths, care);
+        let wrong = self.lending.wrong(lengths, care, &self.must);
+        self.met[answer.0 as usize] += 1;
+        let name = name(call);
+        let input = Input(text);
+        if *lengths == FIXED {
+            run.same(name, format_args!("{input:?}"), Done { answer, wrong: None }, Done { answer: port, wrong });
+        } else {
+            let input = format_args!("{input:?} into tables of {lengths:?}");
+            run.same(name, input, Done { answer, wrong: None }, Done { answer: port, wrong });
+        }
+        if let (Care::All, Some(rust)) = (care, rust) {
+            let back = self.lending.handed().track().map(told);
+            if back.as_ref() != Ok(&rust) {
+                run.same("the track of the tables", format_args!("{name} {input:?}"), Ok(rust), back);
+            }
+        }
+    }
+
+    /// What the answer must be, in `must` the cells, and what the Rust gives if it is to be compared. `None` if document 01
+    /// and the Rust differ, which counts as a difference.
+    fn must(
+        &mut self,
+        run: &mut Run,
+        call: Call,
+        text: &[u8],
+        lengths: &Lengths,
+    ) -> Option<((u32, u32), Option<Told>)> {
+        self.must.clear();
+        if lengths.iter().zip(FIXED).any(|(&length, fixed)| length < fixed) {
+            return Some(((1, 0), None));
+        }
+        let read = match rows::read(run, text)? {
+            Ok(read) => read,
+            Err(refusal) => return Some(((refusal.number, refusal.place as u32), None)),
+        };
+        let judged = match call {
+            Call::Parse => judge::parse(&read),
+            Call::Cue => judge::bytes_to_cue(&read),
+        };
+        let rust = held(run, call, &read, &judged)?;
+        Some(match judged {
+            Err(refusal) => ((refusal.number, refusal.place as u32), None),
+            Ok(track) => {
+                self.must.fill(&read, &track);
+                ((0, 0), rust)
+            }
+        })
+    }
+
+    /// How often each number was the answer, in one line.
+    fn told(&self) {
+        let met: Vec<String> = (0..19).filter(|&n| self.met[n] > 0).map(|n| format!("{n} {}", self.met[n])).collect();
+        println!("parse: numbers and how often: {}", met.join(", "));
+    }
+}
+
+fn name(call: Call) -> &'static str {
+    match call {
+        Call::Parse => "parse",
+        Call::Cue => "bytes_to_cue",
+    }
+}
+
+/// Holds what is judged to what the Rust does: it gives the same track; an error for 12; it stops for 15 and 16. For 13 and 14
+/// it does whatever it does. Gives its track. Texts that it would decode to others are not asked.
+fn held(run: &mut Run, call: Call, read: &Read, judged: &Met<Track>) -> Option<Option<Told>> {
+    if read.text.starts_with('\u{FEFF}') || read.text.contains('\r') {
+        return Some(None);
+    }
+    let rust = Answer::ask(|| rust(call, read.text), stopped);
+    let same = match (judged, &rust) {
+        (Ok(track), Answer::Is(rust)) => told(track.rust()) == *rust,
+        (Err(refusal), Answer::Nothing) => refusal.number == 12,
+        (Err(refusal), Answer::Number(number)) => [13, 14].contains(&refusal.number) || refusal.number == *number,
+        (Err(refusal), Answer::Is(_)) => [13, 14].contains(&refusal.number),
+        (Ok(_), _) => false,
+    };
+    if !same {
+        let said = match judged {
+            Ok(track) => Answer::Is(told(track.rust())),
+            Err(refusal) => Answer::Number(refusal.number),
+        };
+        let input = format_args!("{} {:?}", name(call), Input(read.text.as_bytes()));
+        run.same("document 01", input, rust, said);
+        return None;
+    }
+    Some(if let Answer::Is(rust) = rust { Some(rust) } else { None })
+}
+
+fn rust(call: Call, text: &str) -> Option<Told> {
+    match call {
+        Call::Parse => ttml::parse(text.as_bytes()).ok().map(told),
+        Call::Cue => {
+            let cue = access::bytes_to_cue(text.as_bytes()).ok()?;
+            Some((Vec::new(), vec![cue], vec![("source_format".into(), "ttml".into())]))
+        }
+    }
+}
+
+fn told(track: SubtitleTrack) -> Told {
+    (track.styles, track.cues, track.metadata)
+}
+
+/// The number of the words with which the Rust stopped.
+fn stopped(words: &str) -> u32 {
+    if words.contains("char boundary") { 15 } else { times::number(words) }
+}
