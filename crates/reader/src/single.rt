@@ -1,5 +1,4 @@
 // A single cue.
-use crate::parse::clear_tree;
 use content::Collecting;
 use cues::Timed;
 use promised::Answer;
@@ -100,7 +99,7 @@ fn read_p(
     }
 }
 
-fn read_cue(
+pub fn read_cue(
     nodes: &[u32],
     attrs: &[u32],
     strings: &[u8],
@@ -127,101 +126,5 @@ fn read_cue(
         Found::Row(k) => read_p(
             nodes, attrs, strings, head, cues, times, segments, reveal, sizes, texts, k, len,
         ),
-    }
-}
-
-// The cue of the first p of the text, as a track of one cue; after a refusal every cell is 0.
-pub fn bytes_to_cue(
-    text: &[u8],
-    nodes: &mut [u32],
-    attrs: &mut [u32],
-    head: &mut [u32],
-    params: &mut [u32],
-    styles: &mut [u32],
-    regions: &mut [u32],
-    cues: &mut [u32],
-    times: &mut [i64],
-    segments: &mut [u32],
-    reveal: &mut [i64],
-    sizes: &mut [f32],
-    extras: &mut [u32],
-    strings: &mut [u8],
-    texts: &mut [u8],
-) -> Answer
-{
-    crate::clear::clear_track(
-        head,
-        params,
-        styles,
-        regions,
-        cues,
-        times,
-        segments,
-        reveal,
-        sizes,
-        extras,
-        texts,
-    );
-    if !crate::clear::long_enough(
-        head,
-        params,
-        styles,
-        regions,
-        cues,
-        times,
-        segments,
-        reveal,
-        sizes,
-        extras,
-        texts,
-    ) {
-        clear_tree(nodes, attrs, strings);
-        return Answer::Refused(Refusal {
-            number: 1,
-            place: 0,
-        });
-    }
-    match xml::parse_xml(text, nodes, attrs, strings) {
-        tree::Answer::Refused(r) => Answer::Refused(r),
-        tree::Answer::Tree { nodes: n, attrs: _ } => {
-            let len = text.len();
-            match read_cue(
-                nodes,
-                attrs,
-                strings,
-                head,
-                params,
-                styles,
-                regions,
-                cues,
-                times,
-                segments,
-                reveal,
-                sizes,
-                extras,
-                texts,
-                n,
-                len,
-            ) {
-                Answer::Track => Answer::Track,
-                Answer::Refused(r) => {
-                    clear_tree(nodes, attrs, strings);
-                    crate::clear::clear_track(
-                        head,
-                        params,
-                        styles,
-                        regions,
-                        cues,
-                        times,
-                        segments,
-                        reveal,
-                        sizes,
-                        extras,
-                        texts,
-                    );
-                    Answer::Refused(r)
-                }
-            }
-        }
     }
 }

@@ -1,0 +1,198 @@
+use borrow.Author.Needs.{needs}
+use Rattle.reader.proofs.text.read_tree.Statement.{statement}
+use Rattle.reader.proofs.text.read_tree.Tie as tie
+use Rattle.reader.proofs.text.read_tree.Reads as reads
+use Rattle.reader.proofs.text.read_tree.Lts as lts
+use Rattle.reader.proofs.clear.clear_track.Reads as clear-track-reads
+use Rattle.reader.proofs.text.clear_tree.Reads as clear-tree-reads
+use Rattle.reader.proofs.text.read_nodes.Reads as read-nodes-reads
+
+-- src/text.rt:115:16
+slice-reshare-prefix-used : tie.Need-slice-reshare-prefix-used
+slice-reshare-prefix-used c = ?
+
+-- src/text.rt:115:9
+slice-aggregate-used : tie.Need-slice-aggregate-used
+slice-aggregate-used c = ?
+
+-- src/text.rt:116:11
+read-nodes-requires : tie.Need-read-nodes-requires
+read-nodes-requires c κs = ?
+
+-- src/text.rt:134:26
+enum-told : tie.Need-enum-told
+enum-told c = ?
+
+-- src/text.rt:135:25
+enum-known-r : tie.Need-enum-known-r
+enum-known-r c = ?
+
+-- src/text.rt:136:13
+clear-tree-requires : tie.Need-clear-tree-requires
+clear-tree-requires c κs = ?
+
+-- src/text.rt:137:13
+clear-track-requires : tie.Need-clear-track-requires
+clear-track-requires c κs = ?
+
+-- src/text.rt:86:1
+same-length : tie.Need-same-length
+same-length c = ?
+
+-- src/text.rt:86:1
+same-length-2 : tie.Need-same-length-2
+same-length-2 c = ?
+
+-- src/text.rt:86:1
+same-length-3 : tie.Need-same-length-3
+same-length-3 c = ?
+
+-- src/text.rt:86:1
+same-length-4 : tie.Need-same-length-4
+same-length-4 c = ?
+
+-- src/text.rt:86:1
+same-length-5 : tie.Need-same-length-5
+same-length-5 c = ?
+
+-- src/text.rt:86:1
+same-length-6 : tie.Need-same-length-6
+same-length-6 c = ?
+
+-- src/text.rt:86:1
+same-length-7 : tie.Need-same-length-7
+same-length-7 c = ?
+
+-- src/text.rt:86:1
+same-length-8 : tie.Need-same-length-8
+same-length-8 c = ?
+
+-- src/text.rt:86:1
+same-length-9 : tie.Need-same-length-9
+same-length-9 c = ?
+
+-- src/text.rt:86:1
+same-length-10 : tie.Need-same-length-10
+same-length-10 c = ?
+
+-- src/text.rt:86:1
+same-length-11 : tie.Need-same-length-11
+same-length-11 c = ?
+
+-- src/text.rt:86:1
+same-length-12 : tie.Need-same-length-12
+same-length-12 c = ?
+
+-- src/text.rt:86:1
+same-length-13 : tie.Need-same-length-13
+same-length-13 c = ?
+
+-- src/text.rt:86:1
+same-length-14 : tie.Need-same-length-14
+same-length-14 c = ?
+
+-- src/text.rt:86:1
+returns : tie.Need-returns
+returns c = ?
+
+-- src/text.rt:86:1
+same-length-15 : tie.Need-same-length-15
+same-length-15 c = ?
+
+-- src/text.rt:86:1
+same-length-16 : tie.Need-same-length-16
+same-length-16 c = ?
+
+-- src/text.rt:86:1
+same-length-17 : tie.Need-same-length-17
+same-length-17 c = ?
+
+-- src/text.rt:86:1
+same-length-18 : tie.Need-same-length-18
+same-length-18 c = ?
+
+-- src/text.rt:86:1
+same-length-19 : tie.Need-same-length-19
+same-length-19 c = ?
+
+-- src/text.rt:86:1
+same-length-20 : tie.Need-same-length-20
+same-length-20 c = ?
+
+-- src/text.rt:86:1
+same-length-21 : tie.Need-same-length-21
+same-length-21 c = ?
+
+-- src/text.rt:86:1
+same-length-22 : tie.Need-same-length-22
+same-length-22 c = ?
+
+-- src/text.rt:86:1
+same-length-23 : tie.Need-same-length-23
+same-length-23 c = ?
+
+-- src/text.rt:86:1
+same-length-24 : tie.Need-same-length-24
+same-length-24 c = ?
+
+-- src/text.rt:86:1
+same-length-25 : tie.Need-same-length-25
+same-length-25 c = ?
+
+-- src/text.rt:86:1
+same-length-26 : tie.Need-same-length-26
+same-length-26 c = ?
+
+-- src/text.rt:86:1
+same-length-27 : tie.Need-same-length-27
+same-length-27 c = ?
+
+-- src/text.rt:86:1
+same-length-28 : tie.Need-same-length-28
+same-length-28 c = ?
+
+-- src/text.rt:86:1
+returns-2 : tie.Need-returns-2
+returns-2 c = ?
+
+pub read-tree-spec : {M : Type 1} → statement M
+read-tree-spec =
+    tie.close
+    (tie.spec
+    slice-reshare-prefix-used
+    slice-aggregate-used
+    read-nodes-requires
+    enum-told
+    enum-known-r
+    clear-tree-requires
+    clear-track-requires
+    same-length
+    same-length-2
+    same-length-3
+    same-length-4
+    same-length-5
+    same-length-6
+    same-length-7
+    same-length-8
+    same-length-9
+    same-length-10
+    same-length-11
+    same-length-12
+    same-length-13
+    same-length-14
+    returns
+    same-length-15
+    same-length-16
+    same-length-17
+    same-length-18
+    same-length-19
+    same-length-20
+    same-length-21
+    same-length-22
+    same-length-23
+    same-length-24
+    same-length-25
+    same-length-26
+    same-length-27
+    same-length-28
+    returns-2)

@@ -1,0 +1,138 @@
+-- What the readers of whole texts ask and ensure. This file need not be believed: `parse` and `bytes_to_cue` promise what is left in the end.
+--     t, u are the tables of nodes and attributes; z are the strings, as many bytes as the text has
+use Prim.Native.Nat.{ℕ, _+_, _≤_}
+use mathlib.Core.Path.{_≡_}
+use mathlib.Core.Bool.{Bool, true, false}
+use mathlib.Core.List.{List, []}
+use lib.IntN.{ℤ}
+use lib.Ieee.{Float}
+use lib.ListN.{length, take}
+use Rattle.tree.specs.Trees.{Forest, size, attrsOf, spans, InOrder}
+use Rattle.track.specs.Track.{Cue, Track}
+use Rattle.track.specs.Tables.{Tables, tables, lengths}
+use Rattle.xml.specs.Find.{Holds}
+use Rattle.xml.specs.Promise as xml
+use Rattle.xml.specs.Reading.{Placed}
+use Rattle.meaning.specs.Answers.{is}
+use Rattle.meaning.specs.Answers as meaning
+use Rattle.meaning.specs.Nodes.{Nodes}
+use Rattle.meaning.specs.Kinds.{withPlaces, nodesIn}
+use Rattle.meaning.specs.Meaning.{cueOf}
+use Rattle.styling.specs.Posts.{turned}
+use Rattle.laid.specs.Laid.{whole, alone, single}
+use Rattle.promised.specs.declared.Answer.{Answer}
+use Rattle.promised.specs.Promise as promise
+use Rattle.promised.proofs.Promises.{RestLong, RestZero, RestLaid}
+use Rattle.reader.specs.declared.text.Wanted.{Wanted}
+
+-- ---- what is read
+
+abbrev pub meantBy : Wanted → Nodes Placed → meaning.Answer (Track Placed)
+meantBy Wanted.Track f = whole f
+meantBy Wanted.Cue f = single f
+
+-- ---- the tables
+
+-- those of a tree
+abbrev pub treeTables : (nodes attrs strings : List ℕ) → xml.Tables
+treeTables t u z = xml.tables t u z
+
+-- those of a track but for its strings
+abbrev pub rest :
+    (head params styles regions cues : List ℕ) (times : List ℤ) (segments : List ℕ) (reveal : List ℤ) (sizes : List Float)
+    (extras texts : List ℕ) → Tables
+rest h p s r c m g v f e y = tables h p s r c m g v f e [] y
+
+-- those of them that hold a single cue
+abbrev pub cueRest :
+    (head cues : List ℕ) (times : List ℤ) (segments : List ℕ) (reveal : List ℤ) (sizes : List Float) (texts : List ℕ) → Tables
+cueRest h c m g v f y = rest h [] [] [] c m g v f [] y
+
+-- b says whether P holds
+abbrev pub Tells : Type 0 → Bool → Type 0
+Tells P true = P
+Tells P false = ¬ P
+
+-- every cell is zero, and r says whether they are long enough
+pub record Prepared (T T′ : Tables) (r : Bool) : Type 0 where
+  pub zero : RestZero (lengths T) T′
+  pub long : Tells (RestLong (lengths T)) r
+
+-- the strings are no longer than a text, and the tables are blank and long enough for a track
+pub record Ready (z : List ℕ) (T : Tables) : Type 0 where
+  pub short : length z ≤ 65536
+  pub zero : RestZero (lengths T) T
+  pub long : RestLong (lengths T)
+
+-- or for a cue
+pub record CueReady (z : List ℕ) (T : Tables) : Type 0 where
+  pub short : length z ≤ 65536
+  pub zero : RestZero (lengths T) T
+  pub head : 10 ≤ length (T .head)
+  pub cues : 22528 ≤ length (T .cues)
+  pub times : 4096 ≤ length (T .times)
+  pub segments : 131072 ≤ length (T .segments)
+  pub reveal : 16384 ≤ length (T .reveal)
+  pub sizes : 16384 ≤ length (T .sizes)
+  pub texts : 65536 ≤ length (T .texts)
+
+-- m is what is read: the track stands in the tables; or it is that number at that place
+module _ (m : meaning.Answer (Track Placed)) (z : List ℕ) (T T′ : Tables) where
+  pub record Laid : Type 0 where
+    pub track : Track Placed
+    pub means : m ≡ is track
+    pub laid : RestLaid (lengths T) (length z) track T′
+
+  abbrev pub Outcome : Answer → Type 0
+  Outcome Answer.Track = Laid
+  Outcome (Answer.Refused q) = m ≡ turned q
+
+-- the same of a cue, which has no extras
+module _ (m : meaning.Answer (Cue Placed)) (z : List ℕ) (T T′ : Tables) where
+  pub record CueLaid : Type 0 where
+    pub cue : Cue Placed
+    pub means : m ≡ is cue
+    pub plain : cue .extras ≡ []
+    pub laid : RestLaid (lengths T) (length z) (alone cue) T′
+
+  abbrev pub CueOutcome : Answer → Type 0
+  CueOutcome Answer.Track = CueLaid
+  CueOutcome (Answer.Refused q) = m ≡ turned q
+
+-- ---- a tree
+
+-- a forest stands in the first n rows, its strings in order
+pub record Tree (t u z : List ℕ) (n : ℕ) : Type 0 where
+  pub forest : Forest
+  pub holds : Holds t u z 0 0 forest
+  pub rows : 0 + size forest ≡ n
+  pub placed : InOrder 0 (spans forest) (length z)
+  pub few : length (attrsOf forest) ≤ 8192
+
+pub record Asks (t u z : List ℕ) (n : ℕ) (T : Tables) : Type 0 where
+  pub ready : Ready z T
+  pub tree : Tree t u z n
+
+pub record CueAsks (t u z : List ℕ) (n : ℕ) (T : Tables) : Type 0 where
+  pub ready : CueReady z T
+  pub tree : Tree t u z n
+
+abbrev pub Post : (Nodes Placed → meaning.Answer (Track Placed)) → (t u z : List ℕ) (n : ℕ) (T T′ : Tables) → Answer → Type 0
+Post meant t u z n T T′ r = (x : Tree t u z n) → Outcome (meant (nodesIn z (x .forest))) z T T′ r
+
+abbrev pub CuePost : (t u z : List ℕ) (n : ℕ) (T T′ : Tables) → Answer → Type 0
+CuePost t u z n T T′ r = (x : Tree t u z n) → CueOutcome (cueOf withPlaces (nodesIn z (x .forest))) z T T′ r
+
+-- of a text of `len` bytes
+abbrev pub AsksTree : (t u z : List ℕ) (n len : ℕ) (T : Tables) → Type 0
+AsksTree t u z n len T = (len ≤ length z) × Asks t u (take len z) n T
+
+-- the tree stays as it was, or every cell is zero
+abbrev pub Kept : (T T′ : promise.Tables) → Answer → Type 0
+Kept T T′ Answer.Track = promise.treeTables T′ ≡ promise.treeTables T
+Kept T T′ (Answer.Refused q) = promise.AllZero T T′
+
+pub record TreePost (meant : Nodes Placed → meaning.Answer (Track Placed)) (n len : ℕ) (T T′ : promise.Tables) (r : Answer) : Type 0 where
+  pub kept : Kept T T′ r
+  pub means : (x : Tree (T .nodes) (T .attrs) (take len (T .track .strings)) n)
+      → Outcome (meant (nodesIn (take len (T .track .strings)) (x .forest))) (take len (T .track .strings)) (T .track) (T′ .track) r
