@@ -1,7 +1,7 @@
 -- What the calls do around the reading of a tree meets their promise. Assumes nothing.
---     zero-lengths, tells-long, zero-as, long-as, laid-as   the tables of a track beside any strings
---     meant-numbers                                         whatever is wanted, a number is from 12 to 16
---     cue-asks, cue-post                                    a single cue leaves the other tables blank
+--     zero-lengths, tells-long, zero-as, long-as, laid-as, kept-laid, blank-as   the tables of a track beside any strings
+--     meant-numbers, track-post, cue-post                                         whatever is wanted, a number is from 12 to 16
+--     cue-asks, alone-post                                    a single cue leaves the other tables blank
 --     short-promise, tree-asks, away-promise, tree-promise  the call, by its outcomes
 use Prim.Native.Nat.{ℕ, _≤_}
 use mathlib.Core.Path.{_≡_, refl, sym, ap, _∙_, subst}
@@ -26,7 +26,7 @@ use Rattle.meaning.specs.Answers.{is, refused, answered}
 use Rattle.meaning.specs.Answers as meaning
 use Rattle.meaning.specs.Nodes.{Nodes}
 use Rattle.meaning.specs.Kinds.{nodesIn}
-use Rattle.laid.specs.Laid.{laidOf, laidStyles, laidRegions, laidCues, laidCue, rowsAfter, total, alone, trackTables, single}
+use Rattle.laid.specs.Laid.{laidOf, laidStyles, laidRegions, laidCues, laidCue, rowsAfter, total, alone, trackTables, whole, single}
 use Rattle.promised.specs.declared.Answer.{Answer}
 use Rattle.promised.specs.Promise.{LongEnough, AllZero, treeTables, zeros, Promise, tables}
 use Rattle.promised.specs.Promise as promise
@@ -45,9 +45,9 @@ zero-lengths z e =
     rw (z .head, z .params, z .styles, z .regions, z .cues, z .times, z .segments, z .reveal, z .sizes, z .extras, e, z .texts)
     (simp length-replicate)
 
-pub tells-long : (T T′ : Tables) (r : Bool) → RestZero (lengths T) T′ → length (T′ .strings) ≡ length (T .strings)
-    → Tells (RestLong (lengths T′)) r → Tells (RestLong (lengths T)) r
-tells-long T T′ r z e h = rw (zero-lengths z e) at h
+pub tells-long : {n : Lengths} {T : Tables} (r : Bool) → RestZero n T → length (T .strings) ≡ n .strings → Tells (RestLong (lengths T)) r
+    → Tells (RestLong n) r
+tells-long r z e h = subst (λ (k : Lengths). Tells (RestLong k) r) (zero-lengths z e) h
 
 -- the same tables with other strings
 abbrev lengthsBut : Lengths → ℕ → Lengths
@@ -127,11 +127,28 @@ laid-as k z r = record {
   texts = r .texts;
 }
 
+pub kept-laid : {m : meaning.Answer (Track Placed)} {z : List ℕ} {T T′ : Tables} (w w′ : List ℕ) → Laid m z T T′ → Laid m z (but T w) (but T′ w′)
+kept-laid w w′ x = record { track = x .track; means = x .means; laid = laid-as (length w) w′ (x .laid) }
+
+pub blank-as : {A : Type 0} {a b : ℕ} → a ≡ b → (x : A) {l : List A} → l ≡ replicate a x → l ≡ replicate b x
+blank-as h x e = rw h at e
+
 -- ---- whatever is wanted
 
 pub meant-numbers : (w : Wanted) (f : Nodes Placed) → Numbered (meantBy w f)
+unfolding meantBy
 meant-numbers Wanted.Track f = whole-numbers f
 meant-numbers Wanted.Cue f = single-numbers f
+
+pub track-post : {w : Wanted} → w ≡ Wanted.Track → {t u z : List ℕ} {n : ℕ} (T T′ : Tables) (r : Answer) → Post whole t u z n T T′ r
+    → Post (meantBy w) t u z n T T′ r
+unfolding meantBy
+track-post e {t} {u} {z} {n} T T′ r h = subst (λ (w : Wanted). Post (meantBy w) t u z n T T′ r) (sym e) h
+
+pub cue-post : {w : Wanted} → w ≡ Wanted.Cue → {t u z : List ℕ} {n : ℕ} (T T′ : Tables) (r : Answer) → Post single t u z n T T′ r
+    → Post (meantBy w) t u z n T T′ r
+unfolding meantBy
+cue-post e {t} {u} {z} {n} T T′ r h = subst (λ (w : Wanted). Post (meantBy w) t u z n T T′ r) (sym e) h
 
 -- ---- a single cue
 
@@ -199,13 +216,13 @@ module _ (h p s r c : List ℕ) (m : List ℤ) (g : List ℕ) (v : List ℤ) (f 
       texts = b .texts;
     }
 
-    pub cue-post : {t u z : List ℕ} {n : ℕ} (q : Answer) → RestZero (lengths whole-before) whole-before → CuePost t u z n before after q
+    pub alone-post : {t u z : List ℕ} {n : ℕ} (q : Answer) → RestZero (lengths whole-before) whole-before → CuePost t u z n before after q
         → Post single t u z n whole-before whole-after q
-    cue-post {z = z} Answer.Track a b =
+    alone-post {z = z} Answer.Track a b =
         λ x.
         let w = b x in
         record { track = alone (w .cue); means = rw (w .means); laid = cue-laid (length z) (w .cue) (w .plain) a (w .laid) }
-    cue-post (Answer.Refused q) a b = λ x. rw (b x)
+    alone-post (Answer.Refused q) a b = λ x. rw (b x)
 
 -- ---- a call, by its outcomes
 

@@ -27,7 +27,7 @@ use Rattle.reader.specs.declared.text.Wanted.{Wanted}
 
 -- ---- what is read
 
-abbrev pub meantBy : Wanted → Nodes Placed → meaning.Answer (Track Placed)
+unfoldable pub meantBy : Wanted → Nodes Placed → meaning.Answer (Track Placed)
 meantBy Wanted.Track f = whole f
 meantBy Wanted.Cue f = single f
 

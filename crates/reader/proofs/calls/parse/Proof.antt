@@ -1,3 +1,4 @@
+use Rattle.reader.specs.Steps.{meantBy}
 use borrow.Author.Needs.{needs}
 use Rattle.reader.proofs.calls.parse.Statement.{statement}
 use Rattle.reader.proofs.calls.parse.Tie as tie
@@ -67,6 +68,7 @@ same-length-14 c = c .before .texts .given
 
 -- src/calls.rt:7:1
 returns : tie.Need-returns
+unfolding meantBy
 returns c = c .before .before .before .before .before .before .before .before .before .before .before .before .before .before .before .before .before .before .before .before .before .before .before .before .before .before .read-text .ensures
 
 pub parse-spec : {M : Type 1} → statement M
