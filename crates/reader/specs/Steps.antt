@@ -3,23 +3,38 @@
 use Prim.Native.Nat.{ℕ, _+_, _≤_}
 use mathlib.Core.Path.{_≡_}
 use mathlib.Core.Bool.{Bool, true, false}
-use mathlib.Core.List.{List, []}
-use lib.IntN.{ℤ}
+use mathlib.Core.List.{List, [], _∷_}
+use mathlib.Core.Option.{none}
+use lib.IntN.{ℤ, pos}
 use lib.Ieee.{Float}
 use lib.ListN.{length, take}
+use lib.Seq.{sets}
 use Rattle.tree.specs.Trees.{Forest, size, attrsOf, spans, InOrder}
-use Rattle.track.specs.Track.{Cue, Track}
+use Rattle.tree.specs.Trees as placed
+use Rattle.track.specs.declared.strings.Span.{Span}
+use Rattle.track.specs.declared.values.Cue as declared
+use Rattle.track.specs.Track.{Segments, Cue, Track}
 use Rattle.track.specs.Tables.{Tables, tables, lengths}
+use Rattle.track.specs.Layout.{isSome, spanOr, cueCells}
+use Rattle.records.specs.declared.head.Head.{Head}
+use Rattle.records.specs.Posts.{headRow}
+use Rattle.xml.specs.declared.find.Element as found
 use Rattle.xml.specs.Find.{Holds}
 use Rattle.xml.specs.Promise as xml
 use Rattle.xml.specs.Reading.{Placed}
-use Rattle.meaning.specs.Answers.{is}
+use Rattle.meaning.specs.Words.{ascii}
+use Rattle.meaning.specs.Answers.{is, _>>=_}
 use Rattle.meaning.specs.Answers as meaning
-use Rattle.meaning.specs.Nodes.{Nodes}
-use Rattle.meaning.specs.Kinds.{withPlaces, nodesIn}
-use Rattle.meaning.specs.Meaning.{cueOf}
-use Rattle.styling.specs.Posts.{turned}
+use Rattle.meaning.specs.Nodes.{Attr, Nodes, Element, valued}
+use Rattle.meaning.specs.Kinds.{withPlaces, attrsIn, nodesIn}
+use Rattle.meaning.specs.Space.{collapse, spaceOf}
+use Rattle.meaning.specs.Tracks.{optionBy}
+use Rattle.meaning.specs.Inline.{contentOf}
+use Rattle.meaning.specs.Meaning.{timing, cueOf}
 use Rattle.laid.specs.Laid.{whole, alone, single}
+use Rattle.styling.specs.Posts.{HasRows, turned}
+use Rattle.inline.specs.Stood.{spanIn}
+use Rattle.cues.specs.declared.sums.Interval.{Interval}
 use Rattle.promised.specs.declared.Answer.{Answer}
 use Rattle.promised.specs.Promise as promise
 use Rattle.promised.proofs.Promises.{RestLong, RestZero, RestLaid}
@@ -136,3 +151,87 @@ pub record TreePost (meant : Nodes Placed → meaning.Answer (Track Placed)) (n 
   pub kept : Kept T T′ r
   pub means : (x : Tree (T .nodes) (T .attrs) (take len (T .track .strings)) n)
       → Outcome (meant (nodesIn (take len (T .track .strings)) (x .forest))) (take len (T .track .strings)) (T .track) (T′ .track) r
+
+-- ---- an element
+
+-- it stands in row k with all that stands in it, its strings in order
+pub record Elem (t u z : List ℕ) (k : ℕ) : Type 0 where
+  pub own : ℕ
+  pub place : ℕ
+  pub len : ℕ
+  pub attrs : List placed.Attr
+  pub content : Forest
+  pub holds : Holds t u z k own (placed.elem place len attrs content placed.nil)
+  pub placed : InOrder 0 (spans (placed.elem place len attrs content placed.nil)) (length z)
+  pub few : length attrs + length (attrsOf content) ≤ 8192
+
+abbrev pub elementIn : {t u z : List ℕ} {k : ℕ} → Elem t u z k → Element Placed
+elementIn {z = z} x = record { at = x .place; attrs = attrsIn z (x .attrs); content = nodesIn z (x .content) }
+
+-- ---- a p that is a single cue
+
+pub record ElementAsks (t u z : List ℕ) (k : ℕ) (T : Tables) : Type 0 where
+  pub ready : CueReady z T
+  pub element : Elem t u z k
+
+abbrev pub ElementPost : (Element Placed → meaning.Answer (Cue Placed)) → (t u z : List ℕ) (k : ℕ) (T T′ : Tables) → Answer → Type 0
+ElementPost meant t u z k T T′ r = (x : Elem t u z k) → CueOutcome (meant (elementIn x)) z T T′ r
+
+-- `cueIn` when its times are known, and its segments
+abbrev pub cueWith : Interval → List (Attr Placed) → Segments Placed → Cue Placed
+cueWith when l f = record {
+  start = when .start;
+  end = when .end;
+  style = valued withPlaces (ascii "style") l;
+  region = none;
+  preserve = false;
+  extras = [];
+  segments = f;
+}
+
+abbrev pub timedCue : Interval → Element Placed → meaning.Answer (Cue Placed)
+timedCue when p =
+    contentOf withPlaces (timing none none) (pos 0) (spaceOf withPlaces collapse (p .attrs)) 0 (p .content) >>= λ f. is (cueWith when (p .attrs) f)
+
+-- its row, where so many rows of segments stand, and the head of a track of it alone, where so many bytes are used
+abbrev pub noSpan : Span
+noSpan = record { place = 0; len = 0 }
+
+abbrev pub aloneRow : Interval → (rows : ℕ) → List (Attr Placed) → declared.Cue
+aloneRow when rows l = record {
+  start = when .start;
+  end = when .end;
+  «has_style» = isSome (valued withPlaces (ascii "style") l);
+  style = spanOr (optionBy spanIn (valued withPlaces (ascii "style") l));
+  «has_region» = false;
+  region = noSpan;
+  preserve = false;
+  segments = record { first = 0; count = rows };
+  extras = record { first = 0; count = 0 };
+}
+
+abbrev pub aloneHead : (rows used : ℕ) → Head
+aloneHead rows used = record {
+  params = 0;
+  styles = 0;
+  regions = 0;
+  cues = 1;
+  segments = rows;
+  «has_lang» = false;
+  lang = noSpan;
+  strings = used;
+  texts = used;
+}
+
+pub record AloneAsks (u z : List ℕ) (e : found.Element) (rows : ℕ) (head cues : List ℕ) (times : List ℤ) : Type 0 where
+  pub attrs : HasRows u z (e .first) (e .many)
+  pub short : length z ≤ 65536
+  pub few : rows ≤ 16384
+  pub in-head : 10 ≤ length head
+  pub in-cues : 22528 ≤ length cues
+  pub in-times : 4096 ≤ length times
+
+pub record Alone (z : List ℕ) (when : Interval) (rows : ℕ) (l : List (Attr Placed)) (h h′ c c′ : List ℕ) (m m′ : List ℤ) : Type 0 where
+  pub in-head : h′ ≡ sets h 0 (headRow (aloneHead rows (length z)))
+  pub in-cues : c′ ≡ sets c 0 (cueCells (aloneRow when rows l))
+  pub in-times : m′ ≡ sets m 0 (when .start ∷ when .end ∷ [])
