@@ -1,5 +1,7 @@
 -- A p that is a single cue: its tables are those of a track of that cue alone. Assumes nothing.
---     cue-timed                        what it means, its times first
+--     cue-timed, times-no, times-are   what it means, its times first
+--     cue-as, first-no, first-is       the first p
+--     row-added, times-added           a row more where there is none
 --     content-asks, content-no         its content, as it is asked for; refused
 --     alone-asks, alone-laid           its row and the head
 use Prim.Native.Nat.{ℕ, _+_, _-_, _*_, _≤_}
@@ -22,11 +24,13 @@ use Rattle.track.specs.Layout.{each, preorder, filled, filledSizes, joinedCells
 use Rattle.track.specs.Layout as placing
 use Rattle.track.proofs.SegmentsLaid.{rows-many}
 use Rattle.records.specs.Siblings.{Three, Stands, later}
-use Rattle.records.specs.Posts.{headRow, headOf}
+use Rattle.records.specs.declared.cells.Added.{Added}
+use Rattle.records.specs.Posts.{headRow, headOf, AddPost, TimesPost}
 use Rattle.records.proofs.RowLaws.{head-laid}
 use Rattle.records.proofs.Storing.{optional-wide}
 use Rattle.xml.specs.declared.find.Element as found
-use Rattle.xml.specs.Find.{elementRow}
+use Rattle.xml.specs.declared.find.Found.{Found}
+use Rattle.xml.specs.Find.{OfSiblings, elementRow, findRow}
 use Rattle.xml.specs.Reading.{Placed, lay}
 use Rattle.meaning.specs.Answers.{Answer, is, refused, _>>=_}
 use Rattle.meaning.specs.Words.{ascii}
@@ -36,10 +40,10 @@ use Rattle.meaning.specs.Space.{collapse, spaceOf}
 use Rattle.meaning.specs.Timing.{timeOf, sum, orZero, endOf, lastingTo}
 use Rattle.meaning.specs.Inline.{contentOf}
 use Rattle.meaning.specs.Cues.{madeIn}
-use Rattle.meaning.specs.Meaning.{timing, stopOf, cueIn}
+use Rattle.meaning.specs.Meaning.{timing, stopOf, cueIn, cueOf}
 use Rattle.laid.specs.Laid.{laidOf, laidStyles, laidRegions, laidCues, laidCue, rowsAfter, textsOf, total, alone}
 use Rattle.styling.specs.declared.space.WsMode.{WsMode}
-use Rattle.styling.specs.Posts.{spaceIn, turned}
+use Rattle.styling.specs.Posts.{OfRows, spaceIn, turned}
 use Rattle.extras.specs.Kept.{placedCells}
 use Rattle.inline.specs.Stood.{spansIn}
 use Rattle.inline.specs.Wraps.{three}
@@ -47,11 +51,13 @@ use Rattle.content.specs.declared.collect.Run.{Run}
 use Rattle.content.specs.declared.collect.Collecting.{Collecting}
 use Rattle.content.specs.Steps.{Roomy, Frame, Content, AsksContent, Left, ContentPost}
 use Rattle.cues.specs.declared.sums.Interval.{Interval}
-use Rattle.cues.specs.Steps.{CueTables, seven, Spacious, Base, Lined, noLine, singleFrom, singleOf}
+use Rattle.cues.specs.declared.sums.Timed.{Timed}
+use Rattle.cues.specs.Steps.{timedSaid, singleFrom, singleOf, CueTables, seven, Spacious, Base, Lined, noLine}
 use Rattle.cues.proofs.Lined.{blankFrom, before, nextFrame, blank-later, lined-frame, Next, lined-more}
-use Rattle.reader.specs.Steps.{cueRest, CueReady, CueLaid, Elem, elementIn, cueWith, timedCue, aloneRow, aloneHead, AloneAsks, Alone}
+use Rattle.promised.specs.declared.Answer as promise
+use Rattle.reader.specs.Steps.{cueRest, CueReady, CueLaid, CueOutcome, Tree, Elem, elementIn, cueWith, timedCue, aloneRow, aloneHead, AloneAsks, Alone}
 use Rattle.reader.proofs.Laying.{filled-from, Blank, lined-none}
-use Rattle.reader.proofs.Elements.{elem-cells, elem-rows, elem-inside, elem-order}
+use Rattle.reader.proofs.Elements.{elem-cells, elem-owned, elem-rows, elem-none, elem-found, elem-inside, elem-order}
 
 -- ---- its times first
 
@@ -90,6 +96,39 @@ module _ (p : Element Placed) where
   unfolding cueIn
   cue-timed = from-start (timeOf withPlaces bare (p .at) (ascii "begin") (p .attrs)) (timeOf withPlaces bare (p .at) (ascii "end") (p .attrs))
 
+module _ {t u z : List ℕ} {k : ℕ} (x : Elem t u z k) {e : found.Element} (row : e ≡ elementRow t k) {ctx : TimingCtx} (no-rates : ctx ≡ timing none none)
+    where
+  -- when its times are asked for
+  interval-said : (r : Timed) → OfRows u z (e .first) (e .many) (λ l. timedSaid r ≡ singleOf ctx (e .place) l)
+      → timedSaid r ≡ singleOf (timing none none) (x .place) (attrsIn z (x .attrs))
+  interval-said r o =
+      let p : e .place ≡ x .place = ap (λ (w : found.Element). w .place) (elem-cells x row) in
+      o (x .attrs) (elem-owned x row) ∙ rw (no-rates, p)
+
+  pub times-no : (q : Refusal) → OfRows u z (e .first) (e .many) (λ l. timedSaid (Timed.Refused q) ≡ singleOf ctx (e .place) l)
+      → cueIn withPlaces (elementIn x) ≡ turned q
+  times-no q o = cue-timed (elementIn x) ∙ rw (← (interval-said (Timed.Refused q) o))
+
+  pub times-are : (when : Interval) → OfRows u z (e .first) (e .many) (λ l. timedSaid (Timed.Is when) ≡ singleOf ctx (e .place) l)
+      → cueIn withPlaces (elementIn x) ≡ timedCue when (elementIn x)
+  times-are when o = cue-timed (elementIn x) ∙ rw (← (interval-said (Timed.Is when) o))
+
+-- the same outcome
+pub cue-as : {m n : Answer (Cue Placed)} (z : List ℕ) (T T′ : Tables) (r : promise.Answer) → m ≡ n → CueOutcome n z T T′ r → CueOutcome m z T T′ r
+cue-as z T T′ r e o = subst (λ (v : Answer (Cue Placed)). CueOutcome v z T T′ r) (sym e) o
+
+-- ---- the first p
+
+module _ {t u z : List ℕ} {n : ℕ} (x : Tree t u z n) {r : Found} (o : OfSiblings t 0 n (λ f. r ≡ findRow z (ascii "p") 0 f)) where
+  pub first-no : r ≡ Found.Nothing → cueOf withPlaces (nodesIn z (x .forest)) ≡ refused 12 0
+  unfolding cueOf
+  first-no e = rw (elem-none x (ascii "p") o e)
+
+  pub first-is : {k : ℕ} (e : r ≡ Found.Row k)
+      → cueOf withPlaces (nodesIn z (x .forest)) ≡ cueIn withPlaces (elementIn (elem-found x (ascii "p") o e .element))
+  unfolding cueOf
+  first-is e = rw (elem-found x (ascii "p") o e .is)
+
 -- ---- its row and the head are those of the layout
 
 module _ (when : Interval) (rows : ℕ) (l : List (Attr Placed)) (f : Segments Placed) (many : rows ≡ segmentRows (spansIn f)) where
@@ -102,6 +141,16 @@ module _ (when : Interval) (rows : ℕ) (l : List (Attr Placed)) (f : Segments P
   head-is m =
       let n : rows ≡ length (preorder (spansIn f) ++ []) = rw length-append (omega (arith, many, rows-many (spansIn f))) in
       rw n
+
+-- the first row of a table is added
+module _ (row c c′ : List ℕ) where
+  pub row-added : (r : Added) → AddPost 2048 11 row c c′ 0 r → c′ ≡ sets c 0 row
+  row-added (Added.Next n) p = p .2
+  row-added Added.Full p = absurd (omega (arith, p .0))
+
+  pub times-added : (a b : ℤ) (m m′ : List ℤ) (r : Added) → AddPost 2048 11 row c c′ 0 r → TimesPost 0 a b m m′ r → m′ ≡ sets m 0 (a ∷ b ∷ [])
+  times-added a b m m′ (Added.Next n) p q = q
+  times-added a b m m′ Added.Full p q = absurd (omega (arith, p .0))
 
 -- ---- the tables
 

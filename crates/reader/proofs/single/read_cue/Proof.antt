@@ -1,3 +1,6 @@
+use Rattle.meaning.specs.Words.{ascii}
+use Rattle.reader.proofs.Elements.{elem-found}
+use Rattle.reader.proofs.Alone.{cue-as, first-no, first-is}
 use borrow.Author.Needs.{needs}
 use Rattle.reader.proofs.single.read_cue.Statement.{statement}
 use Rattle.reader.proofs.single.read_cue.Tie as tie
@@ -24,11 +27,15 @@ enum-known-k c = search needs
 
 -- src/single.rt:201:26
 read-p-requires : tie.Need-read-p-requires
-read-p-requires c κs = ?
+read-p-requires c κs =
+    record {
+      ready = c .before .before .before .before .before .before .before .before .before .before .before .before .before .before .before .before .before .before .before .before .pre .ready;
+      element = elem-found (c .before .before .before .before .before .before .before .before .before .before .before .before .before .before .before .before .before .before .before .before .pre .tree) (ascii "p") (c .before .before .before .before .before .before .before .before .before .before .find-element .ensures) (c .before .before .before .before .before .before .before .before .k .given .1) .element;
+    }
 
 -- src/single.rt:175:1
 returns : tie.Need-returns
-returns c = ?
+returns c = λ x. first-no x (c .before .before .find-element .ensures) (c .enum-told .given .1)
 
 -- src/single.rt:175:1
 same-length : tie.Need-same-length
@@ -60,7 +67,11 @@ same-length-7 c = search needs
 
 -- src/single.rt:175:1
 returns-2 : tie.Need-returns-2
-returns-2 c = ?
+returns-2 c =
+    λ x.
+    let o = c .before .before .before .before .before .before .before .before .before .before .before .before .before .before .before .before .before .before .before .before .before .before .before .find-element .ensures in
+    let e = c .before .before .before .before .before .before .before .before .before .before .before .before .before .before .before .before .before .before .before .before .before .k .given .1 in
+    cue-as _ _ _ (c .before .before .before .before .before .before .before .before .before .before .before .before .read-p .result) (first-is x o e) (c .before .before .before .before .before .before .before .before .before .before .before .before .read-p .ensures (elem-found x (ascii "p") o e .element))
 
 pub read-cue-spec : {M : Type 1} → statement M
 read-cue-spec =

@@ -1,3 +1,5 @@
+use Rattle.reader.proofs.Elements.{elem-room, elem-rows}
+use Rattle.reader.proofs.Alone.{times-no, times-are, cue-as}
 use borrow.Author.Needs.{needs}
 use Rattle.reader.proofs.single.read_p.Statement.{statement}
 use Rattle.reader.proofs.single.read_p.Tie as tie
@@ -10,7 +12,7 @@ use Rattle.xml.proofs.element_at.Reads as element-at-reads
 
 -- src/single.rt:155:49
 element-at-requires : tie.Need-element-at-requires
-element-at-requires c κs = ?
+element-at-requires c κs = elem-room (c .before .before .before .before .before .before .before .before .pre .element)
 
 -- src/single.rt:155:76
 no-rates-requires : tie.Need-no-rates-requires
@@ -18,7 +20,7 @@ no-rates-requires c κs = search needs
 
 -- src/single.rt:155:11
 single-interval-requires : tie.Need-single-interval-requires
-single-interval-requires c κs = ?
+single-interval-requires c κs = elem-rows (c .before .before .before .before .before .before .before .before .before .before .pre .element) (c .before .element-at .ensures)
 
 -- src/single.rt:156:24
 enum-known-r : tie.Need-enum-known-r
@@ -34,7 +36,7 @@ read-timed-requires c κs = search needs
 
 -- src/single.rt:134:1
 returns : tie.Need-returns
-returns c = ?
+returns c = λ x. times-no x (c .before .before .before .before .before .element-at .ensures) (c .before .before .before .before .no-rates .ensures) _ (rw (c .before .r .given .1) at (c .before .before .before .single-interval .ensures))
 
 -- src/single.rt:134:1
 same-length : tie.Need-same-length
@@ -66,7 +68,10 @@ same-length-7 c = search needs
 
 -- src/single.rt:134:1
 returns-2 : tie.Need-returns-2
-returns-2 c = ?
+returns-2 c =
+    λ x.
+    let e = times-are x (c .before .before .before .before .before .before .before .before .before .before .before .before .before .before .before .before .before .before .before .before .before .before .before .before .before .element-at .ensures) (c .before .before .before .before .before .before .before .before .before .before .before .before .before .before .before .before .before .before .before .before .before .before .before .before .no-rates .ensures) _ (rw (c .before .before .before .before .before .before .before .before .before .before .before .before .before .before .before .before .before .before .before .before .before .when .given .1) at (c .before .before .before .before .before .before .before .before .before .before .before .before .before .before .before .before .before .before .before .before .before .before .before .single-interval .ensures)) in
+    cue-as _ _ _ (c .before .before .before .before .before .before .before .before .before .before .before .before .read-timed .result) e (c .before .before .before .before .before .before .before .before .before .before .before .before .read-timed .ensures x)
 
 pub read-p-spec : {M : Type 1} → statement M
 read-p-spec =

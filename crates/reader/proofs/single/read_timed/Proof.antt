@@ -1,3 +1,8 @@
+use mathlib.Core.List.{[]}
+use native.Mathlib.Omega.{arith}
+use Rattle.inline.specs.Wraps.{three}
+use Rattle.reader.proofs.Elements.{elem-room, elem-owned, elem-rows}
+use Rattle.reader.proofs.Alone.{content-asks, content-no, alone-asks, alone-laid}
 use borrow.Author.Needs.{needs}
 use Rattle.reader.proofs.single.read_timed.Statement.{statement}
 use Rattle.reader.proofs.single.read_timed.Tie as tie
@@ -11,15 +16,15 @@ use Rattle.xml.proofs.element_at.Reads as element-at-reads
 
 -- src/single.rt:108:9
 element-at-requires : tie.Need-element-at-requires
-element-at-requires c κs = ?
+element-at-requires c κs = elem-room (c .before .before .before .before .before .before .before .before .pre .element)
 
 -- src/single.rt:109:9
 resolve-ws-requires : tie.Need-resolve-ws-requires
-resolve-ws-requires c κs = ?
+resolve-ws-requires c κs = elem-rows (c .before .before .before .before .before .before .before .before .before .pre .element) (c .element-at .ensures)
 
 -- src/single.rt:118:9
 add-collect-segments-timed : tie.Need-add-collect-segments-timed
-add-collect-segments-timed c = ?
+add-collect-segments-timed c = record { fits = omega (arith, elem-room (c .before .before .before .before .before .before .before .before .before .before .before .before .before .before .pre .element)) }
 
 -- src/single.rt:121:9
 no-rates-requires : tie.Need-no-rates-requires
@@ -27,7 +32,7 @@ no-rates-requires c κs = search needs
 
 -- src/single.rt:110:11
 collect-segments-timed-requires : tie.Need-collect-segments-timed-requires
-collect-segments-timed-requires c κs = ?
+collect-segments-timed-requires c κs = content-asks _ _ _ _ _ _ _ (c .before .before .before .before .before .before .before .before .before .before .before .before .before .before .before .pre .ready) (c .before .before .before .before .before .before .before .before .before .before .before .before .before .before .before .pre .element) (c .before .before .before .before .before .before .element-at .ensures)
 
 -- src/single.rt:125:29
 enum-known-r : tie.Need-enum-known-r
@@ -39,7 +44,11 @@ enum-known-run c = search needs
 
 -- src/single.rt:127:13
 put-alone-requires : tie.Need-put-alone-requires
-put-alone-requires c κs = ?
+put-alone-requires c κs =
+    let x = c .before .before .before .before .before .before .before .before .before .before .before .before .before .before .before .before .before .before .before .before .before .before .before .before .before .before .before .before .before .pre .element in
+    let row = c .before .before .before .before .before .before .before .before .before .before .before .before .before .before .before .before .before .before .before .before .element-at .ensures in
+    alone-asks _ _ _ _ _ _ _ (c .before .before .before .before .before .before .before .before .before .before .before .before .before .before .before .before .before .before .before .before .before .before .before .before .before .before .before .before .before .pre .ready) x row (c .before .before .before .before .before .before .before .before .before .before .before .before .before .before .no-rates .result) (c .before .before .before .before .before .before .before .before .before .before .before .before .before .before .before .before .before .before .before .resolve-ws .result) (c .before .before .before .before .before .before .before .before .before .before .before .before .before .before .no-rates .ensures)
+    (c .before .before .before .before .before .before .before .before .before .before .before .before .before .before .before .before .before .before .before .resolve-ws .ensures (x .attrs) (elem-owned x row)) _ _ _ (rw (c .before .before .before .before .run .given .1) at (c .before .before .before .before .before .before .before .before .before .before .before .before .before .collect-segments-timed .ensures))
 
 -- src/single.rt:86:1
 same-length : tie.Need-same-length
@@ -59,7 +68,11 @@ same-length-4 c = search needs
 
 -- src/single.rt:86:1
 returns : tie.Need-returns
-returns c = ?
+returns c =
+    λ x.
+    let row = c .before .before .before .before .before .before .before .before .before .before .before .before .before .before .before .before .before .element-at .ensures in
+    content-no _ _ _ _ _ _ _ (c .before .before .before .before .before .before .before .before .before .before .before .before .before .before .before .before .before .before .before .before .before .before .before .before .before .before .pre .ready) x row (c .before .before .before .before .before .before .before .before .before .before .before .no-rates .result) (c .before .before .before .before .before .before .before .before .before .before .before .before .before .before .before .before .resolve-ws .result) (c .before .before .before .before .before .before .before .before .before .before .before .no-rates .ensures)
+    (c .before .before .before .before .before .before .before .before .before .before .before .before .before .before .before .before .resolve-ws .ensures (x .attrs) (elem-owned x row)) (three [] [] []) [] _ (rw (c .before .r .given .1) at (c .before .before .before .before .before .before .before .before .before .before .collect-segments-timed .ensures)) (c .before .before .before .before .before .before .before .before .before .before .before .before .before .before .before .before .before .before .before .before .before .before .before .before .before .before .args .when)
 
 -- src/single.rt:86:1
 same-length-5 : tie.Need-same-length-5
@@ -91,7 +104,12 @@ same-length-11 c = search needs
 
 -- src/single.rt:86:1
 returns-2 : tie.Need-returns-2
-returns-2 c = ?
+returns-2 c =
+    λ x.
+    let row = c .before .before .before .before .before .before .before .before .before .before .before .before .before .before .before .before .before .before .before .before .before .before .before .before .before .before .element-at .ensures in
+    alone-laid _ _ _ _ _ _ _ (c .before .before .before .before .before .before .before .before .before .before .before .before .before .before .before .before .before .before .before .before .before .before .before .before .before .before .before .before .before .before .before .before .before .before .before .pre .ready) x row (c .before .before .before .before .before .before .before .before .before .before .before .before .before .before .before .before .before .before .before .before .no-rates .result) (c .before .before .before .before .before .before .before .before .before .before .before .before .before .before .before .before .before .before .before .before .before .before .before .before .before .resolve-ws .result) (c .before .before .before .before .before .before .before .before .before .before .before .before .before .before .before .before .before .before .before .before .no-rates .ensures)
+    (c .before .before .before .before .before .before .before .before .before .before .before .before .before .before .before .before .before .before .before .before .before .before .before .before .before .resolve-ws .ensures (x .attrs) (elem-owned x row)) _ _ _ (rw (c .before .before .before .before .before .before .before .before .before .before .run .given .1) at (c .before .before .before .before .before .before .before .before .before .before .before .before .before .before .before .before .before .before .before .collect-segments-timed .ensures)) (c .before .before .before .before .before .before .before .before .before .before .before .before .before .before .before .before .before .before .before .before .before .before .before .before .before .before .before .before .before .before .before .before .before .before .before .args .when) _ _ _
+    (c .before .before .before .before .before .put-alone .ensures (x .attrs) (elem-owned x row))
 
 pub read-timed-spec : {M : Type 1} → statement M
 read-timed-spec =
