@@ -2,6 +2,7 @@
 --     named-same               names are compared alike in the tables and in nodes
 --     First, first-found       the row that is found is the first element of the name; its strings are in order, where those of all are
 --     first-nothing            no row is found: there is none
+--     regroup                  the strings of an element and of its later siblings, as two lists
 --     attrs-few, attrs-apart   no more attributes stand in it than in all; nor in two of different names
 use Prim.Native.Nat.{ℕ, _+_, _≤_}
 use mathlib.Core.Path.{_≡_, refl, sym, _∙_}
@@ -74,7 +75,7 @@ after-elem p n l c f lo hi o =
     let r = in-rest (attrSpans l) (spans c ++ spans f) (p + 1 + n) hi (o .1) in
     after-one (p + 1) n lo hi (spans f) (o .0) (in-rest (spans c) (spans f) (p + 1 + n) hi r)
 
-regroup : (a b c : List Span) → a ++ (b ++ c) ≡ (a ++ (b ++ [])) ++ c
+pub regroup : (a b c : List Span) → a ++ (b ++ c) ≡ (a ++ (b ++ [])) ++ c
 regroup a b c = simp append-assoc
 
 alone : (p n : ℕ) (l : List Attr) (c f : Forest) (lo hi : ℕ) → InOrder lo (spans (elem p n l c f)) hi → InOrder lo (spans (elem p n l c nil)) hi
