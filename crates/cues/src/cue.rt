@@ -1,6 +1,8 @@
 // A p as a cue.
 ghost use mathlib.Core.Path.{_≡_};
-ghost use Rattle.cues.specs.Steps.{seven, AsksChild, ParagraphPost};
+ghost use Rattle.inline.specs.Wraps.{three};
+ghost use Rattle.styling.specs.Posts.{OfRows};
+ghost use Rattle.cues.specs.Steps.{AsksSegments, SegmentsPost, AsksCue, CueOutcome, seven, AsksChild, ParagraphPost};
 use crate::lines::Line;
 use crate::lines::Lining;
 use crate::paragraph::Styled;
@@ -30,6 +32,10 @@ fn collect_segments(
     ws: WsMode,
     rows: usize,
 ) -> Styled
+    requires { ⌜ AsksSegments (now nodes) (now attrs) (now strings) k e rows (three (now segments) (now reveal) (now sizes)) (now texts) ⌝ }
+    ensures { λ r. ⌜ SegmentsPost (now (nodes .entry)) (now (attrs .entry)) (now (strings .entry)) k e start ctx ws rows
+        (three (now (segments .entry)) (now (reveal .entry)) (now (sizes .entry))) (now (texts .entry))
+        (three (now (segments .exit)) (now (reveal .exit)) (now (sizes .exit))) (now (texts .exit)) r ⌝ }
 {
     match content::collect_segments_timed(
         nodes,
@@ -66,6 +72,10 @@ fn add_paragraph(
     line: Line,
     rows: usize,
 ) -> Lining
+    requires { ⌜ AsksCue (now attrs) (now strings) e line rows (now cues) (now times) (now extras) ⌝ }
+    ensures { λ r. ⌜ OfRows (now (attrs .entry)) (now (strings .entry)) (e .first) (e .many) (λ l.
+        CueOutcome e when ws line rows (now (cues .entry)) (now (cues .exit)) (now (times .entry)) (now (times .exit))
+        (now (extras .entry)) (now (extras .exit)) l r) ⌝ }
 {
     let kept = extras::collect_p_inline_extras(attrs, strings, e.first, e.many, extras, line.extras);
     let count = kept.count;
