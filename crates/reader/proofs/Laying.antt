@@ -1,6 +1,6 @@
 -- The tables of a track from those of its head and of its cues. Assumes nothing.
 --     filled-from               cells stored at the start of a blank table
---     headBase, lined-none      what the tables of cues are before the first cue
+--     lined-none                what the tables of cues are before the first cue
 --     rest-laid                 with the last
 use Prim.Native.Nat.{ℕ, _+_, _-_, _≤_}
 use mathlib.Core.Path.{_≡_, refl, ap, _∙_}
@@ -22,26 +22,14 @@ use Rattle.laid.specs.Laid.{laidOf, laidStyles, laidRegions, laidCues, textsOf,
 use Rattle.inline.specs.Wraps.{three}
 use Rattle.promised.proofs.Promises.{RestLaid}
 use Rattle.cues.specs.declared.lines.Line.{Line}
-use Rattle.cues.specs.Steps.{CueTables, seven, Base, Lined, noLine}
+use Rattle.cues.specs.Steps.{CueTables, Base, Lined, noLine}
+use Rattle.reader.specs.Steps.{inCues, headBase}
 
 -- cells stored at the start of a blank table
 pub filled-from : (n : ℕ) {h h′ row cells : List ℕ} → h ≡ replicate n 0 → row ≡ cells → length cells ≤ n → h′ ≡ sets h 0 row → h′ ≡ filled n cells
 filled-from n {h} {h′} {row} {cells} b e k p =
     let w : sets (replicate (n - 0) 0) 0 cells ≡ filled n cells = filled-more 0 [] cells n (omega arith) in
     p ∙ ap (λ (l : List ℕ). sets l 0 row) b ∙ ap (sets (replicate n 0) 0) e ∙ (rw sub-zero at w)
-
--- what the head leaves
-abbrev pub headBase : Lengths → List (Style Placed) → List (Region Placed) → Base
-headBase n ss rs = record {
-  lengths = n;
-  sizes = filledSizes (n .sizes - 16384) (each styleSize (laidStyles 0 ss));
-  extras = placing.regionExtras (placing.styleExtras (replicate (n .extras) 0) (laidStyles 0 ss)) (laidRegions (styleExtras ss) rs);
-  rows = styleExtras ss + regionExtras rs;
-}
-
--- the tables that hold cues, the others being left out
-abbrev pub inCues : Tables → CueTables
-inCues T = seven (T .cues) (T .times) (T .segments) (T .reveal) (T .sizes) (T .extras) (T .texts)
 
 -- no cue
 pub record Blank (b : Base) (T : CueTables) : Type 0 where
