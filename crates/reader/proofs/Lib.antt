@@ -3,3 +3,5 @@ pub mod Shells
 pub mod Laying
 pub mod Elements
 pub mod Alone
+pub mod Contents
+pub mod Roots
