@@ -93,7 +93,8 @@ fn read_content(
     count: usize,
     ctx: TimingCtx,
 ) -> Answer
-    requires { ⌜ ((p : List ℕ) × ContentAsks (now nodes) (now attrs) (now strings) k count (rest (now head) p (now styles) (now regions) (now cues)
+    requires { ⌜ ((p : List ℕ) × ContentAsks (now nodes) (now attrs) (now strings) k count
+        (rest (now head) p (now styles) (now regions) (now cues)
         (now times) (now segments) (now reveal) (now sizes) (now extras) (now texts))) ⌝ }
     ensures { λ r. ⌜ ((p : List ℕ) → ContentPost (now (nodes .entry)) (now (attrs .entry)) (now (strings .entry)) k count ctx
         (rest (now (head .entry)) p (now (styles .entry)) (now (regions .entry)) (now (cues .entry))
@@ -102,11 +103,12 @@ fn read_content(
         (now (times .exit)) (now (segments .exit)) (now (reveal .exit)) (now (sizes .exit)) (now (extras .exit)) (now (texts .exit))) r) ⌝ }
 {
     let e = xml::element_at(nodes, k);
+    let from = k + 1;
     match heads::collect_head(
         nodes,
         attrs,
         strings,
-        k + 1,
+        from,
         e.end,
         styles,
         regions,
@@ -127,7 +129,7 @@ fn read_content(
                 sizes,
                 extras,
                 texts,
-                k + 1,
+                from,
                 e.end,
                 ctx,
                 ws,
