@@ -1,16 +1,15 @@
 -- A p as a cue. Assumes nothing.
---     p-untimed, p-unsegmented, p-full, p-is          what a p means, by the answers to its times, its segments and its limit
---     content-more, segments-no, segments-of          what `collect_segments` ensures
---     span-small, rows-small, cue-full, cue-added     what `add_paragraph` ensures
---     p-row, p-attrs, p-segments, p-cue               what the parts of a p ask
---     no-times, no-segments, came                     what `collect_paragraph` ensures
+--     p-untimed, p-unsegmented, p-full, p-is             what a p means, by the answers to its times, its segments and its limit
+--     content-more, segments-no, segments-of             what `collect_segments` ensures
+--     rows-small, part-small, cue-added                  what `add_paragraph` ensures
+--     p-row, p-attrs, p-segments, p-kept, p-after        what the parts of a p ask
+--     no-times, no-segments, cued                        what `collect_paragraph` ensures, by the answers
 use Prim.Native.Nat.{ℕ, _+_, _-_, _*_, _≤_, _<_, _^_}
 use mathlib.Core.Path.{_≡_, refl, sym, ap, _∙_}
 use mathlib.Core.Bool.{Bool}
 use mathlib.Core.List.{List, [], _∷_, _++_}
 use native.Mathlib.Omega.{arith}
 use lib.IntN.{ℤ}
-use lib.Ieee.{Float}
 use lib.Dec.{eqb}
 use lib.ListN.{length}
 use lib.Seq.{sets}
@@ -18,16 +17,15 @@ use borrow.Author.Tests.{le-leb, lt-leb}
 use Rattle.unicode.proofs.Utf8Laws.{by-test}
 use Rattle.times.specs.declared.offset.TimingCtx.{TimingCtx}
 use Rattle.tree.specs.declared.answers.Refusal.{Refusal}
-use Rattle.tree.specs.Trees.{Forest, size, attrsOf, attrSpans, spans, InOrder}
+use Rattle.tree.specs.Trees.{Forest, attrSpans, spans, InOrder}
 use Rattle.tree.specs.Trees as placed
 use Rattle.tree.proofs.Places.{in-lower, in-first, in-rest}
-use Rattle.track.specs.declared.strings.Span.{Span}
 use Rattle.track.specs.declared.values.Rows.{Rows}
 use Rattle.track.specs.declared.values.Cue as declared
 use Rattle.track.specs.Track.{Extra, Segments, Cue}
 use Rattle.track.specs.Layout.{cueCells}
 use Rattle.records.specs.declared.cells.Added.{Added}
-use Rattle.records.specs.Siblings.{Three, Stands, later}
+use Rattle.records.specs.Siblings.{Three, later}
 use Rattle.records.specs.Posts.{SmallSpan, SmallRows, AddPost, TimesPost}
 use Rattle.xml.specs.declared.find.Element.{Element}
 use Rattle.xml.specs.Find.{Owned, elementRow}
@@ -45,26 +43,25 @@ use Rattle.meaning.specs.Cues.{madeIn, styled, cueOfP, pOf}
 use Rattle.meaning.specs.Cues as meaning
 use Rattle.styling.specs.declared.space.WsMode.{WsMode}
 use Rattle.styling.specs.Posts.{HasRows, OfRows, turned, spaceIn}
-use Rattle.extras.specs.Kept.{rowsFrom, placedCells, Lists}
-use Rattle.inline.specs.Stood.{spansIn}
+use Rattle.extras.specs.Kept.{rowsFrom, Lists}
 use Rattle.content.specs.declared.collect.Run.{Run}
 use Rattle.content.specs.declared.collect.Collecting.{Collecting}
-use Rattle.content.specs.Steps.{Content, ContentPost, Roomy}
+use Rattle.content.specs.Steps.{Content, ContentPost}
 use Rattle.content.proofs.Standings.{standing-count, laid-same}
 use Rattle.cues.specs.declared.lines.Line.{Line}
 use Rattle.cues.specs.declared.lines.Lining.{Lining}
 use Rattle.cues.specs.declared.paragraph.Styled.{Styled}
 use Rattle.cues.specs.declared.paragraph.Part.{Part}
 use Rattle.cues.specs.declared.sums.Interval.{Interval}
-use Rattle.cues.specs.declared.sums.Timed.{Timed}
-use Rattle.cues.specs.Steps.{stopping, intervalFrom, endedFrom, begunFrom, intervalOf, timedSaid, onward, StyledGiven, PartIs}
-use Rattle.cues.specs.Steps.{CueTables, Spacious, Base, Child, AsksChild, ParagraphPost}
-use Rattle.cues.specs.Steps.{segmentsOfP, AsksSegments, Segmented, SegmentsPost, cueRow, AsksCue, CueAdded, CueOutcome}
+use Rattle.cues.specs.Steps.{stopping, intervalFrom, endedFrom, begunFrom, intervalOf, onward, StyledGiven, PartIs}
+use Rattle.cues.specs.Steps.{CueTables, Base, Child, AsksChild, ParagraphPost}
+use Rattle.cues.specs.Steps.{segmentsOfP, AsksSegments, Segmented, SegmentsPost, cueRow, CueAdded, CueOutcome}
 use Rattle.cues.proofs.Lined.{cueWith, blankFrom, blank-later, blank-onward, cue-row, nextFrame, lined-frame, wide-cells, wide-times}
 use Rattle.cues.proofs.Lined.{Next, lined-more}
 
 -- ---- what a p means
 
+-- a step more in front of one that is split
 push : {A B C : Type 0} (a : Answer A) (f : A → Answer B) (g : B → Answer C) (k : A → Answer C) → ((x : A) → k x ≡ (f x >>= g))
     → (a >>= k) ≡ ((a >>= f) >>= g)
 push (is x) f g k h = h x
@@ -82,12 +79,14 @@ module _ (ctx : TimingCtx) (reference : ℤ) (inherited : Space) (cues : List (C
     segments = f;
   }
 
+  -- its cue within the limit; its line
   abbrev limited : Interval → Segments Placed → Answer (Cue Placed)
   limited when f = within 2048 (length cues + 1) at (cue when f)
 
   abbrev close : Cue Placed → Answer (meaning.Line Placed)
   close x = is (record { cues = cues ++ (x ∷ []); end = x .end })
 
+  -- its segments
   abbrev inside : Interval → Answer (Segments Placed)
   inside when =
       contentOf withPlaces ctx (when .start) (spaceOf withPlaces inherited l) (madeIn cues) c >>= styled withPlaces ctx at (madeIn cues) l
@@ -176,7 +175,7 @@ module _ {t u z : List ℕ} {k : ℕ} {e : Element} {first : ℕ} {s : Three} {y
 
 -- ---- its cue
 
--- `rows-small` for rows that `extras` gives
+-- what `add_cue` asks of the rows of its extras, and of its strings
 pub rows-small : {xs : List (Extra Placed)} {at : ℕ} {t t′ : List ℕ} (r : Rows) → Lists xs at t t′ r → (many : ℕ) → r .count ≤ many
     → at + many < 2 ^ 32 → SmallRows r
 rows-small {xs} {at} r x many b h =
@@ -290,9 +289,11 @@ module _ {t u z : List ℕ} {k : ℕ} {line : Line} {T : CueTables} (a : AsksChi
 
     module _ (when : Interval) (timed : OfRows u z (e .first) (e .many) (λ l. is when ≡ intervalOf ctx (e .place) reference l)) (mode : WsMode)
         (modes : OfRows u z (e .first) (e .many) (λ l. spaceIn mode ≡ spaceOf withPlaces (spaceIn ws) l)) where
+      -- what `collect_segments` ensured
       abbrev Post : Styled → Type 0
       Post r = SegmentsPost t u z k e (when .start) ctx mode (line .rows) (T .segments) (T .texts) (T′ .segments) (T′ .texts) r
 
+      -- its attributes and its content
       module _ {b : Base} {limit : ℕ} (x : Child b limit t u z k line T) where
         abbrev l : List (Attr Placed)
         l = attrsIn z (x .attrs)
@@ -344,10 +345,6 @@ module _ {t u z : List ℕ} {k : ℕ} {line : Line} {T : CueTables} (a : AsksChi
             in-texts = it .texts;
           }
 
-          few-cues : {r : Line} → CueAdded e when mode line n (T .cues) (T′ .cues) (T .times) (T′ .times) (T .extras) (T′ .extras) (l x) r
-              → length (x .earlier) < 2048
-          few-cues d = omega (arith, d .few, x .standing .many)
-
         pub cued : (r : Lining)
             → OfRows u z (e .first) (e .many)
             (λ l. CueOutcome e when mode line n (T .cues) (T′ .cues) (T .times) (T′ .times) (T .extras) (T′ .extras) l r)
@@ -357,7 +354,7 @@ module _ {t u z : List ℕ} {k : ℕ} {line : Line} {T : CueTables} (a : AsksChi
             rw (d .is) (record {
               cues = x .earlier ++ (the-cue x ∷ []);
               means = p-is ctx reference (spaceIn ws) (x .earlier) (x .place) (l x) (c x) when (when-is x) mode (modes (x .attrs) (owned x))
-                  (it x .segments) (same-segments x ∙ it x .means) (few-cues x d);
+                  (it x .segments) (same-segments x ∙ it x .means) (omega (arith, d .few, x .standing .many));
               hi = it x .hi;
               below = it x .below;
               standing = lined-more (x .standing) (the-cue x) z (a .spacious) n (it x .hi) T′ (next x d) (when .end);

@@ -1,12 +1,11 @@
 -- One cue more in the tables. Assumes nothing.
---     texts-same                                                the two lists of the texts of segments are one
---     made-more, kept-more, texts-more, rows-more, all-more     what is counted and laid of cues, and of one more
---     blank-later, blank-onward                                 cleared rows after rows
---     cue-row                                                   a p's row by value is that of the layout
---     lined-frame, lined-more                                   where the next cue's segments begin; the tables with the next cue
+--     texts-same, made-more, kept-more, texts-more, rows-more, all-more     the texts, the counts and the rows of cues, and of one more
+--     blank-later, blank-onward                                             cleared rows, after more rows or fewer
+--     cue-row                                                               a p's row by value is that of the layout
+--     lined-frame, wide-cells, wide-times                                   where the next cue's segments begin, and their room
+--     Next, lined-more                                                      the tables with the next cue
 use Prim.Native.Nat.{ℕ, zero, suc, _+_, _-_, _*_, _≤_, _<_}
 use mathlib.Core.Path.{_≡_, refl, sym, ap, _∙_}
-use mathlib.Core.Bool.{true, false, cond}
 use mathlib.Core.List.{List, [], _∷_, _++_, append-assoc, append-nil}
 use native.Mathlib.Omega.{arith}
 use native.Mathlib.Nat.{add-zero, sub-zero, zero-sub, suc-sub-suc}
@@ -36,7 +35,7 @@ use Rattle.meaning.specs.Space.{isPreserve}
 use Rattle.meaning.specs.Styling.{inlineExtras}
 use Rattle.meaning.specs.Cues.{madeIn}
 use Rattle.meaning.specs.Tracks.{segmentsBy}
-use Rattle.laid.specs.Laid.{spanOf, laidExtra, rowsAfter, laidCue, laidCues, total, cueExtras, cueTexts}
+use Rattle.laid.specs.Laid.{laidExtra, rowsAfter, laidCue, laidCues, total, cueExtras, cueTexts}
 use Rattle.laid.specs.Laid as laid
 use Rattle.styling.specs.declared.space.WsMode.{WsMode}
 use Rattle.styling.specs.Posts.{spaceIn}
@@ -140,8 +139,13 @@ drop-both-on : {A : Type 0} (d : A) (l : List A) (i j k m : ℕ) → i ≤ j + k
     → drop i (replicate j d ++ (replicate k d ++ l)) ≡ replicate m d ++ l
 drop-both-on d l i j k m h e =
     let long : i ≤ length (replicate (j + k) d) = rw (length-replicate (j + k) d) h in
-    rw (← (append-assoc (replicate j d) (replicate k d) l), replicate-append-replicate j k d, drop-append-le i (replicate (j + k) d) l long,
-        drop-same i (j + k) d, e)
+    rw (
+      ← (append-assoc (replicate j d) (replicate k d) l),
+      replicate-append-replicate j k d,
+      drop-append-le i (replicate (j + k) d) l long,
+      drop-same i (j + k) d,
+      e,
+    )
 
 -- nothing stands from row n on
 abbrev pub blankFrom : Base → ℕ → Three
@@ -174,10 +178,15 @@ onward-fits end n h g = omega arith
 module _ (b : Base) (first end : ℕ) (low : first ≤ end) (most : end ≤ 16384) where
   pub blank-later : later (end - first) (blankFrom b first) ≡ blankFrom b end
   blank-later =
-      rw (drop-same {A = ℕ} ((end - first) * 8) (b .lengths .segments - first * 8) 0, less-eights (b .lengths .segments) first end low,
-          drop-same (end - first) (b .lengths .reveal - first) (pos 0), less-ones (b .lengths .reveal) first end low,
-          drop-append-le (end - first) (replicate (16384 - first) zeroFloat) (b .sizes) (rw length-replicate (omega arith)),
-          drop-same (end - first) (16384 - first) zeroFloat, less-ones 16384 first end low)
+      rw (
+        drop-same {A = ℕ} ((end - first) * 8) (b .lengths .segments - first * 8) 0,
+        less-eights (b .lengths .segments) first end low,
+        drop-same (end - first) (b .lengths .reveal - first) (pos 0),
+        less-ones (b .lengths .reveal) first end low,
+        drop-append-le (end - first) (replicate (16384 - first) zeroFloat) (b .sizes) (rw length-replicate (omega arith)),
+        drop-same (end - first) (16384 - first) zeroFloat,
+        less-ones 16384 first end low,
+      )
 
   pub blank-onward : (n : ℕ) → first ≤ n → n ≤ 16384 → 131072 ≤ first * 8 + (b .lengths .segments - first * 8)
       → 16384 ≤ first + (b .lengths .reveal - first) → onward end n (blankFrom b end) ≡ blankFrom b n
@@ -185,9 +194,11 @@ module _ (b : Base) (first end : ℕ) (low : first ≤ end) (most : end ≤ 1638
       let i = onward-eights (b .lengths .segments) first end n wide low most h in
       let j = onward-ones (b .lengths .reveal) first end n wide-times low most h in
       let k = onward-ones 16384 first end n (back first) low most h in
-      rw (drop-both {A = ℕ} 0 ((n - end) * 8) ((end - n) * 8) (b .lengths .segments - end * 8) (b .lengths .segments - n * 8) i,
-          drop-both (pos 0) (n - end) (end - n) (b .lengths .reveal - end) (b .lengths .reveal - n) j,
-          drop-both-on zeroFloat (b .sizes) (n - end) (end - n) (16384 - end) (16384 - n) (onward-fits end n most g) k)
+      rw (
+        drop-both {A = ℕ} 0 ((n - end) * 8) ((end - n) * 8) (b .lengths .segments - end * 8) (b .lengths .segments - n * 8) i,
+        drop-both (pos 0) (n - end) (end - n) (b .lengths .reveal - end) (b .lengths .reveal - n) j,
+        drop-both-on zeroFloat (b .sizes) (n - end) (end - n) (16384 - end) (16384 - n) (onward-fits end n most g) k,
+      )
 
 -- ---- a row
 
@@ -228,6 +239,12 @@ before b l = record {
 abbrev pub nextFrame : Base → (limit hi : ℕ) → List (Cue Placed) → (y : List ℕ) → Frame
 nextFrame b limit hi l y = record { pre = before b l; rest = blankFrom b (madeIn l); base = y; lo = hi; limit = limit }
 
+abbrev timeIn : Sized → ℤ
+timeIn x = segmentTime (x .segment)
+
+abbrev floatIn : Sized → Float
+floatIn x = segmentSize (x .segment)
+
 zeros-blank : (n i : ℕ) → getD (replicate {A = ℕ} n 0) i 0 ≡ 0
 zeros-blank zero i = refl
 zeros-blank (suc n) zero = refl
@@ -239,10 +256,10 @@ module _ (b : Base) (l : List (Cue Placed)) where
       joined-length rowCells 8 (λ y. segment-wide (y .segment) (y .rows)) (allSegments (rowsOf b l)) ∙ rw (all-long (b .rows) 0 l)
 
   times-long : length (before b l .times) ≡ madeIn l
-  times-long = each-length (λ (x : Sized). segmentTime (x .segment)) (allSegments (rowsOf b l)) ∙ all-long (b .rows) 0 l
+  times-long = each-length timeIn (allSegments (rowsOf b l)) ∙ all-long (b .rows) 0 l
 
   floats-long : length (before b l .floats) ≡ madeIn l
-  floats-long = each-length (λ (x : Sized). segmentSize (x .segment)) (allSegments (rowsOf b l)) ∙ all-long (b .rows) 0 l
+  floats-long = each-length floatIn (allSegments (rowsOf b l)) ∙ all-long (b .rows) 0 l
 
 module _ {b : Base} {hi : ℕ} {l : List (Cue Placed)} {line : Line} {T : CueTables} (h : Lined b hi l line T) where
   in-cells : T .segments .cells ≡ before b l .cells ++ blankFrom b (madeIn l) .cells
@@ -254,15 +271,16 @@ module _ {b : Base} {hi : ℕ} {l : List (Cue Placed)} {line : Line} {T : CueTab
   in-floats : T .segments .floats ≡ before b l .floats ++ blankFrom b (madeIn l) .floats
   in-floats =
       h .in-sizes
-      ∙ (rw (floats-long b l) (append-assoc (before b l .floats) (replicate (16384 - madeIn l) zeroFloat) (b .sizes)))
+      ∙ rw (floats-long b l) (append-assoc (before b l .floats) (replicate (16384 - madeIn l) zeroFloat) (b .sizes))
 
   texts-long : length (T .texts) ≡ b .lengths .texts
-  texts-long = ap length (h .in-texts) ∙ lay-length (cueTexts l) (replicate (b .lengths .texts) 0) ∙ length-replicate {A = ℕ} (b .lengths .texts) 0
+  texts-long =
+      ap length (h .in-texts) ∙ lay-length (cueTexts l) (replicate (b .lengths .texts) 0) ∙ length-replicate {A = ℕ} (b .lengths .texts) 0
 
   texts-blank : Blank (T .texts) hi
   texts-blank =
-      rw (h .in-texts)
-      (lay-blank (cueTexts l) (replicate (b .lengths .texts) 0) 0 hi (ordered-of (cueTexts l) 0 hi (h .order)) (λ i g. zeros-blank (b .lengths .texts) i))
+      let n = b .lengths .texts in
+      rw (h .in-texts) (lay-blank (cueTexts l) (replicate n 0) 0 hi (ordered-of (cueTexts l) 0 hi (h .order)) (λ i g. zeros-blank n i))
 
   -- none of the next cue's segments yet
   pub lined-frame : (limit : ℕ) → Standing (nextFrame b limit hi l (T .texts)) hi (line .rows) (line .rows) track.done (T .segments) (T .texts)
@@ -271,7 +289,8 @@ module _ {b : Base} {hi : ℕ} {l : List (Cue Placed)} {line : Line} {T : CueTab
       let e : line .rows - line .rows ≡ 0 = omega arith in
       let m : line .rows ≡ madeIn l = h .made in
       record {
-        rows = rw (e, m) (stands-start (before b l) (blankFrom b (madeIn l)) (T .segments) (madeIn l) (cells-long b l, times-long b l, floats-long b l)
+        rows = rw (e, m)
+            (stands-start (before b l) (blankFrom b (madeIn l)) (T .segments) (madeIn l) (cells-long b l, times-long b l, floats-long b l)
             in-cells in-times in-floats);
         texts = record { is = refl; order = omega arith; room = omega (arith, texts-long, h .room); blank = texts-blank };
       }
@@ -292,93 +311,102 @@ module _ {b : Base} {hi : ℕ} {l : List (Cue Placed)} {line : Line} {T : CueTab
 
 -- ---- with the next cue
 
-refilled : {A : Type 0} (d : A) (a v x : List A) (m n : ℕ) → x ≡ a ++ v → length x ≡ n → a ++ (v ++ replicate (m - n) d) ≡ x ++ replicate (m - length x) d
-refilled {A = A} d a v x m n e k = rw k (sym (append-assoc a v (replicate (m - n) d)) ∙ ap (λ (i : List A). i ++ replicate (m - n) d) (sym e))
+refilled : {A : Type 0} (d : A) (a v x : List A) (m n : ℕ) → x ≡ a ++ v → length x ≡ n
+    → a ++ (v ++ replicate (m - n) d) ≡ x ++ replicate (m - length x) d
+refilled d a v x m n e k = rw (k, e) (sym (append-assoc a v (replicate (m - n) d)))
+
+abbrev cellsIn : PlacedCue → List ℕ
+cellsIn x = cueCells (x .cue)
 
 module _ {b : Base} {hi : ℕ} {l : List (Cue Placed)} {line : Line} {T : CueTables} (h : Lined b hi l line T) (c : Cue Placed) where
+  abbrev more : List (Cue Placed)
+  more = l ++ (c ∷ [])
+
+  -- its row, and its segments
   abbrev row : PlacedCue
   row = laidCue (line .extras) (line .rows) c
 
   abbrev own : Segments Span
   own = spansIn (c .segments)
 
-  rows-are : rowsOf b (l ++ (c ∷ [])) ≡ rowsOf b l ++ (row ∷ [])
+  rows-are : rowsOf b more ≡ rowsOf b l ++ (row ∷ [])
   rows-are =
       let k : line .extras ≡ b .rows + cueExtras l = h .kept in
       let m : line .rows ≡ 0 + madeIn l = omega (arith, h .made) in
       rows-more c (b .rows) 0 l ∙ rw (k, m)
 
-  segments-are : allSegments (rowsOf b (l ++ (c ∷ []))) ≡ allSegments (rowsOf b l) ++ preorder own
+  segments-are : allSegments (rowsOf b more) ≡ allSegments (rowsOf b l) ++ preorder own
   unfolding laidCue
   segments-are = rw rows-are (all-more row (rowsOf b l))
 
-  more-extras : T .extras ≡ placing.cueExtras (b .extras) (rowsOf b l)
-      → placing.cueExtras (b .extras) (rowsOf b (l ++ (c ∷ []))) ≡ sets (T .extras) (line .extras * 3) (placedCells (c .extras))
-  unfolding laidCue
-  more-extras e = rw (rows-are, e) (extras-more row (b .extras) (rowsOf b l) ∙ extras-laid (line .extras) (placing.cueExtras (b .extras) (rowsOf b l)) (c .extras))
+  count-is : length (rowsOf b l) ≡ line .cues
+  count-is = rows-long (b .rows) 0 l ∙ sym (h .many)
 
-  -- the row and the times
   more-cues : line .cues < 2048 → 22528 ≤ length (T .cues)
-      → sets (T .cues) (line .cues * 11) (cueCells (row .cue)) ≡ filled (b .lengths .cues) (joinedCells (λ x. cueCells (x .cue)) (rowsOf b (l ++ (c ∷ []))))
+      → sets (T .cues) (line .cues * 11) (cueCells (row .cue)) ≡ filled (b .lengths .cues) (joinedCells cellsIn (rowsOf b more))
   more-cues few g =
       let rows = rowsOf b l in
-      let n : length rows ≡ line .cues = rows-long (b .rows) 0 l ∙ sym (h .many) in
-      let cells = joinedCells (λ (x : PlacedCue). cueCells (x .cue)) rows in
-      let k : length cells ≡ length rows * 11 = joined-length (λ (x : PlacedCue). cueCells (x .cue)) 11 (λ x. cue-wide (x .cue)) rows in
+      let n : length rows ≡ line .cues = count-is in
+      let cells = joinedCells cellsIn rows in
+      let k : length cells ≡ length rows * 11 = joined-length cellsIn 11 (λ x. cue-wide (x .cue)) rows in
       let e = ap length (h .in-cues) ∙ length-append cells (replicate (b .lengths .cues - length cells) 0) in
       let r = length-replicate {A = ℕ} (b .lengths .cues - length cells) 0 in
       let room : length rows * 11 + 11 ≤ b .lengths .cues = omega arith in
-      rw (rows-are, h .in-cues, ← n) (row-added (λ (x : PlacedCue). cueCells (x .cue)) 11 (λ x. cue-wide (x .cue)) (b .lengths .cues) rows row room)
+      rw (rows-are, h .in-cues, ← n) (row-added cellsIn 11 (λ x. cue-wide (x .cue)) (b .lengths .cues) rows row room)
 
   more-times : line .cues < 2048 → 4096 ≤ length (T .times)
-      → sets (T .times) (line .cues * 2) (c .start ∷ c .end ∷ []) ≡ filledTimes (b .lengths .times) (cueTimes (rowsOf b (l ++ (c ∷ []))))
+      → sets (T .times) (line .cues * 2) (c .start ∷ c .end ∷ []) ≡ filledTimes (b .lengths .times) (cueTimes (rowsOf b more))
   unfolding laidCue
   more-times few g =
       let rows = rowsOf b l in
-      let n : length rows ≡ line .cues = rows-long (b .rows) 0 l ∙ sym (h .many) in
+      let n : length rows ≡ line .cues = count-is in
       let k = times-length rows in
       let e = ap length (h .in-times) ∙ length-append (cueTimes rows) (replicate (b .lengths .times - length (cueTimes rows)) (pos 0)) in
       let r = length-replicate (b .lengths .times - length (cueTimes rows)) (pos 0) in
       let room : length rows * 2 + 2 ≤ b .lengths .times = omega arith in
       rw (rows-are, h .in-times, ← n) (times-added (b .lengths .times) rows row room)
 
-  module _ (n : ℕ) (T′ : CueTables) (st : Stands (before b l) (blankFrom b n) (line .rows) n own (T′ .segments)) where
-    made-is : madeIn (l ++ (c ∷ [])) ≡ n
+  more-extras : sets (T .extras) (line .extras * 3) (placedCells (c .extras)) ≡ placing.cueExtras (b .extras) (rowsOf b more)
+  unfolding laidCue
+  more-extras =
+      let t = placing.cueExtras (b .extras) (rowsOf b l) in
+      rw (rows-are, h .in-extras) (sym (extras-more row (b .extras) (rowsOf b l) ∙ extras-laid (line .extras) t (c .extras)))
+
+  module _ (n : ℕ) (s′ : Three) (st : Stands (before b l) (blankFrom b n) (line .rows) n own s′) where
+    made-is : madeIn more ≡ n
     made-is = made-more c l ∙ omega (arith, st .count, h .made, rows-spans (c .segments))
 
-    more-cells : T′ .segments .cells ≡ filled (b .lengths .segments) (cellsOf (allSegments (rowsOf b (l ++ (c ∷ [])))))
+    more-cells : s′ .cells ≡ filled (b .lengths .segments) (before b more .cells)
     more-cells =
-        let x = allSegments (rowsOf b (l ++ (c ∷ []))) in
-        let e : cellsOf x ≡ before b l .cells ++ cellsOf (preorder own) = ap cellsOf segments-are ∙ joined-append rowCells (allSegments (rowsOf b l)) (preorder own) in
-        st .in-cells
-        ∙ refilled 0 (before b l .cells) (cellsOf (preorder own)) (cellsOf x) (b .lengths .segments) (n * 8) e (cells-long b (l ++ (c ∷ [])) ∙ rw made-is)
+        let x = before b more .cells in
+        let g = cellsOf (preorder own) in
+        let e : x ≡ before b l .cells ++ g = ap cellsOf segments-are ∙ joined-append rowCells (allSegments (rowsOf b l)) (preorder own) in
+        st .in-cells ∙ refilled 0 (before b l .cells) g x (b .lengths .segments) (n * 8) e (cells-long b more ∙ rw made-is)
 
-    more-reveal : T′ .segments .times ≡ filledTimes (b .lengths .reveal) (timesOf (allSegments (rowsOf b (l ++ (c ∷ [])))))
+    more-reveal : s′ .times ≡ filledTimes (b .lengths .reveal) (before b more .times)
     more-reveal =
-        let x = allSegments (rowsOf b (l ++ (c ∷ []))) in
-        let e : timesOf x ≡ before b l .times ++ timesOf (preorder own) =
-        ap timesOf segments-are ∙ each-append (λ (x : Sized). segmentTime (x .segment)) (allSegments (rowsOf b l)) (preorder own) in
-        st .in-times
-        ∙ refilled (pos 0) (before b l .times) (timesOf (preorder own)) (timesOf x) (b .lengths .reveal) n e (times-long b (l ++ (c ∷ [])) ∙ made-is)
+        let x = before b more .times in
+        let g = timesOf (preorder own) in
+        let e : x ≡ before b l .times ++ g = ap timesOf segments-are ∙ each-append timeIn (allSegments (rowsOf b l)) (preorder own) in
+        st .in-times ∙ refilled (pos 0) (before b l .times) g x (b .lengths .reveal) n e (times-long b more ∙ made-is)
 
-    more-sizes : T′ .segments .floats ≡ filledSizes 16384 (floatsOf (allSegments (rowsOf b (l ++ (c ∷ []))))) ++ b .sizes
+    more-sizes : s′ .floats ≡ filledSizes 16384 (before b more .floats) ++ b .sizes
     more-sizes =
-        let x = allSegments (rowsOf b (l ++ (c ∷ []))) in
+        let x = before b more .floats in
         let g = floatsOf (preorder own) in
-        let e : floatsOf x ≡ before b l .floats ++ g =
-        ap floatsOf segments-are ∙ each-append (λ (x : Sized). segmentSize (x .segment)) (allSegments (rowsOf b l)) (preorder own) in
-        let k = refilled zeroFloat (before b l .floats) g (floatsOf x) 16384 n e (floats-long b (l ++ (c ∷ [])) ∙ made-is) in
+        let e : x ≡ before b l .floats ++ g = ap floatsOf segments-are ∙ each-append floatIn (allSegments (rowsOf b l)) (preorder own) in
+        let k = refilled zeroFloat (before b l .floats) g x 16384 n e (floats-long b more ∙ made-is) in
         let zeros = replicate (16384 - n) zeroFloat in
         let assoc : before b l .floats ++ (g ++ (zeros ++ b .sizes)) ≡ (before b l .floats ++ (g ++ zeros)) ++ b .sizes = simp append-assoc in
         st .in-floats ∙ (assoc ∙ ap (λ (i : List Float). i ++ b .sizes) k)
 
   module _ (hi′ : ℕ) (y′ : List ℕ) (la : Laid (c .segments) [] (T .texts) y′ hi hi′) where
-    more-texts : y′ ≡ lay (replicate (b .lengths .texts) 0) (cueTexts (l ++ (c ∷ [])))
+    more-texts : y′ ≡ lay (replicate (b .lengths .texts) 0) (cueTexts more)
     more-texts =
         let zeros : List ℕ = replicate (b .lengths .texts) 0 in
         laid-is la ∙ (rw (texts-more c l, lay-append (cueTexts l) (textsIn (c .segments)) zeros, ← (h .in-texts)))
 
-    more-order : InTurn 0 (cueTexts (l ++ (c ∷ []))) hi′
+    more-order : InTurn 0 (cueTexts more) hi′
     more-order =
         let g = textsIn (c .segments) in
         let o = ordered-append (cueTexts l) g 0 hi hi′ (ordered-of (cueTexts l) 0 hi (h .order)) (ordered-of g hi hi′ (laid-order la)) in
@@ -395,19 +423,19 @@ module _ {b : Base} {hi : ℕ} {l : List (Cue Placed)} {line : Line} {T : CueTab
     pub in-texts : Laid (c .segments) [] (T .texts) (T′ .texts) hi hi′
 
   pub lined-more : (z : List ℕ) → Spacious z T → (n hi′ : ℕ) (T′ : CueTables) → Next n hi′ T′ → (end : ℤ)
-      → Lined b hi′ (l ++ (c ∷ [])) (record { cues = line .cues + 1; rows = n; extras = line .extras + length (c .extras); end = end }) T′
+      → Lined b hi′ more (record { cues = line .cues + 1; rows = n; extras = line .extras + length (c .extras); end = end }) T′
   lined-more z s n hi′ T′ x end = record {
     many = rw length-append (omega (arith, h .many));
-    made = sym (made-is n T′ (x .in-rows));
+    made = sym (made-is n (T′ .segments) (x .in-rows));
     kept = rw (kept-more c l) (omega (arith, h .kept));
     few-cues = rw length-append (omega (arith, h .many, x .few));
-    few-rows = rw (made-is n T′ (x .in-rows)) (x .most);
+    few-rows = rw (made-is n (T′ .segments) (x .in-rows)) (x .most);
     in-cues = x .in-cues ∙ more-cues (x .few) (s .cues);
     in-times = x .in-times ∙ more-times (x .few) (s .times);
-    in-cells = more-cells n T′ (x .in-rows);
-    in-reveal = more-reveal n T′ (x .in-rows);
-    in-sizes = more-sizes n T′ (x .in-rows);
-    in-extras = x .in-extras ∙ sym (more-extras (h .in-extras));
+    in-cells = more-cells n (T′ .segments) (x .in-rows);
+    in-reveal = more-reveal n (T′ .segments) (x .in-rows);
+    in-sizes = more-sizes n (T′ .segments) (x .in-rows);
+    in-extras = x .in-extras ∙ more-extras;
     in-texts = more-texts hi′ (T′ .texts) (x .in-texts);
     order = more-order hi′ (T′ .texts) (x .in-texts);
     room = omega (arith, texts-long h, x .in-texts .room);

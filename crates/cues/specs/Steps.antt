@@ -228,19 +228,21 @@ pub record Lined (b : Base) (hi : ℕ) (l : List (Cue Placed)) (line : Line) (T 
   pub order : InTurn 0 (cueTexts l) hi
   pub room : hi ≤ b .lengths .texts
 
--- ---- a p
+-- ---- a p, whose element e is in row k
 
--- the segments that its content and its attributes give, where `made` rows stand before; `start` is its own
+-- the segments that its content and its attributes give, where `made` rows stand before and it begins at `start`
 abbrev pub segmentsOfP : TimingCtx → WsMode → (place made : ℕ) → (start : ℤ) → List (Attr Placed) → Nodes Placed → Answer (Segments Placed)
 segmentsOfP ctx ws place made start l c = contentOf withPlaces ctx start (spaceIn ws) made c >>= styled withPlaces ctx place made l
 
+-- its content can be read, into the rows from `first` on
 pub record AsksSegments (t u z : List ℕ) (k : ℕ) (e : Element) (first : ℕ) (s : Three) (y : List ℕ) : Type 0 where
   pub row : k * 6 + 6 ≤ length t
   pub attrs : HasRows u z (e .first) (e .many)
   pub content : AsksContent t u z (k + 1) (e .end) first s y
 
+-- m is what its segments are
 module _ (w : Frame) (first : ℕ) (s : Three) (y : List ℕ) (m : Answer (Segments Placed)) where
-  -- they stand up to row n; its content alone stood up to row `end`
+  -- they stand up to row n, their texts up to hi; its content alone stood up to row `end`
   pub record Segmented (n : ℕ) : Type 0 where
     pub few : n ≤ 16384
     pub segments : Segments Placed
@@ -277,6 +279,7 @@ cueRow when ws line rows l = record {
   extras = rowsFrom (line .extras) (length (inlineExtras withPlaces l));
 }
 
+-- there is room for it and for its extras
 pub record AsksCue (u z : List ℕ) (e : Element) (line : Line) (rows : ℕ) (cues : List ℕ) (times : List ℤ) (extras : List ℕ) : Type 0 where
   pub attrs : HasRows u z (e .first) (e .many)
   pub small : length z < 2 ^ 32
@@ -287,7 +290,7 @@ pub record AsksCue (u z : List ℕ) (e : Element) (line : Line) (rows : ℕ) (cu
   pub in-times : 4096 ≤ length times
   pub in-extras : 24576 ≤ length extras
 
--- its cue is added, with its extras
+-- the tables of cues, times and extras, with its cue and its extras; or there are 2,048 cues already
 module _ (e : Element) (when : Interval) (ws : WsMode) (line : Line) (rows : ℕ) (c c′ : List ℕ) (m m′ : List ℤ) (x x′ : List ℕ)
     (l : List (Attr Placed)) where
   pub record CueAdded (r : Line) : Type 0 where
@@ -369,7 +372,7 @@ ChildPost m t u z k line T T′ r =
     (b : Base) (limit : ℕ) (x : Child b limit t u z k line T)
     → Outcome b limit line (length (x .attrs) + length (attrsOf (x .content))) T′
     (m (x .earlier) (x .place) (record { place = x .place + 1; bytes = stringAt z (x .place + 1) (x .len) }) (attrsIn z (x .attrs))
-        (nodesIn z (x .content))) r
+    (nodesIn z (x .content))) r
 
 abbrev pub ParagraphPost : (t u z : List ℕ) (k : ℕ) (reference : ℤ) → TimingCtx → WsMode → (line : Line) (T T′ : CueTables) → Lining → Type 0
 ParagraphPost t u z k reference ctx ws line T T′ r =

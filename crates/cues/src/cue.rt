@@ -1,5 +1,4 @@
 // A p as a cue.
-ghost use mathlib.Core.Path.{_≡_};
 ghost use Rattle.inline.specs.Wraps.{three};
 ghost use Rattle.styling.specs.Posts.{OfRows};
 ghost use Rattle.cues.specs.Steps.{AsksSegments, SegmentsPost, AsksCue, CueOutcome, seven, AsksChild, ParagraphPost};
@@ -54,7 +53,14 @@ fn collect_segments(
     ) {
         Collecting::Refused(r) => Styled::Refused(r),
         Collecting::Is(run) => crate::paragraph::style_paragraph(
-            attrs, strings, segments, reveal, sizes, e, rows, run.rows,
+            attrs,
+            strings,
+            segments,
+            reveal,
+            sizes,
+            e,
+            rows,
+            run.rows,
         ),
     }
 }
@@ -77,7 +83,14 @@ fn add_paragraph(
         CueOutcome e when ws line rows (now (cues .entry)) (now (cues .exit)) (now (times .entry)) (now (times .exit))
         (now (extras .entry)) (now (extras .exit)) l r) ⌝ }
 {
-    let kept = extras::collect_p_inline_extras(attrs, strings, e.first, e.many, extras, line.extras);
+    let kept = extras::collect_p_inline_extras(
+        attrs,
+        strings,
+        e.first,
+        e.many,
+        extras,
+        line.extras,
+    );
     let count = kept.count;
     let style = crate::paragraph::value_of(attrs, strings, e, b"style");
     let region = crate::paragraph::value_of(attrs, strings, e, b"region");
@@ -159,7 +172,16 @@ pub fn collect_paragraph(
             ) {
                 Styled::Refused(r) => Lining::Refused(r),
                 Styled::Is(rows) => add_paragraph(
-                    attrs, strings, cues, times, extras, e, when, inside, line, rows,
+                    attrs,
+                    strings,
+                    cues,
+                    times,
+                    extras,
+                    e,
+                    when,
+                    inside,
+                    line,
+                    rows,
                 ),
             }
         }

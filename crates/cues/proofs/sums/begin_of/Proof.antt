@@ -7,33 +7,32 @@ use Rattle.cues.proofs.sums.begin_of.Reads as reads
 use Rattle.cues.proofs.sums.begin_of.Lts as lts
 use Rattle.cues.proofs.sums.time_given.Reads as time-given-reads
 
--- src/sums.rt:68:41
+-- src/sums.rt:62:41
 slice-aggregate-time-given : tie.Need-slice-aggregate-time-given
 slice-aggregate-time-given c = search needs
 
--- src/sums.rt:68:11
+-- src/sums.rt:62:11
 time-given-requires : tie.Need-time-given-requires
 time-given-requires c κs = search needs
 
--- src/sums.rt:69:25
+-- src/sums.rt:63:25
 enum-known-r : tie.Need-enum-known-r
 enum-known-r c = search needs
 
--- src/sums.rt:70:20
+-- src/sums.rt:64:20
 enum-known-b : tie.Need-enum-known-b
 enum-known-b c = search needs
 
--- src/sums.rt:63:1
+-- src/sums.rt:57:1
 returns : tie.Need-returns
 returns c =
     λ l o.
     let e = rw (c .before .r .given .1) at (c .before .before .before .time-given .ensures .1 l o) in
     rw (← e)
 
--- src/sums.rt:63:1
+-- src/sums.rt:57:1
 returns-2 : tie.Need-returns-2
 returns-2 c =
-
     λ l o.
     let e = rw (c .before .before .b .given .1) at (c .before .before .before .before .time-given .ensures .1 l o) in
     let zero = rw (c .before .before .b .given .1) at (c .before .before .before .before .time-given .ensures .0) in
