@@ -4,34 +4,30 @@
 --     row-added, times-added           a row more where there is none
 --     content-asks, content-no         its content, as it is asked for; refused
 --     alone-asks, alone-laid           its row and the head
-use Prim.Native.Nat.{ℕ, _+_, _-_, _*_, _≤_}
+use Prim.Native.Nat.{ℕ, _+_, _-_}
 use mathlib.Core.Path.{_≡_, refl, sym, ap, subst, _∙_}
-use mathlib.Core.Bool.{false}
 use mathlib.Core.List.{List, [], _∷_, _++_}
 use mathlib.Core.Option.{Option, none, some}
 use native.Mathlib.Omega.{arith}
-use native.Mathlib.Nat.{sub-zero}
 use lib.IntN.{ℤ, pos}
 use lib.Ieee.{Float}
-use lib.ListN.{length, replicate, length-append, length-replicate, replicate-append-replicate}
+use lib.ListN.{length, replicate, length-append, replicate-append-replicate}
 use lib.Seq.{sets}
 use Rattle.times.specs.declared.offset.TimingCtx.{TimingCtx}
 use Rattle.tree.specs.declared.answers.Refusal.{Refusal}
-use Rattle.tree.specs.Trees.{size}
 use Rattle.track.specs.Track.{Segments, Cue, segmentRows}
-use Rattle.track.specs.Tables.{Tables, Lengths, lengths, zeroFloat}
+use Rattle.track.specs.Tables.{Tables, lengths, zeroFloat}
 use Rattle.track.specs.Layout.{each, preorder, filled, filledSizes, joinedCells, headCells, allSegments}
 use Rattle.track.specs.Layout as placing
 use Rattle.track.proofs.SegmentsLaid.{rows-many}
-use Rattle.records.specs.Siblings.{Three, Stands, later}
+use Rattle.records.specs.Siblings.{Three, Stands}
 use Rattle.records.specs.declared.cells.Added.{Added}
 use Rattle.records.specs.Posts.{headRow, headOf, AddPost, TimesPost}
 use Rattle.records.proofs.RowLaws.{head-laid}
-use Rattle.records.proofs.Storing.{optional-wide}
 use Rattle.xml.specs.declared.find.Element as found
 use Rattle.xml.specs.declared.find.Found.{Found}
 use Rattle.xml.specs.Find.{OfSiblings, elementRow, findRow}
-use Rattle.xml.specs.Reading.{Placed, lay}
+use Rattle.xml.specs.Reading.{Placed}
 use Rattle.meaning.specs.Answers.{Answer, is, refused, _>>=_}
 use Rattle.meaning.specs.Words.{ascii}
 use Rattle.meaning.specs.Nodes.{Attr, Element}
@@ -55,7 +51,8 @@ use Rattle.cues.specs.declared.sums.Timed.{Timed}
 use Rattle.cues.specs.Steps.{timedSaid, singleFrom, singleOf, CueTables, seven, Spacious, Base, Lined, noLine}
 use Rattle.cues.proofs.Lined.{blankFrom, before, nextFrame, blank-later, lined-frame, Next, lined-more}
 use Rattle.promised.specs.declared.Answer as promise
-use Rattle.reader.specs.Steps.{cueRest, CueReady, CueLaid, CueOutcome, Tree, Elem, elementIn, cueWith, timedCue, aloneRow, aloneHead, AloneAsks, Alone}
+use Rattle.reader.specs.Steps.{cueRest, CueReady, CueLaid, CueOutcome, Tree, Elem, elementIn}
+use Rattle.reader.specs.Steps.{cueWith, timedCue, aloneRow, aloneHead, AloneAsks, Alone}
 use Rattle.reader.proofs.Laying.{filled-from, Blank, lined-none}
 use Rattle.reader.proofs.Elements.{elem-cells, elem-owned, elem-rows, elem-none, elem-found, elem-inside, elem-order}
 
@@ -87,7 +84,7 @@ module _ (p : Element Placed) where
 
   from-start : (m : Answer (Option ℤ)) (n : Answer (Option ℤ))
       → (m >>= λ begin. n >>= λ end. stopOf withPlaces (p .at) (orZero begin) end (p .attrs) >>= λ stop.
-          timedCue (record { start = orZero begin; end = stop }) p)
+      timedCue (record { start = orZero begin; end = stop }) p)
       ≡ ((m >>= λ begin. is (orZero begin)) >>= λ start. n >>= λ end. singleFrom bare (p .at) start end (p .attrs)) >>= λ when. timedCue when p
   from-start (is begin) n = from-begin begin n
   from-start (refused i q) n = refl
@@ -96,8 +93,8 @@ module _ (p : Element Placed) where
   unfolding cueIn
   cue-timed = from-start (timeOf withPlaces bare (p .at) (ascii "begin") (p .attrs)) (timeOf withPlaces bare (p .at) (ascii "end") (p .attrs))
 
-module _ {t u z : List ℕ} {k : ℕ} (x : Elem t u z k) {e : found.Element} (row : e ≡ elementRow t k) {ctx : TimingCtx} (no-rates : ctx ≡ timing none none)
-    where
+module _ {t u z : List ℕ} {k : ℕ} (x : Elem t u z k) {e : found.Element} (row : e ≡ elementRow t k) {ctx : TimingCtx}
+    (no-rates : ctx ≡ timing none none) where
   -- when its times are asked for
   interval-said : (r : Timed) → OfRows u z (e .first) (e .many) (λ l. timedSaid r ≡ singleOf ctx (e .place) l)
       → timedSaid r ≡ singleOf (timing none none) (x .place) (attrsIn z (x .attrs))
@@ -154,7 +151,8 @@ module _ (row c c′ : List ℕ) where
 
 -- ---- the tables
 
-module _ (h c : List ℕ) (m : List ℤ) (g : List ℕ) (v : List ℤ) (f : List Float) (y : List ℕ) {z : List ℕ} (ready : CueReady z (cueRest h c m g v f y)) where
+module _ (h c : List ℕ) (m : List ℤ) (g : List ℕ) (v : List ℤ) (f : List Float) (y : List ℕ) {z : List ℕ}
+    (ready : CueReady z (cueRest h c m g v f y)) where
   abbrev T : Tables
   T = cueRest h c m g v f y
 

@@ -3,22 +3,21 @@
 --     Counts, whole-filled                      the head of the track
 --     head-asks, heads-no, body-asks, body-no   its head and its body, as they are asked for; refused
 --     whole-asks, content-laid                  all of it
-use Prim.Native.Nat.{ℕ, _+_, _-_, _*_, _≤_}
+use Prim.Native.Nat.{ℕ, _+_, _-_, _≤_}
 use mathlib.Core.Path.{_≡_, refl, sym, ap, subst, _∙_}
 use mathlib.Core.Bool.{true, false}
-use mathlib.Core.List.{List, [], _∷_, _++_}
-use mathlib.Core.Option.{Option, none, some}
+use mathlib.Core.List.{List, []}
 use native.Mathlib.Omega.{arith}
-use lib.IntN.{ℤ, pos}
+use lib.IntN.{ℤ}
 use lib.Ieee.{Float}
 use lib.ListN.{length, replicate, length-append}
 use Rattle.times.specs.declared.offset.TimingCtx.{TimingCtx}
 use Rattle.tree.specs.declared.answers.Refusal.{Refusal}
 use Rattle.scan.specs.Names.{sameFolded}
 use Rattle.tree.specs.Trees.{Forest, attrsOf}
-use Rattle.track.specs.Track.{Param, Style, Region, Cue, Track}
-use Rattle.track.specs.Tables.{Tables, Lengths, lengths, zeroFloat}
-use Rattle.track.specs.Layout.{each, isSome, spanOr, filled, headCells}
+use Rattle.track.specs.Track.{Param, Style, Region, Cue}
+use Rattle.track.specs.Tables.{Tables, lengths}
+use Rattle.track.specs.Layout.{isSome, spanOr, filled, headCells}
 use Rattle.records.specs.Posts.{headRow, headOf}
 use Rattle.records.proofs.RowLaws.{head-laid}
 use Rattle.records.proofs.Storing.{optional-wide}
@@ -27,7 +26,7 @@ use Rattle.xml.specs.declared.find.Element as found
 use Rattle.xml.specs.Find.{elementRow}
 use Rattle.xml.specs.Reading.{Placed}
 use Rattle.xml.proofs.PassForests.{string-long}
-use Rattle.meaning.specs.Answers.{Answer, is, refused, _>>=_}
+use Rattle.meaning.specs.Answers.{Answer}
 use Rattle.meaning.specs.Words.{ascii}
 use Rattle.meaning.specs.Nodes.{Attr, Element, firstElement}
 use Rattle.meaning.specs.Kinds.{withPlaces, attrsIn, nodesIn}
@@ -35,7 +34,7 @@ use Rattle.meaning.specs.Space.{collapse, spaceOf}
 use Rattle.meaning.specs.Tracks.{optionBy}
 use Rattle.meaning.specs.Cues.{madeIn}
 use Rattle.meaning.specs.Meaning.{langOf, bodyOf}
-use Rattle.laid.specs.Laid.{laidParam, laidStyles, laidRegions, laidCues, laidOf, styleExtras, regionExtras}
+use Rattle.laid.specs.Laid.{laidParam, laidOf, styleExtras, regionExtras}
 use Rattle.laid.proofs.Fitting.{styles-many, regions-many, cues-many, segments-many}
 use Rattle.styling.specs.declared.space.WsMode.{WsMode}
 use Rattle.styling.specs.declared.rows.Held.{Held}
@@ -44,20 +43,18 @@ use Rattle.styling.specs.Posts.{spaceIn, turned}
 use Rattle.extras.specs.Counts.{attrsNamed}
 use Rattle.extras.proofs.Counts.{attrs-apart}
 use Rattle.inline.specs.Stood.{spanIn}
-use Rattle.inline.specs.Wraps.{three}
 use Rattle.params.specs.Named.{foundIn, FoundFits}
 use Rattle.heads.specs.declared.collect.Heads.{Heads}
 use Rattle.heads.specs.declared.collect.Heading.{Heading}
-use Rattle.heads.specs.Steps.{Children, four, Cleared, AsksHead, Headed, HeadPost, insideHead, inHead, stylesIn, regionsIn}
+use Rattle.heads.specs.Steps.{Children, four, Cleared, AsksHead, Headed, HeadPost, insideHead, inHead}
 use Rattle.heads.proofs.Joining.{head-stops, apart-of}
 use Rattle.cues.specs.declared.lines.Line.{Line}
 use Rattle.cues.specs.declared.lines.Lining.{Lining}
-use Rattle.cues.specs.declared.paragraph.Part.{Part}
 use Rattle.cues.specs.Steps.{CueTables, seven, Spacious, Base, Lined, noLine, Bodies, AsksBody, Bodied, BodyPost}
-use Rattle.reader.specs.Steps.{rest, headBase, inCues, Ready, Elem, elementIn, LangIs, wholeHead, HeadAsks, HeadPut, trackOfParts, contentMeans}
+use Rattle.reader.specs.Steps.{rest, headBase, Ready, Elem, elementIn, LangIs, wholeHead, HeadAsks, HeadPut, trackOfParts, contentMeans}
 use Rattle.reader.specs.Steps.{ContentLaid}
 use Rattle.reader.proofs.Laying.{filled-from, Blank, lined-none}
-use Rattle.reader.proofs.Elements.{elem-cells, elem-owned, elem-rows, elem-inside, elem-order}
+use Rattle.reader.proofs.Elements.{elem-cells, elem-rows, elem-inside, elem-order}
 
 -- ---- its language
 
@@ -116,7 +113,8 @@ module _ (h s r c : List ℕ) (m : List ℤ) (g : List ℕ) (v : List ℤ) (f : 
   abbrev tables : List ℕ → Tables
   tables p = rest h p s r c m g v f ex y
 
-  module _ {t u z : List ℕ} {p₀ : List ℕ} (ready : Ready z (tables p₀)) {k : ℕ} (x : Elem t u z k) {e : found.Element} (row : e ≡ elementRow t k) where
+  module _ {t u z : List ℕ} {p₀ : List ℕ} (ready : Ready z (tables p₀)) {k : ℕ} (x : Elem t u z k) {e : found.Element}
+      (row : e ≡ elementRow t k) where
     abbrev children : Children t u z (k + 1) (e .end)
     children = record {
       own = x .own + length (x .attrs);
@@ -223,7 +221,8 @@ module _ (h s r c : List ℕ) (m : List ℤ) (g : List ℕ) (v : List ℤ) (f : 
           as-read : bodyOf withPlaces ctx (spaceIn ws) (firstElement withPlaces (ascii "body") (nodesIn z (x .content))) ≡ meant
           as-read = rw mode
 
-          pub body-no : (q : Refusal) → Body-said (Lining.Refused q) → (params : List (Param Placed)) → contentMeans params ctx (elementIn x) ≡ turned q
+          pub body-no : (q : Refusal) → Body-said (Lining.Refused q) → (params : List (Param Placed))
+              → contentMeans params ctx (elementIn x) ≡ turned q
           body-no q b params =
               rw (headed p₀ .means-styles, headed p₀ .means-regions, sym as-read ∙ b (base p₀) (length z) (bodies p₀))
 
@@ -250,7 +249,7 @@ module _ (h s r c : List ℕ) (m : List ℤ) (g : List ℕ) (v : List ℤ) (f : 
             pub content-laid : (p : List ℕ) (params : List (Param Placed)) {count : ℕ} {h′ : List ℕ} → length params ≡ count
                 → HeadPut z count hd line attrs h h′
                 → ContentLaid (contentMeans params ctx (elementIn x)) params z (tables p) (rest h′ p s′ r′ (after .cues) (after .times)
-                    (after .segments .cells) (after .segments .times) (after .segments .floats) (after .extras) (after .texts))
+                (after .segments .cells) (after .segments .times) (after .segments .floats) (after .extras) (after .texts))
             content-laid p params many put =
                 let a = headed p in
                 let b = bodied p in

@@ -1,19 +1,19 @@
 -- An element in its row, as the readers of tt and of p take it. Assumes nothing.
 --     elem-room, elem-cells, elem-rows, elem-owned, elem-inside, elem-order   what stands in its row, its attributes and its content
---     elem-found                                                              the first of a name in a tree
+--     elem-none, elem-found                                                   the first of a name in a tree
 use Prim.Native.Nat.{ℕ, _+_, _*_, _≤_}
 use mathlib.Core.Path.{_≡_, sym, _∙_}
 use mathlib.Core.List.{List, _++_}
 use mathlib.Core.Option.{none, some}
 use native.Mathlib.Omega.{arith}
-use lib.ListN.{length, length-append}
-use Rattle.tree.specs.Trees.{size, attrsOf, attrSpans, spans, InOrder}
+use lib.ListN.{length}
+use Rattle.tree.specs.Trees.{size, attrSpans, spans, InOrder}
 use Rattle.tree.specs.Trees as placed
 use Rattle.tree.proofs.Places.{in-lower, in-first, in-rest}
 use Rattle.xml.specs.declared.find.Found.{Found}
 use Rattle.xml.specs.declared.find.Element.{Element}
-use Rattle.xml.specs.Find.{Holds, Siblings, Owned, OfSiblings, ElementAt, elementRow, findRow}
-use Rattle.xml.proofs.FindLaws.{holds-elem, siblings-of}
+use Rattle.xml.specs.Find.{Holds, Owned, OfSiblings, ElementAt, elementRow, findRow}
+use Rattle.xml.proofs.FindLaws.{holds-elem}
 use Rattle.meaning.specs.Nodes.{firstElement}
 use Rattle.meaning.specs.Kinds.{withPlaces, nodesIn}
 use Rattle.styling.specs.Posts.{HasRows}
@@ -59,9 +59,6 @@ module _ {t u z : List ℕ} {k : ℕ} (x : Elem t u z k) where
 -- ---- the first of a name
 
 module _ {t u z : List ℕ} {n : ℕ} (x : Tree t u z n) where
-  pub tree-siblings : Siblings t z 0 n
-  tree-siblings = rw (x .rows) at (siblings-of (x .holds))
-
   module _ (name : List ℕ) {r : Found} (o : OfSiblings t 0 n (λ f. r ≡ findRow z name 0 f)) where
     row-is : r ≡ findRow z name 0 (x .forest)
     row-is = o 0 (x .forest) (x .holds .stands) (x .rows)

@@ -10,16 +10,14 @@ use native.Mathlib.Nat.{sub-zero}
 use lib.IntN.{pos}
 use lib.ListN.{length, replicate}
 use lib.Seq.{sets}
-use Rattle.track.specs.Track.{Style, Region, Cue, Track}
+use Rattle.track.specs.Track.{Track}
 use Rattle.track.specs.Tables.{Tables, Lengths, zeroFloat}
-use Rattle.track.specs.Layout.{each, filled, filledSizes, joinedCells, headCells, paramCells, styleCells, regionCells, styleSize, allSegments}
+use Rattle.track.specs.Layout.{each, filled, joinedCells, headCells, paramCells, styleCells, regionCells, allSegments}
 use Rattle.track.specs.Layout as placing
-use Rattle.records.specs.Siblings.{cellsOf, timesOf, floatsOf}
 use Rattle.records.proofs.RowLaws.{filled-more}
 use Rattle.xml.specs.Reading.{Placed, lay}
 use Rattle.meaning.specs.Cues.{madeIn}
-use Rattle.laid.specs.Laid.{laidOf, laidStyles, laidRegions, laidCues, textsOf, total, styleExtras, regionExtras, cueExtras, cueTexts}
-use Rattle.inline.specs.Wraps.{three}
+use Rattle.laid.specs.Laid.{laidOf, laidStyles, laidRegions, laidCues, textsOf, total, styleExtras, cueExtras, cueTexts}
 use Rattle.promised.proofs.Promises.{RestLaid}
 use Rattle.cues.specs.declared.lines.Line.{Line}
 use Rattle.cues.specs.Steps.{CueTables, Base, Lined, noLine}

@@ -1,9 +1,9 @@
 -- A tree by the part of its strings that the text covers, and how many attributes it has. Assumes nothing.
---     nodes-part      the same nodes stand in the part
---     given-few       a tree that was read has at most 8,192 attributes
---     given-part      its rows, as the readers of tracks take them
+--     nodes-part                           the same nodes stand in the part
+--     given-few, given-fits, given-short   a tree that was read has at most 8,192 attributes, and its text fits
+--     given-part                           its rows, as the readers of tracks take them
 use Prim.Native.Nat.{ℕ, _+_, _≤_}
-use mathlib.Core.Path.{_≡_, refl, sym, ap, _∙_}
+use mathlib.Core.Path.{_≡_, refl, ap, _∙_}
 use mathlib.Core.List.{List, [], _∷_, _++_}
 use native.Mathlib.Omega.{arith}
 use lib.ListN.{length, take}

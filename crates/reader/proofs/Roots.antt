@@ -1,17 +1,17 @@
 -- tt: its parameters and its content make a track. Assumes nothing.
---     track-steps                            what it means, step by step
---     params-full, rates-no, content-means   as far as it is read
---     tt-outcome                             its content with its parameters
---     root-no, root-is, track-as             the first tt
-use Prim.Native.Nat.{ℕ, _*_, _≤_, _<_}
+--     track-steps                           what it means, step by step
+--     params-full, rates-no                 as far as it is read
+--     many-params, few-params, tt-outcome   its content with its parameters
+--     root-no, root-is, track-as            the first tt
+use Prim.Native.Nat.{ℕ, _≤_}
 use mathlib.Core.Path.{_≡_, refl, sym, ap, subst, _∙_}
 use mathlib.Core.List.{List, [], _∷_}
+use mathlib.Core.Option.{Option}
 use native.Mathlib.Omega.{arith}
 use lib.IntN.{ℤ}
 use lib.Ieee.{Float}
 use lib.ListN.{length, replicate}
 use borrow.Author.Tests.{le-leb, lt-leb}
-use mathlib.Core.Option.{Option}
 use Rattle.times.specs.declared.offset.TimingCtx.{TimingCtx}
 use Rattle.tree.specs.declared.answers.Refusal.{Refusal}
 use Rattle.track.specs.Track.{Param, Track}
@@ -35,7 +35,7 @@ use Rattle.params.specs.declared.rates.TimingSaid.{TimingSaid}
 use Rattle.params.specs.Named.{timingSaid, timingOf}
 use Rattle.params.specs.Rows.{placedParams, Collects}
 use Rattle.promised.specs.declared.Answer as promise
-use Rattle.reader.specs.Steps.{rest, Ready, Laid, Outcome, Tree, Elem, elementIn, contentMeans, ContentOutcome}
+use Rattle.reader.specs.Steps.{rest, Ready, Outcome, Tree, Elem, elementIn, contentMeans, ContentOutcome}
 use Rattle.reader.proofs.Laying.{filled-from, rest-laid}
 use Rattle.reader.proofs.Elements.{elem-cells, elem-owned, elem-none, elem-found}
 
@@ -115,7 +115,8 @@ module _ {t u z : List ℕ} {k : ℕ} (x : Elem t u z k) {e : found.Element} (ro
       content-means = after-params ∙ (rw (← (r (x .attrs) (elem-owned x row))))
 
       -- ---- with its content
-      module _ (h s q c : List ℕ) (m : List ℤ) (g : List ℕ) (v : List ℤ) (f : List Float) (ex y : List ℕ) (ready : Ready z (rest h p s q c m g v f ex y))
+      module _ (h s q c : List ℕ) (m : List ℤ) (g : List ℕ) (v : List ℤ) (f : List Float) (ex y : List ℕ)
+          (ready : Ready z (rest h p s q c m g v f ex y))
           (h′ s′ q′ c′ : List ℕ) (m′ : List ℤ) (g′ : List ℕ) (v′ : List ℤ) (f′ : List Float) (ex′ y′ : List ℕ) where
         abbrev before : Tables
         before = rest h p s q c m g v f ex y

@@ -1,9 +1,10 @@
 -- What the calls do around the reading of a tree meets their promise. Assumes nothing.
---     zero-lengths, tells-long, zero-as, long-as, laid-as, kept-laid, blank-as   the tables of a track beside any strings
---     meant-numbers, track-post, cue-post                                         whatever is wanted, a number is from 12 to 16
---     cue-asks, alone-post                                    a single cue leaves the other tables blank
---     short-promise, tree-asks, away-promise, tree-promise  the call, by its outcomes
-use Prim.Native.Nat.{ℕ, _≤_}
+--     zero-lengths, tells-long                                  tables that are cleared keep their lengths
+--     long-as, zero-as, laid-as, kept-laid, blank-as            the tables of a track beside any strings
+--     meant-numbers, track-post, cue-post                       whatever is wanted: a number is from 12 to 16
+--     cue-asks, alone-post                                      a single cue leaves the other tables blank
+--     short-promise, away-promise, tree-asks, tree-promise      the call, by its outcomes
+use Prim.Native.Nat.{ℕ}
 use mathlib.Core.Path.{_≡_, refl, sym, ap, _∙_, subst}
 use mathlib.Core.Bool.{Bool, true, false}
 use mathlib.Core.List.{List, []}
@@ -17,26 +18,25 @@ use Rattle.tree.specs.declared.answers.Answer as tree
 use Rattle.tree.specs.declared.answers.Refusal.{Refusal}
 use Rattle.track.specs.Track.{Cue, Track}
 use Rattle.track.specs.Tables.{Tables, Lengths, lengths}
-use Rattle.track.specs.Tables as track
 use Rattle.track.specs.Layout.{each, joinedCells, styleExtras, regionExtras, cueExtras, layExtras}
 use Rattle.xml.specs.Reading.{Placed}
 use Rattle.xml.specs.Promise as xml
 use Rattle.xml.proofs.Given.{given-tree, given-forest}
-use Rattle.meaning.specs.Answers.{is, refused, answered}
+use Rattle.meaning.specs.Answers.{is}
 use Rattle.meaning.specs.Answers as meaning
 use Rattle.meaning.specs.Nodes.{Nodes}
 use Rattle.meaning.specs.Kinds.{nodesIn}
-use Rattle.laid.specs.Laid.{laidOf, laidStyles, laidRegions, laidCues, laidCue, rowsAfter, total, alone, trackTables, whole, single}
+use Rattle.laid.specs.Laid.{laidOf, laidStyles, laidRegions, laidCues, laidCue, rowsAfter, total, alone, whole, single}
 use Rattle.promised.specs.declared.Answer.{Answer}
-use Rattle.promised.specs.Promise.{LongEnough, AllZero, treeTables, zeros, Promise, tables}
+use Rattle.promised.specs.Promise.{AllZero, treeTables, zeros, Promise}
 use Rattle.promised.specs.Promise as promise
 use Rattle.promised.proofs.Numbers.{Numbered, whole-numbers, single-numbers}
 use Rattle.promised.proofs.Trees.{nodes-same}
 use Rattle.promised.proofs.Promises.{RestLong, RestZero, RestLaid, rest-of, all-zero, refusal, laid-of, nodesLeft, nodes-left}
 use Rattle.promised.proofs.Promises.{promise-short, promise-away, promise-none, promise-track}
 use Rattle.reader.specs.declared.text.Wanted.{Wanted}
-use Rattle.reader.specs.Steps.{meantBy, rest, cueRest, Tells, Prepared, Ready, CueReady, Laid, Outcome, Tree, Asks, CueAsks, Post, CuePost, AsksTree, Kept, TreePost}
-use Rattle.reader.proofs.Parting.{nodes-part, given-few, given-fits, given-short, given-part}
+use Rattle.reader.specs.Steps.{meantBy, rest, cueRest, Tells, Prepared, Laid, Asks, CueAsks, Post, CuePost, AsksTree, TreePost}
+use Rattle.reader.proofs.Parting.{nodes-part, given-fits, given-short, given-part}
 
 -- ---- the tables of a track beside any strings
 

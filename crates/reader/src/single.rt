@@ -1,11 +1,9 @@
 // A single cue.
 ghost use mathlib.Core.Path.{_≡_};
 ghost use mathlib.Core.Option.{none};
-ghost use Prim.Native.Nat.{_≤_};
-ghost use lib.ListN.{length};
 ghost use Rattle.meaning.specs.Kinds.{withPlaces};
 ghost use Rattle.meaning.specs.Meaning.{timing, cueIn};
-ghost use Rattle.styling.specs.Posts.{HasRows, OfRows};
+ghost use Rattle.styling.specs.Posts.{OfRows};
 ghost use Rattle.reader.specs.Steps.{cueRest, CueAsks, CuePost, ElementAsks, ElementPost, timedCue, AloneAsks, Alone};
 use content::Collecting;
 use cues::Interval;

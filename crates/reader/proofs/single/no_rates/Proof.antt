@@ -1,11 +1,9 @@
+-- `no_rates` meets its contract. Assumes nothing.
 use mathlib.Core.Path.{refl}
 use lib.Ieee.{ofInt, ofBits}
 use Rattle.reader.proofs.single.no_rates.Statement.{statement}
 use Rattle.reader.proofs.single.no_rates.Tie as tie
-use Rattle.reader.proofs.single.no_rates.Reads as reads
-use Rattle.reader.proofs.single.no_rates.Lts as lts
 
--- src/single.rt:23:1
 returns : tie.Need-returns
 unfolding ofInt ofBits
 returns c = refl

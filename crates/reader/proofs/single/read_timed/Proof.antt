@@ -1,115 +1,120 @@
+-- `read_timed` meets its contract: its content, and then its row and the head. Assumes nothing.
 use mathlib.Core.List.{[]}
 use native.Mathlib.Omega.{arith}
+use borrow.Author.Needs.{needs}
 use Rattle.inline.specs.Wraps.{three}
 use Rattle.reader.proofs.Elements.{elem-room, elem-owned, elem-rows}
 use Rattle.reader.proofs.Alone.{content-asks, content-no, alone-asks, alone-laid}
-use borrow.Author.Needs.{needs}
 use Rattle.reader.proofs.single.read_timed.Statement.{statement}
 use Rattle.reader.proofs.single.read_timed.Tie as tie
-use Rattle.reader.proofs.single.read_timed.Reads as reads
-use Rattle.reader.proofs.single.read_timed.Lts as lts
-use Rattle.content.proofs.collect_segments_timed.Reads as collect-segments-timed-reads
-use Rattle.reader.proofs.single.no_rates.Reads as no-rates-reads
-use Rattle.reader.proofs.single.put_alone.Reads as put-alone-reads
-use Rattle.styling.proofs.resolve_ws.Reads as resolve-ws-reads
-use Rattle.xml.proofs.element_at.Reads as element-at-reads
 
--- src/single.rt:108:9
 element-at-requires : tie.Need-element-at-requires
 element-at-requires c κs = elem-room (c .before .before .before .before .before .before .before .before .pre .element)
 
--- src/single.rt:109:9
 resolve-ws-requires : tie.Need-resolve-ws-requires
-resolve-ws-requires c κs = elem-rows (c .before .before .before .before .before .before .before .before .before .pre .element) (c .element-at .ensures)
+resolve-ws-requires c κs =
+    let c9 = c .before .before .before .before .before .before .before .before .before in
+    elem-rows (c9 .pre .element) (c .element-at .ensures)
 
--- src/single.rt:118:9
 add-collect-segments-timed : tie.Need-add-collect-segments-timed
-add-collect-segments-timed c = record { fits = omega (arith, elem-room (c .before .before .before .before .before .before .before .before .before .before .before .before .before .before .pre .element)) }
+add-collect-segments-timed c =
+    let c13 = c .before .before .before .before .before .before .before .before .before .before .before .before .before in
+    let c14 = c13 .before in
+    record { fits = omega (arith, elem-room (c14 .pre .element)) }
 
--- src/single.rt:121:9
 no-rates-requires : tie.Need-no-rates-requires
 no-rates-requires c κs = search needs
 
--- src/single.rt:110:11
 collect-segments-timed-requires : tie.Need-collect-segments-timed-requires
-collect-segments-timed-requires c κs = content-asks _ _ _ _ _ _ _ (c .before .before .before .before .before .before .before .before .before .before .before .before .before .before .before .pre .ready) (c .before .before .before .before .before .before .before .before .before .before .before .before .before .before .before .pre .element) (c .before .before .before .before .before .before .element-at .ensures)
+collect-segments-timed-requires c κs =
+    let c6 = c .before .before .before .before .before .before in
+    let c15 = c6 .before .before .before .before .before .before .before .before .before in
+    content-asks _ _ _ _ _ _ _ (c15 .pre .ready) (c15 .pre .element) (c6 .element-at .ensures)
 
--- src/single.rt:125:29
 enum-known-r : tie.Need-enum-known-r
 enum-known-r c = search needs
 
--- src/single.rt:126:24
 enum-known-run : tie.Need-enum-known-run
 enum-known-run c = search needs
 
--- src/single.rt:127:13
 put-alone-requires : tie.Need-put-alone-requires
 put-alone-requires c κs =
-    let x = c .before .before .before .before .before .before .before .before .before .before .before .before .before .before .before .before .before .before .before .before .before .before .before .before .before .before .before .before .before .pre .element in
-    let row = c .before .before .before .before .before .before .before .before .before .before .before .before .before .before .before .before .before .before .before .before .element-at .ensures in
-    alone-asks _ _ _ _ _ _ _ (c .before .before .before .before .before .before .before .before .before .before .before .before .before .before .before .before .before .before .before .before .before .before .before .before .before .before .before .before .before .pre .ready) x row (c .before .before .before .before .before .before .before .before .before .before .before .before .before .before .no-rates .result) (c .before .before .before .before .before .before .before .before .before .before .before .before .before .before .before .before .before .before .before .resolve-ws .result) (c .before .before .before .before .before .before .before .before .before .before .before .before .before .before .no-rates .ensures)
-    (c .before .before .before .before .before .before .before .before .before .before .before .before .before .before .before .before .before .before .before .resolve-ws .ensures (x .attrs) (elem-owned x row)) _ _ _ (rw (c .before .before .before .before .run .given .1) at (c .before .before .before .before .before .before .before .before .before .before .before .before .before .collect-segments-timed .ensures))
+    let c4 = c .before .before .before .before in
+    let c13 = c4 .before .before .before .before .before .before .before .before .before in
+    let c14 = c13 .before in
+    let c19 = c14 .before .before .before .before .before in
+    let c20 = c19 .before in
+    let c29 = c20 .before .before .before .before .before .before .before .before .before in
+    let x = c29 .pre .element in
+    let row = c20 .element-at .ensures in
+    let mode = c19 .resolve-ws .ensures (x .attrs) (elem-owned x row) in
+    let content = rw (c4 .run .given .1) at (c13 .collect-segments-timed .ensures) in
+    alone-asks _ _ _ _ _ _ _ (c29 .pre .ready) x row (c14 .no-rates .result) (c19 .resolve-ws .result) (c14 .no-rates .ensures)
+    mode _ _ _ content
 
--- src/single.rt:86:1
 same-length : tie.Need-same-length
 same-length c = search needs
 
--- src/single.rt:86:1
 same-length-2 : tie.Need-same-length-2
 same-length-2 c = search needs
 
--- src/single.rt:86:1
 same-length-3 : tie.Need-same-length-3
 same-length-3 c = search needs
 
--- src/single.rt:86:1
 same-length-4 : tie.Need-same-length-4
 same-length-4 c = search needs
 
--- src/single.rt:86:1
 returns : tie.Need-returns
 returns c =
+    let c10 = c .before .before .before .before .before .before .before .before .before .before in
+    let c11 = c10 .before in
+    let c16 = c11 .before .before .before .before .before in
+    let c17 = c16 .before in
+    let c26 = c17 .before .before .before .before .before .before .before .before .before in
     λ x.
-    let row = c .before .before .before .before .before .before .before .before .before .before .before .before .before .before .before .before .before .element-at .ensures in
-    content-no _ _ _ _ _ _ _ (c .before .before .before .before .before .before .before .before .before .before .before .before .before .before .before .before .before .before .before .before .before .before .before .before .before .before .pre .ready) x row (c .before .before .before .before .before .before .before .before .before .before .before .no-rates .result) (c .before .before .before .before .before .before .before .before .before .before .before .before .before .before .before .before .resolve-ws .result) (c .before .before .before .before .before .before .before .before .before .before .before .no-rates .ensures)
-    (c .before .before .before .before .before .before .before .before .before .before .before .before .before .before .before .before .resolve-ws .ensures (x .attrs) (elem-owned x row)) (three [] [] []) [] _ (rw (c .before .r .given .1) at (c .before .before .before .before .before .before .before .before .before .before .collect-segments-timed .ensures)) (c .before .before .before .before .before .before .before .before .before .before .before .before .before .before .before .before .before .before .before .before .before .before .before .before .before .before .args .when)
+    let row = c17 .element-at .ensures in
+    let mode = c16 .resolve-ws .ensures (x .attrs) (elem-owned x row) in
+    let content = rw (c .before .r .given .1) at (c10 .collect-segments-timed .ensures) in
+    content-no _ _ _ _ _ _ _ (c26 .pre .ready) x row (c11 .no-rates .result) (c16 .resolve-ws .result) (c11 .no-rates .ensures)
+    mode (three [] [] []) [] _ content (c26 .args .when)
 
--- src/single.rt:86:1
 same-length-5 : tie.Need-same-length-5
 same-length-5 c = search needs
 
--- src/single.rt:86:1
 same-length-6 : tie.Need-same-length-6
 same-length-6 c = search needs
 
--- src/single.rt:86:1
 same-length-7 : tie.Need-same-length-7
 same-length-7 c = search needs
 
--- src/single.rt:86:1
 same-length-8 : tie.Need-same-length-8
 same-length-8 c = search needs
 
--- src/single.rt:86:1
 same-length-9 : tie.Need-same-length-9
 same-length-9 c = search needs
 
--- src/single.rt:86:1
 same-length-10 : tie.Need-same-length-10
 same-length-10 c = search needs
 
--- src/single.rt:86:1
 same-length-11 : tie.Need-same-length-11
 same-length-11 c = search needs
 
--- src/single.rt:86:1
 returns-2 : tie.Need-returns-2
 returns-2 c =
+    let c5 = c .before .before .before .before .before in
+    let c10 = c5 .before .before .before .before .before in
+    let c19 = c10 .before .before .before .before .before .before .before .before .before in
+    let c20 = c19 .before in
+    let c25 = c20 .before .before .before .before .before in
+    let c26 = c25 .before in
+    let c35 = c26 .before .before .before .before .before .before .before .before .before in
     λ x.
-    let row = c .before .before .before .before .before .before .before .before .before .before .before .before .before .before .before .before .before .before .before .before .before .before .before .before .before .before .element-at .ensures in
-    alone-laid _ _ _ _ _ _ _ (c .before .before .before .before .before .before .before .before .before .before .before .before .before .before .before .before .before .before .before .before .before .before .before .before .before .before .before .before .before .before .before .before .before .before .before .pre .ready) x row (c .before .before .before .before .before .before .before .before .before .before .before .before .before .before .before .before .before .before .before .before .no-rates .result) (c .before .before .before .before .before .before .before .before .before .before .before .before .before .before .before .before .before .before .before .before .before .before .before .before .before .resolve-ws .result) (c .before .before .before .before .before .before .before .before .before .before .before .before .before .before .before .before .before .before .before .before .no-rates .ensures)
-    (c .before .before .before .before .before .before .before .before .before .before .before .before .before .before .before .before .before .before .before .before .before .before .before .before .before .resolve-ws .ensures (x .attrs) (elem-owned x row)) _ _ _ (rw (c .before .before .before .before .before .before .before .before .before .before .run .given .1) at (c .before .before .before .before .before .before .before .before .before .before .before .before .before .before .before .before .before .before .before .collect-segments-timed .ensures)) (c .before .before .before .before .before .before .before .before .before .before .before .before .before .before .before .before .before .before .before .before .before .before .before .before .before .before .before .before .before .before .before .before .before .before .before .args .when) _ _ _
-    (c .before .before .before .before .before .put-alone .ensures (x .attrs) (elem-owned x row))
+    let row = c26 .element-at .ensures in
+    let mode = c25 .resolve-ws .ensures (x .attrs) (elem-owned x row) in
+    let content = rw (c10 .run .given .1) at (c19 .collect-segments-timed .ensures) in
+    alone-laid _ _ _ _ _ _ _ (c35 .pre .ready) x row (c20 .no-rates .result) (c25 .resolve-ws .result) (c20 .no-rates .ensures)
+    mode _ _ _ content (c35 .args .when) _ _ _
+    (c5 .put-alone .ensures (x .attrs) (elem-owned x row))
 
 pub read-timed-spec : {M : Type 1} → statement M
 read-timed-spec =
