@@ -2,23 +2,32 @@
 -- Assumes nothing.
 --     answered         where there is no number there is a track, and what is asked of it is resolved
 --     determined       number, place, count, style and name; the ids but for their order; after a refusal every cell
+--     own-number       a region's own values are refused with 14 or 15 alone, and nothing else of what is asked is refused
+--     determined-value, determined-region, determined-cue     `determined` of each query, without a premise on numbers
 use Prim.Native.Nat.{ℕ, _<_}
 use mathlib.Core.Path.{_≡_, refl, sym, ap, _∙_}
 use mathlib.Core.Bool.{true, false}
-use mathlib.Core.Logic.{_↔_}
+use mathlib.Core.Logic.{_↔_, _⊎_, inl, inr}
 use mathlib.Core.List.{List, []}
 use mathlib.Core.Option.{Option, none, some}
 use native.Mathlib.Omega.{arith}
-use lib.ListN.{length}
+use lib.ListN.{length, take}
 use lib.Dec.{leb}
+use Rattle.scan.specs.Bytes.{runLength}
 use Rattle.unicode.proofs.Utf8Laws.{by-test}
-use Rattle.track.specs.Track.{Bytes, Look, Track}
+use Rattle.colors.specs.declared.read.Color.{Color}
+use Rattle.colors.specs.Colors.{colorIn}
+use Rattle.decimals.specs.declared.read.Decimal.{Decimal}
+use Rattle.decimals.specs.Decimal.{decimalOf}
+use Rattle.track.specs.Track.{Bytes, Look, Extra, Style, Region, Cue, Track}
 use Rattle.track.specs.Tables.{Tables}
 use Rattle.track.specs.Meaning.{isUtf8, trackIn}
 use Rattle.track.specs.Check.{isFull}
+use Rattle.records.specs.Find.{findRegion}
 use Rattle.styles.specs.Reaches.{_∈_, Exactly}
 use Rattle.styles.specs.Resolve.{Resolution}
-use Rattle.styles.specs.Own.{Read, is, refused}
+use Rattle.styles.specs.Own.{Read, is, refused, next, valueOf, colorRead, colorOf, sizeRead, sizeByte, sizeIn, ownValues}
+use Rattle.styles.specs.Queries.{regionFound, regionStyle, regionOptional, cueFound, effectiveStyle, nth}
 use Rattle.styles.specs.Ids.{idsIn}
 use Rattle.queries.specs.declared.query.Resolved.{Resolved}
 use Rattle.queries.specs.Promise.{
@@ -28,10 +37,16 @@ use Rattle.queries.specs.Promise.{
   nameIn,
   styleIn,
   Asked,
+  askedValue,
+  askedRegion,
+  askedCue,
   lastNumber,
   trackNumber,
   numberFor,
   Queried,
+  ReferencedStyle,
+  RegionStyle,
+  EffectiveStyle,
 }
 
 no-number : {A : Type 0} {n : ℕ} → 0 < n → n ≡ 0 → A
@@ -118,3 +133,72 @@ determined text T lent ask reached name numbered a b l m p q =
       as-long = p .as-long ∙ sym (q .as-long);
       cleared = λ z. p .cleared z ∙ sym (q .cleared (rw same at z));
     }
+
+-- ---- the three queries
+abbrev OwnNumber : {A : Type 0} → Read A → Type 0
+OwnNumber (is x) = Unit {0}
+OwnNumber (refused n) = (n ≡ 14) ⊎ (n ≡ 15)
+
+next-number : {A B : Type 0} (r : Read A) (f : A → Read B) → OwnNumber r → ((x : A) → OwnNumber (f x)) → OwnNumber (next r f)
+next-number (is x) f h k = k x
+next-number (refused n) f h k = h
+
+color-number : (c : Color) → OwnNumber (colorRead c)
+color-number (Color.Is c) = tt
+color-number Color.Nothing = tt
+color-number Color.Cut = inr refl
+
+colors-number : (v : Option Bytes) → OwnNumber (colorOf v)
+colors-number none = tt
+colors-number (some v) = color-number (colorIn v)
+
+size-number : (d : Decimal) → OwnNumber (sizeRead d)
+size-number (Decimal.Is d) = tt
+size-number Decimal.Nothing = tt
+size-number Decimal.Beyond = inl refl
+
+sizes-number : (v : Option Bytes) → OwnNumber (sizeIn v)
+sizes-number none = tt
+sizes-number (some v) = size-number (decimalOf (take (runLength sizeByte v) v) 6 10)
+
+pub own-number : (e : List (Extra Bytes)) → OwnNumber (ownValues e)
+unfolding ownValues
+own-number e =
+    next-number (colorOf (valueOf "tts:color" e)) _ (colors-number (valueOf "tts:color" e)) λ color.
+    next-number (colorOf (valueOf "tts:backgroundColor" e)) _ (colors-number (valueOf "tts:backgroundColor" e)) λ back.
+    next-number (sizeIn (valueOf "tts:fontSize" e)) _ (sizes-number (valueOf "tts:fontSize" e)) λ size.
+    tt
+
+region-number : (styles : List (Style Bytes)) (g : Option (Region Bytes)) → OwnNumber (regionFound styles g)
+region-number styles none = tt
+region-number styles (some g) = next-number (ownValues (g .extras)) _ (own-number (g .extras)) λ own. tt
+
+its-region-number : (k : Track Bytes) (id : Option Bytes) → OwnNumber (regionOptional k id)
+unfolding regionStyle
+its-region-number k none = tt
+its-region-number k (some id) = region-number (k .styles) (findRegion id (k .regions))
+
+cue-number : (k : Track Bytes) (c : Option (Cue Bytes)) → OwnNumber (cueFound k c)
+cue-number k none = tt
+cue-number k (some c) = next-number (regionOptional k (c .region)) _ (its-region-number k (c .region)) λ r. tt
+
+numbered-as : (ask : Asked) → ((k : Track Bytes) → OwnNumber (ask k)) → Numbered ask
+numbered-as ask h k n e = some-number (rw e at (h k))
+  where
+    some-number : {n : ℕ} → (n ≡ 14) ⊎ (n ≡ 15) → 0 < n
+    some-number (inl e) = omega arith
+    some-number (inr e) = omega arith
+
+module _ (T : Tables) (lent : List ℕ) (a b : Resolved) (l m : List ℕ) where
+  pub determined-value : (value : Bytes) → ReferencedStyle value T lent a l → ReferencedStyle value T lent b m → Agree value T a b l m
+  determined-value value p q =
+      determined value T lent (askedValue value) _ _ (numbered-as (askedValue value) λ k. tt) a b l m (p .queried) (q .queried)
+
+  pub determined-region : (id : Bytes) → RegionStyle id T lent a l → RegionStyle id T lent b m → Agree id T a b l m
+  unfolding regionStyle
+  determined-region id p q =
+      determined id T lent (askedRegion id) _ _ (numbered-as (askedRegion id) λ k. region-number (k .styles) (findRegion id (k .regions))) a b l m p q
+
+  pub determined-cue : (i : ℕ) → EffectiveStyle T i lent a l → EffectiveStyle T i lent b m → Agree [] T a b l m
+  unfolding effectiveStyle
+  determined-cue i p q = determined [] T lent (askedCue i) _ _ (numbered-as (askedCue i) λ k. cue-number k (nth (k .cues) i)) a b l m p q
