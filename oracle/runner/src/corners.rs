@@ -185,6 +185,8 @@ const TIMES: &[&str] = &[
     "<tt><body><p begin='5s' end='1s'/><p begin='5s' dur='-2s'/></body></tt>",
     "<tt><body timeContainer='seq'><p begin='5s' end='1s'/><p/></body></tt>",
     "<tt><body timeContainer='seq'><div><p dur='1s'/><p dur='2s'/></div><p/></body></tt>",
+    "<tt><body timeContainer='seq'><div><p dur='3s'/><p dur='2s'/></div><p/></body></tt>",
+    "<tt><body timeContainer='seq'><x><p dur='3s'/></x><x><p dur='-9s'/></x><p/></body></tt>",
     "<tt><body timeContainer='seq'><div dur='9s'><p dur='1s'/></div><p/></body></tt>",
     "<tt><body timeContainer='seq'><div dur='-9s'><p dur='1s'/></div><p/><x/><p/></body></tt>",
     "<tt><body timeContainer='seq'><x><p dur='1s'/><p dur='2s'/></x><p/></body></tt>",
