@@ -46,10 +46,10 @@ fn compare(run: &mut Run) {
             side.both(run, format!("<p>{text}").as_bytes());
             side.both(run, format!("<tt>{more}").as_bytes());
         }
+        side.random(run);
         for family in FAMILIES {
             side.family(run, family);
         }
-        side.random(run);
         side.told();
     });
 }
