@@ -1,4 +1,5 @@
 -- What the readers of nodes answer is what the nodes mean. Assumes nothing.
+--     bind-is, bind-no, no-size, row-end          steps of an answer; siblings without rows; the row after a node
 --     given-came                                  a node that gives segments, or number 13
 --     text-came, break-came, unknown-came         by kinds of nodes
 --     span-refused, span-inside, span-came        a span, as far as it is read
@@ -86,7 +87,7 @@ parts-of hi p m l c g limit o =
     let h : hi ≤ a .mid = omega (arith, o .0) in
     record { mid = b .mid; low = omega arith; content = in-lower (spans c) hi (a .mid) (b .mid) h (b .first); rest = b .rest }
 
-no-size : (f : Forest) → size f ≡ 0 → f ≡ placed.nil
+pub no-size : (f : Forest) → size f ≡ 0 → f ≡ placed.nil
 unfolding size
 no-size placed.nil e = refl
 no-size (placed.text p m f) e = absurd (omega arith)
@@ -153,10 +154,10 @@ module _ {A : Type 0} (q : Refusal) where
 
 -- ---- steps of an answer
 
-bind-is : {A B : Type 0} {m : Answer A} {a : A} (go : A → Answer B) → m ≡ is a → (m >>= go) ≡ go a
+pub bind-is : {A B : Type 0} {m : Answer A} {a : A} (go : A → Answer B) → m ≡ is a → (m >>= go) ≡ go a
 bind-is go e = ap (λ v. v >>= go) e
 
-bind-no : {A B : Type 0} {m : Answer A} {i p : ℕ} (go : A → Answer B) → m ≡ refused i p → (m >>= go) ≡ refused i p
+pub bind-no : {A B : Type 0} {m : Answer A} {i p : ℕ} (go : A → Answer B) → m ≡ refused i p → (m >>= go) ≡ refused i p
 bind-no go e = ap (λ v. v >>= go) e
 
 counted-is : (place made : ℕ) (x : Segments Placed) → made + segmentRows x ≤ 16384 → counted place made x ≡ is x
@@ -561,7 +562,7 @@ module _ {w : Frame} {t u z : List ℕ} {k end first n : ℕ} {boundary : Bool} 
   pub node-row : HasRow t z k
   node-row = has-row (siblings-of (x .holds)) (omega (arith, x .rows))
 
-row-end : (t u z : List ℕ) (k own end : ℕ) (f : Forest) → Holds t u z k own f → k + size f ≡ end → k < end
+pub row-end : (t u z : List ℕ) (k own end : ℕ) (f : Forest) → Holds t u z k own f → k + size f ≡ end → k < end
     → (k < getD t (k * 6 + 1) 0) × (getD t (k * 6 + 1) 0 ≤ end)
 unfolding size
 row-end t u z k own end placed.nil h e j = absurd (omega arith)

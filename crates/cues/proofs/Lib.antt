@@ -1,2 +1,5 @@
 -- What the proofs of several functions use.
 pub mod Paragraphs
+pub mod Lined
+pub mod Cued
+pub mod Walking

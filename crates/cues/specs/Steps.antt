@@ -1,15 +1,17 @@
 -- What the readers of cues ask and ensure. This file need not be believed: `parse` promises what is left in the end.
-use Prim.Native.Nat.{ℕ, _+_, _-_, _*_, _≤_, _<_}
+use Prim.Native.Nat.{ℕ, _+_, _-_, _*_, _≤_, _<_, _^_}
 use mathlib.Core.Path.{_≡_}
 use mathlib.Core.Bool.{Bool, false, cond, _&&_}
-use mathlib.Core.List.{List, [], _++_}
+use mathlib.Core.List.{List, [], _∷_, _++_}
 use mathlib.Core.Option.{Option, none, some}
 use lib.IntN.{ℤ, pos}
 use lib.Ieee.{Float}
 use lib.ListN.{length, replicate}
+use lib.Seq.{sets}
 use Rattle.scan.specs.Part.{stringAt}
 use Rattle.times.specs.declared.offset.TimingCtx.{TimingCtx}
 use Rattle.track.specs.declared.strings.Span.{Span}
+use Rattle.track.specs.declared.values.Cue as declared
 use Rattle.tree.specs.Trees.{Forest, size, attrsOf, spans, InOrder}
 use Rattle.tree.specs.Trees as placed
 use Rattle.track.specs.Track.{Wrapper, Segments, Cue, noSegments, segmentRows, isBareFont}
@@ -19,27 +21,29 @@ use Rattle.track.specs.Layout.{preorder, isSome, spanOr, PlacedCue, filled, fil
 use Rattle.track.specs.Layout as placing
 use Rattle.records.specs.declared.cells.Added.{Added}
 use Rattle.records.specs.Siblings.{Three, Stands, cellsOf, timesOf, floatsOf, later}
+use Rattle.xml.specs.declared.find.Element.{Element}
 use Rattle.xml.specs.Find.{Holds}
 use Rattle.xml.specs.Reading.{Placed, lay}
 use Rattle.meaning.specs.Answers.{Answer, is, _>>=_}
 use Rattle.meaning.specs.Words.{ascii}
 use Rattle.meaning.specs.Nodes.{Attr, Nodes, firstElement, valued}
 use Rattle.meaning.specs.Kinds.{withPlaces, attrsIn, nodesIn}
-use Rattle.meaning.specs.Space.{spaceOf}
+use Rattle.meaning.specs.Space.{spaceOf, isPreserve}
 use Rattle.meaning.specs.Tracks.{optionBy}
 use Rattle.meaning.specs.Timing.{timeOf, sum, orZero, endOf, lastingTo, isSeq}
-use Rattle.meaning.specs.Styling.{wrappersOf}
-use Rattle.meaning.specs.Inline.{paragraphOf, counted}
-use Rattle.meaning.specs.Cues.{a-div, a-p, unknown, madeIn, timedOf, pOf, divOf, cuesIn}
+use Rattle.meaning.specs.Styling.{wrappersOf, inlineExtras}
+use Rattle.meaning.specs.Inline.{contentOf, paragraphOf, counted}
+use Rattle.meaning.specs.Cues.{a-div, a-p, unknown, madeIn, timedOf, styled, pOf, divOf, cuesIn}
 use Rattle.meaning.specs.Cues as meaning
 use Rattle.meaning.specs.Meaning.{bodyOf}
 use Rattle.laid.specs.Laid.{laidCues, cueExtras, cueTexts}
 use Rattle.styling.specs.declared.space.WsMode.{WsMode}
-use Rattle.styling.specs.Posts.{given, turned, spaceIn}
+use Rattle.styling.specs.Posts.{HasRows, OfRows, given, turned, spaceIn}
+use Rattle.extras.specs.Kept.{placedCells, rowsFrom}
 use Rattle.extras.specs.Counts.{attrsNamed}
-use Rattle.inline.specs.Stood.{spanIn, spansIn, textsIn, InTurn}
+use Rattle.inline.specs.Stood.{spanIn, spansIn, textsIn, InTurn, Laid}
 use Rattle.inline.specs.Wraps.{three}
-use Rattle.content.specs.Steps.{Roomy}
+use Rattle.content.specs.Steps.{Roomy, Frame, Content, AsksContent}
 use Rattle.cues.specs.declared.lines.Line.{Line}
 use Rattle.cues.specs.declared.lines.Lining.{Lining}
 use Rattle.cues.specs.declared.paragraph.Styled.{Styled}
@@ -224,6 +228,88 @@ pub record Lined (b : Base) (hi : ℕ) (l : List (Cue Placed)) (line : Line) (T 
   pub order : InTurn 0 (cueTexts l) hi
   pub room : hi ≤ b .lengths .texts
 
+-- ---- a p, whose element e is in row k
+
+-- the segments that its content and its attributes give, where `made` rows stand before and it begins at `start`
+abbrev pub segmentsOfP : TimingCtx → WsMode → (place made : ℕ) → (start : ℤ) → List (Attr Placed) → Nodes Placed → Answer (Segments Placed)
+segmentsOfP ctx ws place made start l c = contentOf withPlaces ctx start (spaceIn ws) made c >>= styled withPlaces ctx place made l
+
+-- its content can be read, into the rows from `first` on
+pub record AsksSegments (t u z : List ℕ) (k : ℕ) (e : Element) (first : ℕ) (s : Three) (y : List ℕ) : Type 0 where
+  pub row : k * 6 + 6 ≤ length t
+  pub attrs : HasRows u z (e .first) (e .many)
+  pub content : AsksContent t u z (k + 1) (e .end) first s y
+
+-- m is what its segments are
+module _ (w : Frame) (first : ℕ) (s : Three) (y : List ℕ) (m : Answer (Segments Placed)) where
+  -- they stand up to row n, their texts up to hi; its content alone stood up to row `end`
+  pub record Segmented (n : ℕ) : Type 0 where
+    pub few : n ≤ 16384
+    pub segments : Segments Placed
+    pub means : m ≡ is segments
+    pub end : ℕ
+    pub after : first ≤ end
+    pub most : end ≤ 16384
+    pub rows : Stands (w .pre) (onward end n (later (end - first) (w .rest))) first n (spansIn segments) s
+    pub hi : ℕ
+    pub below : hi ≤ w .limit
+    pub texts : Laid segments [] (w .base) y (w .lo) hi
+
+  abbrev pub SegmentsOutcome : Styled → Type 0
+  SegmentsOutcome (Styled.Is n) = Segmented n
+  SegmentsOutcome (Styled.Refused q) = m ≡ turned q
+
+abbrev pub SegmentsPost : (t u z : List ℕ) (k : ℕ) (e : Element) (start : ℤ) → TimingCtx → WsMode → (first : ℕ) (s : Three) (y : List ℕ) (s′ : Three)
+    (y′ : List ℕ) → Styled → Type 0
+SegmentsPost t u z k e start ctx ws first s y s′ y′ r =
+    (w : Frame) (x : Content w t u z (k + 1) (e .end) first s y)
+    → OfRows u z (e .first) (e .many) (λ l. SegmentsOutcome w first s′ y′ (segmentsOfP ctx ws (e .place) first start l (nodesIn z (x .forest))) r)
+
+-- the row of its cue, whose segments stand up to row `rows`
+abbrev pub cueRow : Interval → WsMode → Line → (rows : ℕ) → List (Attr Placed) → declared.Cue
+cueRow when ws line rows l = record {
+  start = when .start;
+  end = when .end;
+  «has_style» = isSome (valued withPlaces (ascii "style") l);
+  style = spanOr (optionBy spanIn (valued withPlaces (ascii "style") l));
+  «has_region» = isSome (valued withPlaces (ascii "region") l);
+  region = spanOr (optionBy spanIn (valued withPlaces (ascii "region") l));
+  preserve = isPreserve (spaceIn ws);
+  segments = record { first = line .rows; count = rows - line .rows };
+  extras = rowsFrom (line .extras) (length (inlineExtras withPlaces l));
+}
+
+-- there is room for it and for its extras
+pub record AsksCue (u z : List ℕ) (e : Element) (line : Line) (rows : ℕ) (cues : List ℕ) (times : List ℤ) (extras : List ℕ) : Type 0 where
+  pub attrs : HasRows u z (e .first) (e .many)
+  pub small : length z < 2 ^ 32
+  pub after : line .rows ≤ rows
+  pub few : rows ≤ 16384
+  pub kept : line .extras + e .many ≤ 8192
+  pub in-cues : 22528 ≤ length cues
+  pub in-times : 4096 ≤ length times
+  pub in-extras : 24576 ≤ length extras
+
+-- the tables of cues, times and extras, with its cue and its extras; or there are 2,048 cues already
+module _ (e : Element) (when : Interval) (ws : WsMode) (line : Line) (rows : ℕ) (c c′ : List ℕ) (m m′ : List ℤ) (x x′ : List ℕ)
+    (l : List (Attr Placed)) where
+  pub record CueAdded (r : Line) : Type 0 where
+    pub few : line .cues < 2048
+    pub kept : length (inlineExtras withPlaces l) ≤ e .many
+    pub is : r ≡ record {
+      cues = line .cues + 1;
+      rows = rows;
+      extras = line .extras + length (inlineExtras withPlaces l);
+      end = when .end;
+    }
+    pub in-cues : c′ ≡ sets c (line .cues * 11) (cueCells (cueRow when ws line rows l))
+    pub in-times : m′ ≡ sets m (line .cues * 2) (when .start ∷ when .end ∷ [])
+    pub in-extras : x′ ≡ sets x (line .extras * 3) (placedCells (inlineExtras withPlaces l))
+
+  abbrev pub CueOutcome : Lining → Type 0
+  CueOutcome (Lining.Is r) = CueAdded r
+  CueOutcome (Lining.Refused q) = (2048 ≤ line .cues) × (q ≡ record { number = 13; place = e .place })
+
 -- ---- timed elements
 
 -- The element in row k with all that stands in it, after the cues `earlier`. Its strings end at `limit` or before.
@@ -286,7 +372,7 @@ ChildPost m t u z k line T T′ r =
     (b : Base) (limit : ℕ) (x : Child b limit t u z k line T)
     → Outcome b limit line (length (x .attrs) + length (attrsOf (x .content))) T′
     (m (x .earlier) (x .place) (record { place = x .place + 1; bytes = stringAt z (x .place + 1) (x .len) }) (attrsIn z (x .attrs))
-        (nodesIn z (x .content))) r
+    (nodesIn z (x .content))) r
 
 abbrev pub ParagraphPost : (t u z : List ℕ) (k : ℕ) (reference : ℤ) → TimingCtx → WsMode → (line : Line) (T T′ : CueTables) → Lining → Type 0
 ParagraphPost t u z k reference ctx ws line T T′ r =

@@ -41,7 +41,12 @@ pub fn collect_body(
     };
     match xml::find_element(nodes, strings, from, end, b"body") {
         Found::Nothing => Lining::Is(line),
-        Found::Row(k) => match crate::sums::begin_of(attrs, strings, xml::element_at(nodes, k), ctx) {
+        Found::Row(k) => match crate::sums::begin_of(
+            attrs,
+            strings,
+            xml::element_at(nodes, k),
+            ctx,
+        ) {
             Moment::Refused(r) => Lining::Refused(r),
             Moment::Is(begin) => crate::collect::collect_container(
                 nodes,

@@ -134,25 +134,25 @@ fn collect_div(
     match crate::sums::start_of(attrs, strings, e, ctx, reference) {
         Moment::Refused(r) => Lining::Refused(r),
         Moment::Is(start) => match collect_container(
-                nodes,
-                attrs,
-                strings,
-                cues,
-                times,
-                segments,
-                reveal,
-                sizes,
-                extras,
-                texts,
-                k,
-                start,
-                ctx,
-                ws,
-                line,
-            ) {
-                Lining::Refused(r) => Lining::Refused(r),
-                Lining::Is(inner) => close_div(attrs, strings, e, ctx, start, inner),
-            },
+            nodes,
+            attrs,
+            strings,
+            cues,
+            times,
+            segments,
+            reveal,
+            sizes,
+            extras,
+            texts,
+            k,
+            start,
+            ctx,
+            ws,
+            line,
+        ) {
+            Lining::Refused(r) => Lining::Refused(r),
+            Lining::Is(inner) => close_div(attrs, strings, e, ctx, start, inner),
+        },
     }
 }
 
@@ -277,36 +277,39 @@ pub fn collect_cues(
     let mut reference = begin;
     let mut k = from;
     while k < end {
-        if nodes[k * 6] == ELEMENT {
-            match collect_element(
-                nodes,
-                attrs,
-                strings,
-                cues,
-                times,
-                segments,
-                reveal,
-                sizes,
-                extras,
-                texts,
-                k,
-                seq,
-                reference,
-                ctx,
-                ws,
-                s,
-            ) {
-                Lining::Refused(r) => {
-                    return Lining::Refused(r);
-                }
-                Lining::Is(t) => {
-                    reference = following(seq, begin, t.end);
-                    latest = later(latest, t.end);
-                    s = t;
-                }
+        let next = scan::get(nodes, k * 6 + 1);
+        if nodes[k * 6] != ELEMENT {
+            k = next;
+            continue;
+        }
+        match collect_element(
+            nodes,
+            attrs,
+            strings,
+            cues,
+            times,
+            segments,
+            reveal,
+            sizes,
+            extras,
+            texts,
+            k,
+            seq,
+            reference,
+            ctx,
+            ws,
+            s,
+        ) {
+            Lining::Refused(r) => {
+                return Lining::Refused(r);
+            }
+            Lining::Is(t) => {
+                reference = following(seq, begin, t.end);
+                latest = later(latest, t.end);
+                s = t;
             }
         }
-        k = scan::get(nodes, k * 6 + 1);
+        k = next;
     }
     Lining::Is(Line {
         cues: s.cues,

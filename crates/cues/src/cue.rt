@@ -1,6 +1,7 @@
 // A p as a cue.
-ghost use mathlib.Core.Path.{_≡_};
-ghost use Rattle.cues.specs.Steps.{seven, AsksChild, ParagraphPost};
+ghost use Rattle.inline.specs.Wraps.{three};
+ghost use Rattle.styling.specs.Posts.{OfRows};
+ghost use Rattle.cues.specs.Steps.{AsksSegments, SegmentsPost, AsksCue, CueOutcome, seven, AsksChild, ParagraphPost};
 use crate::lines::Line;
 use crate::lines::Lining;
 use crate::paragraph::Styled;
@@ -30,6 +31,10 @@ fn collect_segments(
     ws: WsMode,
     rows: usize,
 ) -> Styled
+    requires { ⌜ AsksSegments (now nodes) (now attrs) (now strings) k e rows (three (now segments) (now reveal) (now sizes)) (now texts) ⌝ }
+    ensures { λ r. ⌜ SegmentsPost (now (nodes .entry)) (now (attrs .entry)) (now (strings .entry)) k e start ctx ws rows
+        (three (now (segments .entry)) (now (reveal .entry)) (now (sizes .entry))) (now (texts .entry))
+        (three (now (segments .exit)) (now (reveal .exit)) (now (sizes .exit))) (now (texts .exit)) r ⌝ }
 {
     match content::collect_segments_timed(
         nodes,
@@ -48,7 +53,14 @@ fn collect_segments(
     ) {
         Collecting::Refused(r) => Styled::Refused(r),
         Collecting::Is(run) => crate::paragraph::style_paragraph(
-            attrs, strings, segments, reveal, sizes, e, rows, run.rows,
+            attrs,
+            strings,
+            segments,
+            reveal,
+            sizes,
+            e,
+            rows,
+            run.rows,
         ),
     }
 }
@@ -66,8 +78,19 @@ fn add_paragraph(
     line: Line,
     rows: usize,
 ) -> Lining
+    requires { ⌜ AsksCue (now attrs) (now strings) e line rows (now cues) (now times) (now extras) ⌝ }
+    ensures { λ r. ⌜ OfRows (now (attrs .entry)) (now (strings .entry)) (e .first) (e .many) (λ l.
+        CueOutcome e when ws line rows (now (cues .entry)) (now (cues .exit)) (now (times .entry)) (now (times .exit))
+        (now (extras .entry)) (now (extras .exit)) l r) ⌝ }
 {
-    let kept = extras::collect_p_inline_extras(attrs, strings, e.first, e.many, extras, line.extras);
+    let kept = extras::collect_p_inline_extras(
+        attrs,
+        strings,
+        e.first,
+        e.many,
+        extras,
+        line.extras,
+    );
     let count = kept.count;
     let style = crate::paragraph::value_of(attrs, strings, e, b"style");
     let region = crate::paragraph::value_of(attrs, strings, e, b"region");
@@ -149,7 +172,16 @@ pub fn collect_paragraph(
             ) {
                 Styled::Refused(r) => Lining::Refused(r),
                 Styled::Is(rows) => add_paragraph(
-                    attrs, strings, cues, times, extras, e, when, inside, line, rows,
+                    attrs,
+                    strings,
+                    cues,
+                    times,
+                    extras,
+                    e,
+                    when,
+                    inside,
+                    line,
+                    rows,
                 ),
             }
         }

@@ -37,13 +37,7 @@ pub enum Giving {
 }
 
 // What the attribute of this name says.
-fn time_given(
-    attrs: &[u32],
-    strings: &[u8],
-    e: xml::Element,
-    name: &[u8],
-    ctx: TimingCtx,
-) -> Giving
+fn time_given(attrs: &[u32], strings: &[u8], e: xml::Element, name: &[u8], ctx: TimingCtx) -> Giving
     requires { ⌜ HasRows (now attrs) (now strings) (e .first) (e .many) ⌝ }
     ensures { λ r. ⌜ AllZeroed r ⌝ }
     ensures { λ r. ⌜ OfRows (now (attrs .entry)) (now (strings .entry)) (e .first) (e .many) (λ l.

@@ -14,8 +14,8 @@ use Rattle.scan.specs.Marks as places
 use Rattle.scan.specs.Marks.{startsAt}
 use Rattle.scan.specs.Posts.{Ends, Passed}
 use Rattle.scan.proofs.Runs.{run-low, run-high, run-stops, run-here, run-on, run-out}
-use Rattle.tree.specs.Read.{piMark, commentMark, declMark, skip, prologEnd}
-use Rattle.tree.proofs.PrologLaws.{from, begin, pi, comment, decl, stop, out}
+use Rattle.tree.specs.Read.{piMark, commentMark, declMark, skip, prologFrom, prologEnd}
+use Rattle.tree.proofs.PrologLaws.{begin, pi, comment, decl, stop, out}
 use Rattle.grammar.specs.Words.{Bytes}
 use Rattle.grammar.specs.Scan.{beyond}
 use Rattle.grammar.proofs.Reader.{blank-byte, to-mark, no-more, pieceKind, prologAs, pastProlog}
@@ -51,9 +51,9 @@ piece-at s i h = rw (← (prefix-at piMark s i), ← (prefix-at commentMark s i)
 
 -- what stands at a place that is not blank, and how the loop by places goes on there
 data Piece (s : List ℕ) (i : ℕ) : Type 0 where
-  last : pieceKind (drop i s) ≡ no-more → from s i ≡ i → Piece s i
+  last : pieceKind (drop i s) ≡ no-more → prologFrom s i ≡ i → Piece s i
   one : (c : ℕ) (m : Bytes) → pieceKind (drop i s) ≡ to-mark c m
-      → ((q r : ℕ) → Passed (c ∷ m) s i q → Ends blank s q r → from s i ≡ from s r) → Piece s i
+      → ((q r : ℕ) → Passed (c ∷ m) s i q → Ends blank s q r → prologFrom s i ≡ prologFrom s r) → Piece s i
 
 piece : (s : List ℕ) (i : ℕ) → i < length s → blank (getD s i 0) ≡ false → Piece s i
 piece s i h b =
@@ -68,8 +68,8 @@ module _ (s : List ℕ) where
   abbrev Agrees : ℕ → ℕ → ℕ → Type 0
   Agrees n i e = (pastProlog n (drop i s) ≡ drop e s) × (e ≤ length s)
 
-  module _ (n i : ℕ) (h : i < length s) (later : (j : ℕ) → i < j → j ≤ length s → Agrees n j (from s (skip s j))) where
-    solid-agrees : Piece s i → Agrees (suc n) i (from s i)
+  module _ (n i : ℕ) (h : i < length s) (later : (j : ℕ) → i < j → j ≤ length s → Agrees n j (prologFrom s (skip s j))) where
+    solid-agrees : Piece s i → Agrees (suc n) i (prologFrom s i)
     solid-agrees (last e w) = rw w (stays n (drop i s) e, omega arith)
     solid-agrees (one c m e law) =
         let q : ℕ = places.past (c ∷ m) s i in
@@ -77,17 +77,17 @@ module _ (s : List ℕ) where
         let l = later q (w .beyond h (omega arith)) (w .within) in
         rw (law q (skip s q) w (blanks-end s q (w .within))) (passes-mark n (drop i s) c m e ∙ ap (pastProlog n) (beyond-at (c ∷ m) s i) ∙ l .0, l .1)
 
-    step-agrees : Agrees (suc n) i (from s (skip s i))
+    step-agrees : Agrees (suc n) i (prologFrom s (skip s i))
     step-agrees =
         by-test (blank (getD s i 0))
         (λ b. let l = later (i + 1) (omega arith) (omega arith) in
         rw (run-on blank s i h b) (passes-blank n (drop i s) (piece-at s i h ∙ rw b) ∙ ap (pastProlog n) (drop-drop 1 i s) ∙ l .0, l .1))
         (λ b. rw (run-here blank s i h b) (solid-agrees (piece s i h b)))
 
-  from-place : (n i : ℕ) → i ≤ length s → length s < i + n → Agrees n i (from s (skip s i))
+  from-place : (n i : ℕ) → i ≤ length s → length s < i + n → Agrees n i (prologFrom s (skip s i))
   from-place zero i h g = absurd (omega arith)
   from-place (suc n) i h g =
-      let later : (j : ℕ) → i < j → j ≤ length s → Agrees n j (from s (skip s j)) = λ j l m. from-place n j m (omega arith) in
+      let later : (j : ℕ) → i < j → j ≤ length s → Agrees n j (prologFrom s (skip s j)) = λ j l m. from-place n j m (omega arith) in
       by-test (ltb i (length s)) (λ e. step-agrees n i (ltb-true i (length s) e) later)
       (λ e. let l : length s ≤ i = ltb-false i (length s) e in
       rw (run-out blank s i l, out s i l) (ap (pastProlog (suc n)) (drop-of-length-le s l) ∙ stays n [] refl ∙ sym (drop-of-length-le s l), h))

@@ -1,3 +1,4 @@
+pub mod Counts
 pub mod Few
 pub mod Keeping
 pub mod Noting

@@ -1,5 +1,6 @@
 -- The rows of styles and regions, and what is evaluated of them. Assumes nothing.
 --     style-row, style-float, region-row       rows by value are those of the layout
+--     bind-assoc, style-is                     a style by its look
 --     style-taken, style-full, style-refused   a style with its limit
 --     region-taken, region-full                a region with its limit
 --     rows-small, emptied-small                what the writers of rows ask
@@ -108,15 +109,15 @@ module _ (z : List ℕ) (l : List (Attr Placed)) (name c : Span) (look : declare
       ∙ ap (parts (spanOf (spanIn z name)) (optionSpan (s .chain)) (lookCells (laidLook (lookIn z look)))) (f ∙ sym (rows-after at (s .extras)))))
 
 -- ---- what is evaluated
-bind-assoc : {A B C : Type 0} (a : Answer A) (f : A → Answer B) (g : B → Answer C) → ((a >>= f) >>= g) ≡ (a >>= λ x. f x >>= g)
+pub bind-assoc : {A B C : Type 0} (a : Answer A) (f : A → Answer B) (g : B → Answer C) → ((a >>= f) >>= g) ≡ (a >>= λ x. f x >>= g)
 bind-assoc (is x) f g = refl
 bind-assoc (refused n p) f g = refl
 
 module _ (id : Placed) (l : List (Attr Placed)) where
-  abbrev made : Look Placed → Answer (Style Placed)
+  abbrev pub made : Look Placed → Answer (Style Placed)
   made look = is (styleOfLook id l look)
 
-  style-is : lookAnswer l >>= made ≡ styleOf withPlaces id l
+  pub style-is : lookAnswer l >>= made ≡ styleOf withPlaces id l
   unfolding styleOf
   style-is = by-color (colorOf withPlaces (ascii "tts:color") l)
     where
@@ -127,13 +128,15 @@ module _ (id : Placed) (l : List (Attr Placed)) where
 
       by-color : (c : Answer (Option Rgba))
           → ((c >>= coloredLook l) >>= made)
-          ≡ (c >>= λ color. colorOf withPlaces (ascii "tts:backgroundColor") l >>= λ back. styleSize l >>= λ size. sizedLook l color back size >>= made)
+          ≡ (c >>= λ color. colorOf withPlaces (ascii "tts:backgroundColor") l >>= λ back. styleSize l >>= λ size.
+          sizedLook l color back size >>= made)
       by-color (is color) = by-back color (colorOf withPlaces (ascii "tts:backgroundColor") l)
       by-color (refused n p) = refl
 
   module _ (place n : ℕ) where
     looked : (a : Answer (Look Placed)) → a ≡ lookAnswer l → ((a >>= made) >>= λ s. within 256 (n + 1) place s) ≡ styleWithin id l place n
-    looked a h = ap (λ (x : Answer (Style Placed)). x >>= λ s. within 256 (n + 1) place s) (ap (λ (b : Answer (Look Placed)). b >>= made) h ∙ style-is)
+    looked a h =
+        ap (λ (x : Answer (Style Placed)). x >>= λ s. within 256 (n + 1) place s) (ap (λ (b : Answer (Look Placed)). b >>= made) h ∙ style-is)
 
     pub style-taken : (look : Look Placed) → is look ≡ lookAnswer l → n < 256 → styleWithin id l place n ≡ is (styleOfLook id l look)
     style-taken look h w = sym (looked (is look) h) ∙ rw (le-leb (n + 1) 256 (omega arith))

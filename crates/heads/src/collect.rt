@@ -1,4 +1,6 @@
 // The head: its styles and regions, in order.
+ghost use Rattle.heads.specs.Steps.{inAll, inStyling, inLayout, inHead, listedStyles, stylesIn, AsksStyles, StylesPost};
+ghost use Rattle.heads.specs.Steps.{listedRegions, regionsIn, AsksRegions, RegionsPost, alone, insideHead, four, AsksHead, HeadPost};
 use crate::styles::Made;
 use tree::Refusal;
 use xml::Found;
@@ -25,6 +27,9 @@ fn collect_styles(
     sizes: &mut [f32],
     extras: &mut [u32],
 ) -> Counting
+    requires { ⌜ AsksStyles inAll (now nodes) (now attrs) (now strings) from end (now styles) (now sizes) (now extras) ⌝ }
+    ensures { λ r. ⌜ StylesPost listedStyles inAll (now (nodes .entry)) (now (attrs .entry)) (now (strings .entry)) from end
+        (now (styles .entry)) (now (styles .exit)) (now (sizes .entry)) (now (sizes .exit)) (now (extras .entry)) (now (extras .exit)) r ⌝ }
 {
     let mut n = 0;
     let mut at = 0;
@@ -33,7 +38,16 @@ fn collect_styles(
         if xml::is_element(nodes, strings, k, b"style") {
             let e = xml::element_at(nodes, k);
             match crate::styles::build_style(
-                attrs, strings, e.first, e.many, e.place, styles, sizes, n, extras, at,
+                attrs,
+                strings,
+                e.first,
+                e.many,
+                e.place,
+                styles,
+                sizes,
+                n,
+                extras,
+                at,
             ) {
                 Made::Row(m) => {
                     n += 1;
@@ -64,6 +78,9 @@ fn collect_regions(
     extras: &mut [u32],
     rows: usize,
 ) -> Counting
+    requires { ⌜ AsksRegions inAll (now nodes) (now attrs) (now strings) from end rows (now regions) (now extras) ⌝ }
+    ensures { λ r. ⌜ RegionsPost listedRegions inAll (now (nodes .entry)) (now (attrs .entry)) (now (strings .entry)) from end rows
+        (now (regions .entry)) (now (regions .exit)) (now (extras .entry)) (now (extras .exit)) r ⌝ }
 {
     let mut n = 0;
     let mut at = rows;
@@ -72,7 +89,15 @@ fn collect_regions(
         if xml::is_element(nodes, strings, k, b"region") {
             let e = xml::element_at(nodes, k);
             match crate::regions::build_region(
-                attrs, strings, e.first, e.many, e.place, regions, n, extras, at,
+                attrs,
+                strings,
+                e.first,
+                e.many,
+                e.place,
+                regions,
+                n,
+                extras,
+                at,
             ) {
                 Made::Row(m) => {
                     n += 1;
@@ -103,6 +128,9 @@ fn find_styles(
     sizes: &mut [f32],
     extras: &mut [u32],
 ) -> Counting
+    requires { ⌜ AsksStyles inStyling (now nodes) (now attrs) (now strings) from end (now styles) (now sizes) (now extras) ⌝ }
+    ensures { λ r. ⌜ StylesPost stylesIn inStyling (now (nodes .entry)) (now (attrs .entry)) (now (strings .entry)) from end
+        (now (styles .entry)) (now (styles .exit)) (now (sizes .entry)) (now (sizes .exit)) (now (extras .entry)) (now (extras .exit)) r ⌝ }
 {
     match xml::find_element(nodes, strings, from, end, b"styling") {
         Found::Nothing => Counting::Is(Count { rows: 0, extras: 0 }),
@@ -124,6 +152,9 @@ fn find_regions(
     extras: &mut [u32],
     rows: usize,
 ) -> Counting
+    requires { ⌜ AsksRegions inLayout (now nodes) (now attrs) (now strings) from end rows (now regions) (now extras) ⌝ }
+    ensures { λ r. ⌜ RegionsPost regionsIn inLayout (now (nodes .entry)) (now (attrs .entry)) (now (strings .entry)) from end rows
+        (now (regions .entry)) (now (regions .exit)) (now (extras .entry)) (now (extras .exit)) r ⌝ }
 {
     match xml::find_element(nodes, strings, from, end, b"layout") {
         Found::Nothing => Counting::Is(Count {
@@ -161,11 +192,22 @@ fn collect_inside(
     sizes: &mut [f32],
     extras: &mut [u32],
 ) -> Heading
+    requires { ⌜ AsksHead (now nodes) (now attrs) (now strings) from end (four (now styles) (now regions) (now sizes) (now extras)) ⌝ }
+    ensures { λ r. ⌜ HeadPost alone inAll (now (nodes .entry)) (now (attrs .entry)) (now (strings .entry)) from end
+        (four (now (styles .entry)) (now (regions .entry)) (now (sizes .entry)) (now (extras .entry)))
+        (four (now (styles .exit)) (now (regions .exit)) (now (sizes .exit)) (now (extras .exit))) r ⌝ }
 {
     match find_styles(nodes, attrs, strings, from, end, styles, sizes, extras) {
         Counting::Refused(r) => Heading::Refused(r),
         Counting::Is(s) => match find_regions(
-            nodes, attrs, strings, from, end, regions, extras, s.extras,
+            nodes,
+            attrs,
+            strings,
+            from,
+            end,
+            regions,
+            extras,
+            s.extras,
         ) {
             Counting::Refused(r) => Heading::Refused(r),
             Counting::Is(t) => Heading::Is(Heads {
@@ -189,6 +231,10 @@ pub fn collect_head(
     sizes: &mut [f32],
     extras: &mut [u32],
 ) -> Heading
+    requires { ⌜ AsksHead (now nodes) (now attrs) (now strings) from end (four (now styles) (now regions) (now sizes) (now extras)) ⌝ }
+    ensures { λ r. ⌜ HeadPost insideHead inHead (now (nodes .entry)) (now (attrs .entry)) (now (strings .entry)) from end
+        (four (now (styles .entry)) (now (regions .entry)) (now (sizes .entry)) (now (extras .entry)))
+        (four (now (styles .exit)) (now (regions .exit)) (now (sizes .exit)) (now (extras .exit))) r ⌝ }
 {
     match xml::find_element(nodes, strings, from, end, b"head") {
         Found::Nothing => Heading::Is(Heads {
@@ -199,7 +245,15 @@ pub fn collect_head(
         Found::Row(k) => {
             let e = xml::element_at(nodes, k);
             collect_inside(
-                nodes, attrs, strings, k + 1, e.end, styles, regions, sizes, extras,
+                nodes,
+                attrs,
+                strings,
+                k + 1,
+                e.end,
+                styles,
+                regions,
+                sizes,
+                extras,
             )
         }
     }

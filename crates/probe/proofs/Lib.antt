@@ -6,4 +6,3 @@ pub mod Colors
 pub mod Decimals
 pub mod Times
 pub mod Trees
-pub mod Queries

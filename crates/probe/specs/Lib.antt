@@ -3,4 +3,3 @@ pub mod Decimals
 pub mod Colors
 pub mod Times
 pub mod Trees
-pub mod Queries

@@ -3,7 +3,6 @@
 mod color;
 mod decimal;
 mod parse;
-mod query;
 mod time;
 
 pub use color::probe_color;
@@ -15,9 +14,6 @@ pub use decimal::probe_size;
 pub use decimal::probe_size_width;
 pub use decimal::probe_truncate;
 pub use parse::probe_parse_xml;
-pub use query::probe_effective_style_for_cue_index;
-pub use query::probe_region_style;
-pub use query::probe_resolve_referenced_style;
 pub use time::probe_format_ts;
 pub use time::probe_time;
 ghost use mathlib.Core.Path.{_≡_};

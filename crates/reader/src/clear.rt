@@ -1,4 +1,7 @@
 // The tables of a track but for its strings, which the tree reader tests and clears.
+ghost use Rattle.track.specs.Tables.{lengths};
+ghost use Rattle.promised.proofs.Promises.{RestLong, RestZero};
+ghost use Rattle.reader.specs.Steps.{rest, Tells, Prepared};
 
 const HEAD: usize = 10;
 
@@ -36,6 +39,11 @@ pub fn clear_track(
     extras: &mut [u32],
     texts: &mut [u8],
 )
+    ensures { λ _. ⌜ RestZero
+        (lengths (rest (now (head .entry)) (now (params .entry)) (now (styles .entry)) (now (regions .entry)) (now (cues .entry))
+        (now (times .entry)) (now (segments .entry)) (now (reveal .entry)) (now (sizes .entry)) (now (extras .entry)) (now (texts .entry))))
+        (rest (now (head .exit)) (now (params .exit)) (now (styles .exit)) (now (regions .exit)) (now (cues .exit))
+        (now (times .exit)) (now (segments .exit)) (now (reveal .exit)) (now (sizes .exit)) (now (extras .exit)) (now (texts .exit))) ⌝ }
 {
     scan::clear(head);
     scan::clear(params);
@@ -48,58 +56,6 @@ pub fn clear_track(
     scan::clear_f32(sizes);
     scan::clear(extras);
     scan::clear_bytes(texts);
-}
-
-// Are the tables of rows and values long enough?
-fn rows_fit(
-    head: &[u32],
-    params: &[u32],
-    styles: &[u32],
-    regions: &[u32],
-    cues: &[u32],
-    times: &[i64],
-) -> bool
-{
-    if head.len() < HEAD {
-        return false;
-    }
-    if params.len() < PARAMS {
-        return false;
-    }
-    if styles.len() < STYLES {
-        return false;
-    }
-    if regions.len() < REGIONS {
-        return false;
-    }
-    if cues.len() < CUES {
-        return false;
-    }
-    TIMES <= times.len()
-}
-
-// Are those of segments, extras and texts?
-fn segments_fit(
-    segments: &[u32],
-    reveal: &[i64],
-    sizes: &[f32],
-    extras: &[u32],
-    texts: &[u8],
-) -> bool
-{
-    if segments.len() < SEGMENTS {
-        return false;
-    }
-    if reveal.len() < REVEAL {
-        return false;
-    }
-    if sizes.len() < SIZES {
-        return false;
-    }
-    if extras.len() < EXTRAS {
-        return false;
-    }
-    TEXTS <= texts.len()
 }
 
 // Is each at least as long as its fixed length?
@@ -116,9 +72,90 @@ pub fn long_enough(
     extras: &[u32],
     texts: &[u8],
 ) -> bool
+    ensures { λ r. ⌜ Tells (RestLong
+        (lengths (rest (now (head .entry)) (now (params .entry)) (now (styles .entry)) (now (regions .entry)) (now (cues .entry))
+        (now (times .entry)) (now (segments .entry)) (now (reveal .entry)) (now (sizes .entry)) (now (extras .entry)) (now (texts .entry))))) r ⌝ }
 {
-    if !rows_fit(head, params, styles, regions, cues, times) {
+    if head.len() < HEAD {
         return false;
     }
-    segments_fit(segments, reveal, sizes, extras, texts)
+    if params.len() < PARAMS {
+        return false;
+    }
+    if styles.len() < STYLES {
+        return false;
+    }
+    if regions.len() < REGIONS {
+        return false;
+    }
+    if cues.len() < CUES {
+        return false;
+    }
+    if times.len() < TIMES {
+        return false;
+    }
+    if segments.len() < SEGMENTS {
+        return false;
+    }
+    if reveal.len() < REVEAL {
+        return false;
+    }
+    if sizes.len() < SIZES {
+        return false;
+    }
+    if extras.len() < EXTRAS {
+        return false;
+    }
+    if texts.len() < TEXTS {
+        return false;
+    }
+    true
+}
+
+// Every cell is 0; is each table long enough?
+pub fn prepare(
+    head: &mut [u32],
+    params: &mut [u32],
+    styles: &mut [u32],
+    regions: &mut [u32],
+    cues: &mut [u32],
+    times: &mut [i64],
+    segments: &mut [u32],
+    reveal: &mut [i64],
+    sizes: &mut [f32],
+    extras: &mut [u32],
+    texts: &mut [u8],
+) -> bool
+    ensures { λ r. ⌜ Prepared
+        (rest (now (head .entry)) (now (params .entry)) (now (styles .entry)) (now (regions .entry)) (now (cues .entry))
+        (now (times .entry)) (now (segments .entry)) (now (reveal .entry)) (now (sizes .entry)) (now (extras .entry)) (now (texts .entry)))
+        (rest (now (head .exit)) (now (params .exit)) (now (styles .exit)) (now (regions .exit)) (now (cues .exit))
+        (now (times .exit)) (now (segments .exit)) (now (reveal .exit)) (now (sizes .exit)) (now (extras .exit)) (now (texts .exit))) r ⌝ }
+{
+    clear_track(
+        head,
+        params,
+        styles,
+        regions,
+        cues,
+        times,
+        segments,
+        reveal,
+        sizes,
+        extras,
+        texts,
+    );
+    long_enough(
+        head,
+        params,
+        styles,
+        regions,
+        cues,
+        times,
+        segments,
+        reveal,
+        sizes,
+        extras,
+        texts,
+    )
 }

@@ -1,8 +1,9 @@
 // The readers of whole texts.
+mod calls;
 mod clear;
-mod parse;
 mod single;
-mod track;
+mod text;
+mod whole;
 
-pub use parse::parse;
-pub use single::bytes_to_cue;
+pub use calls::bytes_to_cue;
+pub use calls::parse;

@@ -5,17 +5,13 @@ use mathlib.Core.Bool.{true, false}
 use mathlib.Core.List.{List}
 use native.Mathlib.Omega.{arith}
 use lib.ListN.{length}
-use Rattle.scan.specs.Loop.{loop}
 use Rattle.scan.specs.Bytes.{blank}
 use Rattle.scan.specs.Marks.{startsAt}
-use Rattle.tree.specs.Read.{piMark, piEnd, commentMark, commentEnd, declMark, gt, prologTurn, prologEnd}
+use Rattle.tree.specs.Read.{piMark, piEnd, commentMark, commentEnd, declMark, gt, prologTurn, prologFrom, prologEnd}
 use Rattle.scan.specs.Posts.{Ends, Passed}
 use Rattle.scan.proofs.Loop.{loop-out, loop-halt, loop-more}
 
-abbrev pub from : List ℕ → ℕ → ℕ
-from s i = loop (length s) (prologTurn s) (λ j x. j) i tt
-
-pub begin : (s : List ℕ) (r : ℕ) → Ends blank s 0 r → prologEnd s ≡ from s r
+pub begin : (s : List ℕ) (r : ℕ) → Ends blank s 0 r → prologEnd s ≡ prologFrom s r
 unfolding prologEnd
 begin s r h = rw (← (h .is))
 
@@ -23,25 +19,25 @@ module _ (s : List ℕ) (i : ℕ) (h : i < length s) where
   beyond : (m : List ℕ) (q r : ℕ) → 0 < length m → Passed m s i q → Ends blank s q r → i < r
   beyond m q r z a b = omega (arith, a .beyond h z, b .after)
 
-  pub pi : (q r : ℕ) → startsAt s i piMark ≡ true → Passed piEnd s i q → Ends blank s q r → from s i ≡ from s r
+  pub pi : (q r : ℕ) → startsAt s i piMark ≡ true → Passed piEnd s i q → Ends blank s q r → prologFrom s i ≡ prologFrom s r
   unfolding prologTurn
   pi q r e a b = loop-more (length s) (prologTurn s) (λ j x. j) i tt r tt h (rw (e, ← (a .is), ← (b .is))) (beyond piEnd q r (omega arith) a b)
 
-  pub comment : (q r : ℕ) → startsAt s i piMark ≡ false → startsAt s i commentMark ≡ true → Passed commentEnd s i q → Ends blank s q r → from s i
-      ≡ from s r
+  pub comment : (q r : ℕ) → startsAt s i piMark ≡ false → startsAt s i commentMark ≡ true → Passed commentEnd s i q → Ends blank s q r
+      → prologFrom s i ≡ prologFrom s r
   unfolding prologTurn
   comment q r d e a b =
       loop-more (length s) (prologTurn s) (λ j x. j) i tt r tt h (rw (d, e, ← (a .is), ← (b .is))) (beyond commentEnd q r (omega arith) a b)
 
   pub decl : (q r : ℕ) → startsAt s i piMark ≡ false → startsAt s i commentMark ≡ false → startsAt s i declMark ≡ true → Passed gt s i q
-      → Ends blank s q r → from s i ≡ from s r
+      → Ends blank s q r → prologFrom s i ≡ prologFrom s r
   unfolding prologTurn
   decl q r c d e a b =
       loop-more (length s) (prologTurn s) (λ j x. j) i tt r tt h (rw (c, d, e, ← (a .is), ← (b .is))) (beyond gt q r (omega arith) a b)
 
-  pub stop : startsAt s i piMark ≡ false → startsAt s i commentMark ≡ false → startsAt s i declMark ≡ false → from s i ≡ i
+  pub stop : startsAt s i piMark ≡ false → startsAt s i commentMark ≡ false → startsAt s i declMark ≡ false → prologFrom s i ≡ i
   unfolding prologTurn
   stop c d e = loop-halt (length s) (prologTurn s) (λ j x. j) i tt i h (rw (c, d, e))
 
-pub out : (s : List ℕ) (i : ℕ) → length s ≤ i → from s i ≡ i
+pub out : (s : List ℕ) (i : ℕ) → length s ≤ i → prologFrom s i ≡ i
 out s i h = loop-out (length s) (prologTurn s) (λ j x. j) i tt h

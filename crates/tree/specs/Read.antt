@@ -218,8 +218,12 @@ prologTurn s i x =
     (cond (startsAt s i commentMark) (more (skip s (past commentEnd s i)) x)
     (cond (startsAt s i declMark) (more (skip s (past gt s i)) x) (halt i)))
 
+-- from p on, where no blank stands
+abbrev pub prologFrom : List ℕ → ℕ → ℕ
+prologFrom s p = loop (length s) (prologTurn s) (λ i x. i) p tt
+
 unfoldable pub prologEnd : List ℕ → ℕ
-prologEnd s = loop (length s) (prologTurn s) (λ i x. i) (skip s 0) tt
+prologEnd s = prologFrom s (skip s 0)
 
 -- ---- the whole text, with tables of n and m cells
 -- the nodes at top level, from p on

@@ -2,6 +2,7 @@
 mod answers;
 mod attrs;
 mod nodes;
+mod parser;
 mod prolog;
 mod read;
 mod rows;

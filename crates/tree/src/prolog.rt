@@ -2,14 +2,25 @@
 ghost use mathlib.Core.Path.{_≡_};
 ghost use Prim.Native.Nat.{_≤_};
 ghost use lib.ListN.{length};
-ghost use Rattle.tree.specs.Read.{prologEnd};
+ghost use Rattle.tree.specs.Read.{prologFrom};
+ghost use Rattle.scan.specs.Bytes.{blank};
+ghost use Rattle.scan.specs.Posts.{Ends};
 use scan::Class;
 
-// The place after the prolog.
-pub fn skip_prolog(src: &[u8]) -> usize
-    ensures { λ r. ⌜ (r ≡ prologEnd (now (src .entry))) × (r ≤ length (now (src .entry))) ⌝ }
+// The place after the blanks at a position.
+pub fn over_blanks(src: &[u8], pos: usize) -> usize
+    requires { ⌜ pos ≤ length (now src) ⌝ }
+    ensures { λ r. ⌜ Ends blank (now (src .entry)) pos r ⌝ }
 {
-    let mut i = scan::over(src, 0, Class::Blank);
+    scan::over(src, pos, Class::Blank)
+}
+
+// The place after the prolog at a position, where no blank stands.
+pub fn skip_prolog(src: &[u8], pos: usize) -> usize
+    requires { ⌜ pos ≤ length (now src) ⌝ }
+    ensures { λ r. ⌜ (r ≡ prologFrom (now (src .entry)) pos) × (r ≤ length (now (src .entry))) ⌝ }
+{
+    let mut i = pos;
     while i < src.len() {
         if scan::starts_with(src, i, b"<?") {
             let q = scan::find_past(src, i, b"?>");

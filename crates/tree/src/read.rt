@@ -49,7 +49,7 @@ fn test_limits(src: &[u8], nodes: usize, attrs: usize) -> Limits
 }
 
 // The nodes at top level, from the prolog's end on.
-fn parse_top(src: &[u8], nodes: &mut [u32], attrs: &mut [u32], from: usize) -> Content
+pub fn parse_top(src: &[u8], nodes: &mut [u32], attrs: &mut [u32], from: usize) -> Content
     requires { ⌜ Ready (now src) (now nodes) (now attrs) from 0 0 ⌝ }
     ensures { λ r. ⌜ ContentPost (topOf (now (src .entry)) from) (now (src .entry))
         (now (nodes .entry)) (now (nodes .exit)) (now (attrs .entry)) (now (attrs .exit)) from 0 0 r ⌝ }
@@ -92,8 +92,7 @@ pub fn read_tree(src: &[u8], nodes: &mut [u32], attrs: &mut [u32]) -> Answer
     match test_limits(src, nodes.len(), attrs.len()) {
         Limits::Refused(r) => Answer::Refused(r),
         Limits::Within => {
-            let from = crate::prolog::skip_prolog(src);
-            match parse_top(src, nodes, attrs, from) {
+            match crate::parser::parse_document(src, nodes, attrs) {
                 Content::Done(c) => Answer::Tree {
                     nodes: c.nodes,
                     attrs: c.attrs,

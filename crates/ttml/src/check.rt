@@ -1,7 +1,11 @@
 // The check of a handed track.
+ghost use Rattle.track.specs.Tables.{tables};
+ghost use Rattle.track.specs.Check.{Checked};
+ghost use Rattle.ttml.specs.Told.{Tells, checkTold};
 use crate::told::told;
 use track::Check;
 
+// Is it a track?
 #[no_mangle]
 pub extern "C" fn pg_check_track(
     head: &[u32],
@@ -17,6 +21,10 @@ pub extern "C" fn pg_check_track(
     strings: &[u8],
     texts: &[u8],
 ) -> u64
+    ensures { λ r. ⌜ Tells checkTold (Checked
+        (tables (now (head .entry)) (now (params .entry)) (now (styles .entry)) (now (regions .entry)) (now (cues .entry))
+        (now (times .entry)) (now (segments .entry)) (now (reveal .entry)) (now (sizes .entry)) (now (extras .entry)) (now (strings .entry))
+        (now (texts .entry)))) r ⌝ }
 {
     match track::check_track(
         head,

@@ -1,8 +1,13 @@
 // The writers.
+ghost use mathlib.Core.Path.{_≡_};
+ghost use Rattle.track.specs.Tables.{tables};
+ghost use Rattle.writer.specs.Promise.{Promise, wholeText, cueNumber};
+ghost use Rattle.ttml.specs.Told.{Tells, writtenTold};
 use crate::told::told;
 use writer::Answer;
 
-fn bytes_told(answer: Answer) -> u64
+fn tell(answer: Answer) -> u64
+    ensures { λ r. ⌜ r ≡ writtenTold answer ⌝ }
 {
     match answer {
         Answer::Bytes(n) => told(0, n),
@@ -27,8 +32,13 @@ pub extern "C" fn pg_write(
     texts: &[u8],
     out: &mut [u8],
 ) -> u64
+    ensures { λ r. ⌜ Tells writtenTold (λ a. Promise wholeText
+        (tables (now (head .entry)) (now (params .entry)) (now (styles .entry)) (now (regions .entry)) (now (cues .entry))
+        (now (times .entry)) (now (segments .entry)) (now (reveal .entry)) (now (sizes .entry)) (now (extras .entry)) (now (strings .entry))
+        (now (texts .entry)))
+        (now (out .entry)) a (now (out .exit))) r ⌝ }
 {
-    bytes_told(document::write(
+    tell(document::write(
         head,
         params,
         styles,
@@ -63,8 +73,13 @@ pub extern "C" fn pg_cue_to_bytes(
     index: usize,
     out: &mut [u8],
 ) -> u64
+    ensures { λ r. ⌜ Tells writtenTold (λ a. Promise (cueNumber index)
+        (tables (now (head .entry)) (now (params .entry)) (now (styles .entry)) (now (regions .entry)) (now (cues .entry))
+        (now (times .entry)) (now (segments .entry)) (now (reveal .entry)) (now (sizes .entry)) (now (extras .entry)) (now (strings .entry))
+        (now (texts .entry)))
+        (now (out .entry)) a (now (out .exit))) r ⌝ }
 {
-    bytes_told(writer::cue_to_bytes(
+    tell(writer::cue_to_bytes(
         head,
         params,
         styles,

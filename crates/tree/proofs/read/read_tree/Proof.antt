@@ -1,8 +1,9 @@
 -- `read_tree` meets its promises: the tables are cleared first, and again on a refusal. Assumes nothing.
 use Prim.Native.Nat.{ℕ}
-use mathlib.Core.Path.{_≡_, ap, _∙_}
+use mathlib.Core.Path.{_≡_, refl, ap, _∙_}
 use native.Mathlib.Omega.{arith}
 use lib.ListN.{length, replicate}
+use Rattle.tree.specs.Read.{prologEnd}
 use Rattle.tree.proofs.Whole.{in-range, refused, tree, read-of}
 use borrow.Author.Needs.{needs}
 use Rattle.tree.proofs.read.read_tree.Statement.{statement}
@@ -23,19 +24,16 @@ enum-known-r c = search needs
 enum-told : tie.Need-enum-told
 enum-told c = search needs
 
-skip-prolog-requires : tie.Need-skip-prolog-requires
-skip-prolog-requires c κs = search needs
-
-parse-top-requires : tie.Need-parse-top-requires
-parse-top-requires c κs =
-    let c3 = c .before .before .before in
-    let c5 = c3 .before .before in
-    let f = rw (c3 .enum-told .given .1) at (c5 .test-limits .ensures) in
+parse-document-requires : tie.Need-parse-document-requires
+parse-document-requires c κs =
+    let c2 = c .before .before in
+    let c4 = c2 .before .before in
+    let f = rw (c2 .enum-told .given .1) at (c4 .test-limits .ensures) in
     record {
       short = f .short;
       long = f .long;
       wide = f .wide;
-      within = c .before .before .skip-prolog .ensures .1;
+      within = omega arith;
       most = omega arith;
       least = omega arith;
     }
@@ -76,15 +74,14 @@ returns-2 : tie.Need-returns-2
 returns-2 c =
     let c7 = c .before .before .before .before .before .before .before in
     let c10 = c7 .before .before .before in
-    let c11 = c10 .before in
-    let c13 = c11 .before .before in
-    let c16 = c13 .before .before .before in
-    let c20 = c16 .before .before .before .before in
-    let c25 = c20 .before .before .before .before .before in
-    let a = c25 .args in
-    let f = rw (c20 .clear .kept .0, c16 .clear2 .kept .0) at (rw (c11 .enum-told .given .1) at (c13 .test-limits .ensures)) in
-    read-of (rw (in-range (a .src .now) (length (a .nodes .now)) (length (a .attrs .now)) (c10 .skip-prolog .result) f (c10 .skip-prolog .ensures .0))
-    (tree _ _ _ _ _ _ _ _ _ _ (rw (c .before .c .given .1) at (c7 .parse-top .ensures)) (c20 .clear .ensures) (c16 .clear2 .ensures) (f .long)
+    let c12 = c10 .before .before in
+    let c15 = c12 .before .before .before in
+    let c19 = c15 .before .before .before .before in
+    let c24 = c19 .before .before .before .before .before in
+    let a = c24 .args in
+    let f = rw (c19 .clear .kept .0, c15 .clear2 .kept .0) at (rw (c10 .enum-told .given .1) at (c12 .test-limits .ensures)) in
+    read-of (rw (in-range (a .src .now) (length (a .nodes .now)) (length (a .attrs .now)) (prologEnd (a .src .now)) f refl)
+    (tree _ _ _ _ _ _ _ _ _ _ (rw (c .before .c .given .1) at (c7 .parse-document .ensures)) (c19 .clear .ensures) (c15 .clear2 .ensures) (f .long)
     (f .wide)))
 
 same-length-5 : tie.Need-same-length-5
@@ -99,18 +96,17 @@ returns-3 c =
     let c9 = c6 .before .before .before in
     let c15 = c9 .before .before .before .before .before .before in
     let c18 = c15 .before .before .before in
-    let c19 = c18 .before in
-    let c21 = c19 .before .before in
-    let c24 = c21 .before .before .before in
-    let c28 = c24 .before .before .before .before in
-    let c33 = c28 .before .before .before .before .before in
-    let a = c33 .args in
-    let f = rw (c28 .clear .kept .0, c24 .clear2 .kept .0) at (rw (c19 .enum-told .given .1) at (c21 .test-limits .ensures)) in
-    let n : length (c15 .parse-top .last .1 .0) ≡ length (a .nodes .now) = c15 .parse-top .kept .1 .0 ∙ c28 .clear .kept .0 in
-    let m : length (c15 .parse-top .last .1 .1 .0) ≡ length (a .attrs .now) = c15 .parse-top .kept .1 .1 .0 ∙ c24 .clear2 .kept .0 in
+    let c20 = c18 .before .before in
+    let c23 = c20 .before .before .before in
+    let c27 = c23 .before .before .before .before in
+    let c32 = c27 .before .before .before .before .before in
+    let a = c32 .args in
+    let f = rw (c27 .clear .kept .0, c23 .clear2 .kept .0) at (rw (c18 .enum-told .given .1) at (c20 .test-limits .ensures)) in
+    let n : length (c15 .parse-document .last .1 .0) ≡ length (a .nodes .now) = c15 .parse-document .kept .1 .0 ∙ c27 .clear .kept .0 in
+    let m : length (c15 .parse-document .last .1 .1 .0) ≡ length (a .attrs .now) = c15 .parse-document .kept .1 .1 .0 ∙ c23 .clear2 .kept .0 in
     read-of (refused _ _ _ _ _ _ _
-    (in-range (a .src .now) (length (a .nodes .now)) (length (a .attrs .now)) (c18 .skip-prolog .result) f (c18 .skip-prolog .ensures .0)
-    ∙ rw (c9 .r2 .given .1) at (c15 .parse-top .ensures))
+    (in-range (a .src .now) (length (a .nodes .now)) (length (a .attrs .now)) (prologEnd (a .src .now)) f refl
+    ∙ rw (c9 .r2 .given .1) at (c15 .parse-document .ensures))
     (c6 .clear3 .ensures ∙ ap (λ (k : ℕ). replicate k 0) n) (c .before .before .clear4 .ensures ∙ ap (λ (k : ℕ). replicate k 0) m))
 
 pub read-tree-spec : {M : Type 1} → statement M
@@ -122,8 +118,7 @@ read-tree-spec =
     test-limits-requires
     enum-known-r
     enum-told
-    skip-prolog-requires
-    parse-top-requires
+    parse-document-requires
     enum-known-c
     enum-known-r-2
     clear-requires-3

@@ -1,0 +1,150 @@
+-- tt: its parameters and its content make a track. Assumes nothing.
+--     track-steps                            what it means, step by step
+--     params-full, rates-no, content-means   as far as it is read
+--     tt-outcome                             its content with its parameters
+--     root-no, root-is, track-as             the first tt
+use Prim.Native.Nat.{ℕ, _*_, _≤_, _<_}
+use mathlib.Core.Path.{_≡_, refl, sym, ap, subst, _∙_}
+use mathlib.Core.List.{List, [], _∷_}
+use native.Mathlib.Omega.{arith}
+use lib.IntN.{ℤ}
+use lib.Ieee.{Float}
+use lib.ListN.{length, replicate}
+use borrow.Author.Tests.{le-leb, lt-leb}
+use mathlib.Core.Option.{Option}
+use Rattle.times.specs.declared.offset.TimingCtx.{TimingCtx}
+use Rattle.tree.specs.declared.answers.Refusal.{Refusal}
+use Rattle.track.specs.Track.{Param, Track}
+use Rattle.track.specs.Tables.{Tables, lengths}
+use Rattle.track.specs.Layout.{each, filled, joinedCells, paramCells}
+use Rattle.records.specs.declared.cells.Added.{Added}
+use Rattle.records.proofs.RowLaws.{joined-length, param-wide}
+use Rattle.records.proofs.Beside.{each-length}
+use Rattle.xml.specs.declared.find.Found.{Found}
+use Rattle.xml.specs.declared.find.Element as found
+use Rattle.xml.specs.Find.{OfSiblings, elementRow, findRow}
+use Rattle.xml.specs.Reading.{Placed}
+use Rattle.meaning.specs.Answers.{Answer, is, refused, _>>=_, within}
+use Rattle.meaning.specs.Words.{ascii}
+use Rattle.meaning.specs.Nodes.{Attr, Element}
+use Rattle.meaning.specs.Kinds.{withPlaces, attrsIn, nodesIn}
+use Rattle.meaning.specs.Meaning.{paramsOf, rateOf, timing, trackIn, trackOf}
+use Rattle.laid.specs.Laid.{laidParam, laidOf, whole}
+use Rattle.styling.specs.Posts.{OfRows, turned}
+use Rattle.params.specs.declared.rates.TimingSaid.{TimingSaid}
+use Rattle.params.specs.Named.{timingSaid, timingOf}
+use Rattle.params.specs.Rows.{placedParams, Collects}
+use Rattle.promised.specs.declared.Answer as promise
+use Rattle.reader.specs.Steps.{rest, Ready, Laid, Outcome, Tree, Elem, elementIn, contentMeans, ContentOutcome}
+use Rattle.reader.proofs.Laying.{filled-from, rest-laid}
+use Rattle.reader.proofs.Elements.{elem-cells, elem-owned, elem-none, elem-found}
+
+-- ---- what it means, step by step
+
+abbrev limited : (at : ℕ) → List (Attr Placed) → Answer (List (Param Placed))
+limited at l = within 64 (length (paramsOf withPlaces l)) at (paramsOf withPlaces l)
+
+by-rates : {A B : Type 0} (m : Answer A) (a b : Answer (Option Float)) (go : A → TimingCtx → Answer B)
+    → (m >>= λ params. a >>= λ frame. b >>= λ tick. go params (timing frame tick))
+    ≡ (m >>= λ params. (a >>= λ frame. b >>= λ tick. is (timing frame tick)) >>= λ ctx. go params ctx)
+by-rates (is params) (is frame) (is tick) go = refl
+by-rates (is params) (is frame) (refused i q) go = refl
+by-rates (is params) (refused i q) b go = refl
+by-rates (refused i q) a b go = refl
+
+pub track-steps : (tt : Element Placed) → trackIn withPlaces tt
+    ≡ (limited (tt .at) (tt .attrs) >>= λ params. timingOf (tt .attrs) >>= λ ctx. contentMeans params ctx tt)
+unfolding trackIn
+track-steps tt =
+    by-rates (limited (tt .at) (tt .attrs)) (rateOf withPlaces (ascii "frameRate") (tt .attrs)) (rateOf withPlaces (ascii "tickRate") (tt .attrs))
+    (λ params ctx. contentMeans params ctx tt)
+
+-- ---- its parameters
+
+params-cells : (l : List (Param Placed)) → placedParams l ≡ joinedCells paramCells (each laidParam l)
+unfolding placedParams joinedCells paramCells each laidParam
+params-cells [] = refl
+params-cells (x ∷ l) = rw (params-cells l)
+
+params-laid : (l : List (Param Placed)) (p p′ : List ℕ) (n : ℕ) → Collects l p p′ (Added.Next n) → p ≡ replicate (length p) 0 → 256 ≤ length p
+    → p′ ≡ filled (length p) (joinedCells paramCells (each laidParam l))
+params-laid l p p′ n c blank long =
+    let k = joined-length paramCells 4 param-wide (each laidParam l) in
+    let j = each-length laidParam l in
+    filled-from (length p) blank (params-cells l) (omega (arith, k, j, c .0, c .1, long)) (c .2)
+
+module _ {t u z : List ℕ} {k : ℕ} (x : Elem t u z k) {e : found.Element} (row : e ≡ elementRow t k) where
+  abbrev attrs : List (Attr Placed)
+  attrs = attrsIn z (x .attrs)
+
+  abbrev Collected : (p p′ : List ℕ) → Added → Type 0
+  Collected p p′ a = OfRows u z (e .first) (e .many) (λ l. Collects (paramsOf withPlaces l) p p′ a)
+
+  abbrev Timed : TimingSaid → Type 0
+  Timed r = OfRows u z (e .first) (e .many) (λ l. timingSaid r ≡ timingOf l)
+
+  place-is : e .place ≡ x .place
+  place-is = ap (λ (w : found.Element). w .place) (elem-cells x row)
+
+  -- there are too many
+  pub params-full : (p p′ : List ℕ) → Collected p p′ Added.Full → trackIn withPlaces (elementIn x) ≡ refused 13 (e .place)
+  params-full p p′ o =
+      let c = o (x .attrs) (elem-owned x row) in
+      track-steps (elementIn x) ∙ (rw (lt-leb (length (paramsOf withPlaces attrs)) 64 (c .0), place-is))
+
+  module _ (p p′ : List ℕ) (n : ℕ) (o : Collected p p′ (Added.Next n)) where
+    collected : Collects (paramsOf withPlaces attrs) p p′ (Added.Next n)
+    collected = o (x .attrs) (elem-owned x row)
+
+    pub many-params : length (paramsOf withPlaces attrs) ≡ n
+    many-params = sym (collected .0)
+
+    pub few-params : n ≤ 64
+    few-params = collected .1
+
+    after-params : trackIn withPlaces (elementIn x) ≡ (timingOf attrs >>= λ ctx. contentMeans (paramsOf withPlaces attrs) ctx (elementIn x))
+    after-params =
+        track-steps (elementIn x) ∙ (rw (le-leb (length (paramsOf withPlaces attrs)) 64 (omega (arith, many-params, few-params))))
+
+    -- a rate is refused
+    pub rates-no : (q : Refusal) → Timed (TimingSaid.Refused q) → trackIn withPlaces (elementIn x) ≡ turned q
+    rates-no q r = after-params ∙ (rw (← (r (x .attrs) (elem-owned x row))))
+
+    module _ (ctx : TimingCtx) (r : Timed (TimingSaid.Is ctx)) where
+      content-means : trackIn withPlaces (elementIn x) ≡ contentMeans (paramsOf withPlaces attrs) ctx (elementIn x)
+      content-means = after-params ∙ (rw (← (r (x .attrs) (elem-owned x row))))
+
+      -- ---- with its content
+      module _ (h s q c : List ℕ) (m : List ℤ) (g : List ℕ) (v : List ℤ) (f : List Float) (ex y : List ℕ) (ready : Ready z (rest h p s q c m g v f ex y))
+          (h′ s′ q′ c′ : List ℕ) (m′ : List ℤ) (g′ : List ℕ) (v′ : List ℤ) (f′ : List Float) (ex′ y′ : List ℕ) where
+        abbrev before : Tables
+        before = rest h p s q c m g v f ex y
+
+        pub tt-outcome : (a : promise.Answer)
+            → ContentOutcome (contentMeans (paramsOf withPlaces attrs) ctx (elementIn x)) (paramsOf withPlaces attrs) z before
+            (rest h′ p s′ q′ c′ m′ g′ v′ f′ ex′ y′) a
+            → Outcome (trackIn withPlaces (elementIn x)) z before (rest h′ p′ s′ q′ c′ m′ g′ v′ f′ ex′ y′) a
+        unfolding laidOf
+        tt-outcome promise.Answer.Track w =
+            let params = params-laid (paramsOf withPlaces attrs) p p′ n collected (ready .zero .params) (ready .long .params) in
+            record {
+              track = w .track;
+              means = content-means ∙ w .means;
+              laid = rest-laid (lengths before) (length z) (w .track) (w .head) (rw (w .same) params) (w .styles) (w .regions) (w .cues);
+            }
+        tt-outcome (promise.Answer.Refused i) w = content-means ∙ w
+
+-- ---- the first tt
+
+module _ {t u z : List ℕ} {n : ℕ} (x : Tree t u z n) {r : Found} (o : OfSiblings t 0 n (λ f. r ≡ findRow z (ascii "tt") 0 f)) where
+  pub root-no : r ≡ Found.Nothing → whole (nodesIn z (x .forest)) ≡ refused 12 0
+  unfolding trackOf
+  root-no e = rw (elem-none x (ascii "tt") o e)
+
+  pub root-is : {k : ℕ} (e : r ≡ Found.Row k)
+      → whole (nodesIn z (x .forest)) ≡ trackIn withPlaces (elementIn (elem-found x (ascii "tt") o e .element))
+  unfolding trackOf
+  root-is e = rw (elem-found x (ascii "tt") o e .is)
+
+pub track-as : {m n : Answer (Track Placed)} (z : List ℕ) (T T′ : Tables) (r : promise.Answer) → m ≡ n → Outcome n z T T′ r → Outcome m z T T′ r
+track-as z T T′ r e o = subst (λ (v : Answer (Track Placed)). Outcome v z T T′ r) (sym e) o

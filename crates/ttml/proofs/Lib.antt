@@ -1,0 +1,5 @@
+-- What the proofs of several functions use.
+pub mod Queries
+pub mod Trees
+pub mod Demands
+pub mod Marked

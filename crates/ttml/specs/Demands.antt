@@ -1,0 +1,147 @@
+-- The customer's demands, as statements about the calls of this crate, each sentence of document 01 beside its statement. Definitions alone;
+-- proofs/Demands proves every one of them.
+--
+-- What is said of a call is said of every outcome that its promise holds of: a text or a track, the tables that are lent, the answer, and the
+-- tables that are left. That the running call has such an outcome, whatever it is given, is what its contract says and the checker has proved:
+--     the tree reader    `parse_xml`           xml.Parsed text lent answer left
+--     the reader         `parse`               Parsed text lent answer left
+--     the single cue     `bytes_to_cue`        CueParsed text lent answer left
+--     the writer         `write`               Promise wholeText T out answer left
+--     one cue written    `cue_to_bytes`        Promise (cueNumber i) T out answer left
+--     the check          `check_track`         Checked T answer
+--     the three queries                        ReferencedStyle, RegionStyle, EffectiveStyle
+-- None of them asks anything of its caller.
+use Prim.Native.Nat.{ℕ, _-_, _≤_, _<_, _^_}
+use mathlib.Core.Path.{_≡_}
+use mathlib.Core.Bool.{true}
+use mathlib.Core.Logic.{_↔_}
+use mathlib.Core.List.{List, [], _∷_, _++_}
+use mathlib.Core.Option.{Option, none, some}
+use lib.ListN.{length, take, getD, replicate}
+use lib.IntN.{pos}
+use lib.Signed.{mag}
+use Rattle.unicode.specs.Utf8.{Utf8}
+use Rattle.entities.specs.Decode.{decoded}
+use Rattle.grammar.specs.Tree.{Forest}
+use Rattle.grammar.specs.Grammar.{Document}
+use Rattle.grammar.specs.Demand.{Derives, NoTwo, decodeForest}
+use Rattle.tree.specs.Trees as placed
+use Rattle.tree.specs.Answers.{Says}
+use Rattle.tree.specs.declared.answers.Answer as tree
+use Rattle.derivation.specs.Strings.{treeIn}
+use Rattle.track.specs.Track.{Bytes, Track}
+use Rattle.track.specs.Tables as track
+use Rattle.track.specs.Meaning.{trackIn}
+use Rattle.track.specs.Check.{Checked}
+use Rattle.track.specs.declared.check.Check.{Check}
+use Rattle.track.specs.Layout.{each}
+use Rattle.track.specs.Plain.{isPlainTrack}
+use Rattle.records.specs.Find.{findStyle}
+use Rattle.xml.specs.Promise as xml
+use Rattle.meaning.specs.Answers.{is, refused}
+use Rattle.meaning.specs.Kinds.{bare, nodesOf}
+use Rattle.meaning.specs.Meaning.{trackOf, cueOf}
+use Rattle.written.specs.Written.{writtenOf, cueWritten}
+use Rattle.readback.specs.Back.{cueBack}
+use Rattle.promised.specs.declared.Answer as reader
+use Rattle.promised.specs.Promise.{Tables, LongEnough, AllZero, Parsed, CueParsed, numberOf}
+use Rattle.laid.specs.Laid.{alone}
+use Rattle.writer.specs.declared.calls.Answer as writer
+use Rattle.writer.specs.Promise.{Promise, wholeText, cueNumber}
+use Rattle.writer.specs.Promise as writing
+use Rattle.styles.specs.Reaches.{Reaches, Exactly}
+use Rattle.styles.specs.Ids.{idsIn}
+use Rattle.queries.specs.declared.query.Resolved.{Resolved}
+use Rattle.queries.specs.Promise.{ReferencedStyle, styleIn, countOf}
+use Rattle.queries.specs.Promise as query
+
+-- ---- 1. "for each public call, the number, the place and every cell of every table afterwards follow from the input by its promise"
+
+-- two outcomes that a promise holds of are the same
+abbrev pub Determined : {Answer Left : Type 0} → (Answer → Left → Type 0) → Type 0
+Determined {Answer} {Left} promise = (x y : Answer) (a b : Left) → promise x a → promise y b → (x ≡ y) × (a ≡ b)
+
+pub record Demand1 : Type 0 where
+  pub tree-reader : (text : Bytes) (lent : xml.Tables) → Determined (xml.Parsed text lent)
+  pub parse : (text : Bytes) (lent : Tables) → Determined (Parsed text lent)
+  pub bytes-to-cue : (text : Bytes) (lent : Tables) → Determined (CueParsed text lent)
+  pub write : (T : track.Tables) (out : Bytes) → Determined (Promise wholeText T out)
+  pub cue-to-bytes : (i : ℕ) (T : track.Tables) (out : Bytes) → Determined (Promise (cueNumber i) T out)
+  pub check-track : (T : track.Tables) (x y : Check) → Checked T x → Checked T y → x ≡ y
+
+-- ---- 2. "Say of each result which definition it equals"
+
+-- a text that has its tree, which means what it does
+abbrev pub meansTrack : Forest → Track Bytes → Type 0
+meansTrack f t = trackOf bare (nodesOf (decodeForest decoded f)) ≡ is t
+
+pub record Demand2 : Type 0 where
+  -- `parse` gives the track that the derived tree means, and no other: it calls no film malformed, nor gives an empty track for one that has
+  -- cues. What it leaves passes `check_track`.
+  pub parse-gives : (text : Bytes) (lent left : Tables) (answer : reader.Answer) (f : Forest) (t : Track Bytes) → LongEnough lent → Utf8 text
+      → Derives text f → meansTrack f t → Parsed text lent answer left
+      → (answer ≡ reader.Answer.Track) × (trackIn (left .track) ≡ some t) × Checked (left .track) Check.Track
+  -- and takes nothing else
+  pub parse-only : (text : Bytes) (lent left : Tables) → Parsed text lent reader.Answer.Track left
+      → (f : Forest) × (t : Track Bytes) × Derives text f × meansTrack f t × (trackIn (left .track) ≡ some t)
+  -- "unused cells are zero": after a refusal all are
+  pub parse-clears : (text : Bytes) (lent left : Tables) (answer : reader.Answer) → Parsed text lent answer left → 0 < numberOf answer
+      → AllZero lent left
+
+  -- `write` leaves the text of the track, and nothing else: no blank output; "18" exactly where it does not fit
+  pub write-gives : (T : track.Tables) (t : Track Bytes) (out left : Bytes) (answer : writer.Answer) → track.LongEnough (track.lengths T)
+      → trackIn T ≡ some t → length (writtenOf t) ≤ length out → length (writtenOf t) ≤ 65536 → Promise wholeText T out answer left
+      → (answer ≡ writer.Answer.Bytes (length (writtenOf t))) × (left ≡ writtenOf t ++ replicate (length out - length (writtenOf t)) 0)
+  pub write-full : (T : track.Tables) (out left : Bytes) (answer : writer.Answer) → Promise wholeText T out answer left
+      → writing.numberOf answer ≡ 18
+      → (t : Track Bytes) × (trackIn T ≡ some t) × (¬ ((length (writtenOf t) ≤ length out) × (length (writtenOf t) ≤ 65536)))
+
+  -- "`resolve_referenced_style` gives no style exactly if no id reachable through chains names one."
+  pub resolver-follows : (value : Bytes) (T : track.Tables) (t : Track Bytes) (lent left : List ℕ) (answer : Resolved) → trackIn T ≡ some t
+      → ReferencedStyle value T lent answer left → query.numberOf answer ≡ 0
+      → (styleIn (T .strings) answer ≡ none) ↔ ((id : Bytes) → Reaches (t .styles) value id → findStyle id (t .styles) ≡ none)
+  -- "the ids reached, each once, […] and their count, equal to the number of distinct ids reachable"
+  pub resolver-counts : (value : Bytes) (T : track.Tables) (t : Track Bytes) (lent left : List ℕ) (answer : Resolved) → trackIn T ≡ some t
+      → ReferencedStyle value T lent answer left → query.numberOf answer ≡ 0
+      → Exactly (Reaches (t .styles) value) (idsIn value (T .strings) left (countOf answer))
+
+-- ---- 3. the grammar, and reading back
+
+-- "Reading back is `parse` on what `write` made": n bytes stand in `written`, and `left` is what `parse` leaves
+pub record Back (t : Track Bytes) (n : ℕ) (written : Bytes) (left : Tables) : Type 0 where
+  -- "the grammar derives the written text"
+  pub tree : Forest
+  pub derived : Document (take n written) tree
+  -- "and reading it back gives as many cues in the same order, each with the same style, region and segments as the cue handed in, and with its
+  -- start and end, each raised to 0 if negative and then rounded down to whole milliseconds" (`cueBack`)
+  pub given : Track Bytes
+  pub means : trackIn (left .track) ≡ some given
+  pub cues : given .cues ≡ each cueBack (t .cues)
+
+-- the cells of `times` are i64
+abbrev pub SignedTimes : track.Tables → Type 0
+SignedTimes T = (i : ℕ) → mag (getD (T .times) i (pos 0)) < 2 ^ 63
+
+pub record Demand3 : Type 0 where
+  -- "It is taken if the tree reader, lent tables that are long enough, answers without a number": exactly if the grammar derives a tree for it
+  -- within the limits
+  pub takes-exactly : (text : Bytes) (lent left : xml.Tables) (answer : tree.Answer) → xml.LongEnough lent → Utf8 text
+      → xml.Parsed text lent answer left → Says answer 0 0 ↔ ((f : Forest) × Derives text f)
+  -- "The tree reader gives it with entities read where the Rust reads them."
+  pub gives-that-tree : (text : Bytes) (lent left : xml.Tables) (answer : tree.Answer) (f : Forest) → xml.LongEnough lent → Utf8 text
+      → Derives text f → xml.Parsed text lent answer left
+      → (g : placed.Forest) × (treeIn (left .strings) g ≡ decodeForest decoded f)
+      × (left .nodes ≡ xml.thenZeros (placed.rows 0 0 g) (length (lent .nodes)))
+      × (left .attrs ≡ xml.thenZeros (placed.attrRows (placed.attrsOf g)) (length (lent .attrs)))
+  -- no text has two trees
+  pub no-two : NoTwo
+  -- for every plain track: its writing meets no number, nor does its written text
+  pub reads-back : (T : track.Tables) (t : Track Bytes) → SignedTimes T → trackIn T ≡ some t → isPlainTrack t ≡ true
+      → (out written : Bytes) (n : ℕ) → Promise wholeText T out (writer.Answer.Bytes n) written
+      → (lent left : Tables) → Parsed (take n written) lent reader.Answer.Track left → Back t n written left
+
+-- ---- all of them
+pub record Demands : Type 0 where
+  pub first : Demand1
+  pub second : Demand2
+  pub third : Demand3

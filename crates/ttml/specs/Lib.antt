@@ -1,0 +1,5 @@
+pub mod Told
+pub mod Trees
+pub mod Queries
+pub mod Demands
+pub mod Marked

@@ -1,0 +1,69 @@
+-- The cases that document 01 marks [P], all of them in one table. Definitions alone; proofs/Marked has one proof of the whole table.
+use mathlib.Core.Path.{_≡_}
+use mathlib.Core.Bool.{true, false}
+use mathlib.Core.List.{List, [], _∷_, _++_}
+use lib.IntN.{ℤ, pos, negsuc}
+use lib.Ieee.{binary64, ofInt}
+use Rattle.scan.specs.Text.{ascii}
+use Rattle.entities.specs.Decode.{decoded}
+use Rattle.times.specs.declared.offset.TimingCtx.{TimingCtx}
+use Rattle.times.specs.declared.offset.Time.{Time}
+use Rattle.times.specs.declared.offset.Time.the-variants.{Is, Nothing}
+use Rattle.times.specs.Expressions.{float, timeIn}
+use Rattle.times.specs.Written.{clockText}
+use Rattle.track.specs.Track.{Bytes}
+use Rattle.grammar.specs.Tree.{Forest, text, element, none, more}
+use Rattle.grammar.specs.Demand.{Derives, decodeForest}
+
+-- a document without rates, and one with a frame rate
+abbrev pub noRates : TimingCtx
+noRates = record { «frame_rate» = float 0; «has_frame_rate» = false; «tick_rate» = float 0; «has_tick_rate» = false }
+
+abbrev pub frameRate : ℤ → TimingCtx
+frameRate z = record { «frame_rate» = ofInt binary64 z; «has_frame_rate» = true; «tick_rate» = float 0; «has_tick_rate» = false }
+
+-- an element without attributes
+abbrev pub plain : Bytes → Forest → Forest → Forest
+plain name content after = more (element name [] content) after
+
+-- a text and its tree; a text and what is read for it, entities read; a time's text and what it says; a time and how it is written
+pub data Case : Type 0 where
+  tree : Bytes → Forest → Case
+  entities : (s read : Bytes) → Case
+  time : Bytes → TimingCtx → Time → Case
+  written : ℤ → Bytes → Case
+
+-- what each says: the grammar derives the tree, whose texts have no entities; the others by the definitions of the readers and the writer
+unfoldable pub Holds : Case → Type 0
+Holds (tree s f) = Derives s f × (decodeForest decoded f ≡ f)
+Holds (entities s read) = decoded s ≡ read
+Holds (time s ctx t) = timeIn s ctx ≡ t
+Holds (written z s) = clockText z ≡ s
+
+abbrev pub All : List Case → Type 0
+All [] = Unit {0}
+All (c ∷ l) = Holds c × All l
+
+abbrev pub marked : List Case
+marked =
+    -- "A comment directly before `</` […]: d holds one p; the second p is d's sibling."
+    tree (ascii "<d><p>a<!--c--></p><p>b</p></d>")
+    (plain (ascii "d") (plain (ascii "p") (more (text (ascii "a")) none) none) (plain (ascii "p") (more (text (ascii "b")) none) none))
+    ∷ entities (ascii "&#+65;") (ascii "A")
+    ∷ entities (ascii "&AMP;") (ascii "&AMP;")
+    -- "`00:05` is hours and minutes"
+    ∷ time (ascii "00:05") noRates (Is (pos 300000000))
+    ∷ time (ascii "00:00:01.1234567") noRates (Is (pos 1123456))
+    ∷ time (ascii "00:00:01.+5") noRates (Is (pos 1050000))
+    ∷ time (ascii "00:00:01.5" ++ (0xC3 ∷ 0xA9 ∷ [])) noRates (Is (pos 1000000))  -- é
+    ∷ time (ascii "-1s") noRates (Is (negsuc 999999))
+    -- "`5f` is no time without frameRate or with one at or below 0; at 25 it is 200,000"
+    ∷ time (ascii "5f") noRates Nothing
+    ∷ time (ascii "5f") (frameRate (pos 0)) Nothing
+    ∷ time (ascii "5f") (frameRate (negsuc 24)) Nothing
+    ∷ time (ascii "5f") (frameRate (pos 25)) (Is (pos 200000))
+    -- "Written"
+    ∷ written (negsuc 0) (ascii "00:00:00.000")
+    ∷ written (pos 1999) (ascii "00:00:00.001")
+    ∷ written (pos 9223372036854775807) (ascii "2562047788:00:54.775")
+    ∷ []
