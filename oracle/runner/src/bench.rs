@@ -39,6 +39,16 @@ impl Bench {
         println!("    the port's time grows by {:.2}, to {:.3} s", second / first, second / 1e9);
     }
 
+    /// Times the port on a part of its work and on the whole, and prints how much of it the part is.
+    pub fn share<A, B>(&mut self, what: &str, part: impl FnMut() -> A, whole: impl FnMut() -> B) {
+        let (part_best, whole_best) = in_turn(part, whole);
+        println!(
+            "    {what} takes {:.1} µs, {:.0} % of the port's time",
+            part_best / 1e3,
+            100.0 * part_best / whole_best
+        );
+    }
+
     /// The same on short texts, of which each is asked once. Both answers are compared before.
     pub fn texts<A: PartialEq + Debug>(
         &mut self,

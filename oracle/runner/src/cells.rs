@@ -3,6 +3,7 @@
 
 use crate::placed::{Cue, Extras, Placed, Segment, Style, Track, Wrapper};
 use crate::rows::{Read, Rows};
+use crate::sum::{Sum, unsigned};
 use crate::tables::{SEGMENTS, align, spelling};
 
 #[derive(Default)]
@@ -66,6 +67,23 @@ impl Cells {
         self.head.extend(counts.map(|count| count as u32));
         self.head.extend(optional(&track.lang));
         self.head.extend([strings as u32, texts as u32]);
+    }
+
+    /// What a recording has in the place of all cells: `sum.rs`. Sizes are left out: their spelling stands in the rows.
+    pub fn sum(&self) -> u32 {
+        let mut sum = Sum::default();
+        for table in
+            [&self.tree.nodes, &self.tree.attrs, &self.head, &self.params, &self.styles, &self.regions, &self.cues]
+        {
+            sum.table(table.iter().map(|&cell| cell as u64));
+        }
+        sum.table(self.times.iter().map(|&us| unsigned(us)));
+        sum.table(self.segments.iter().map(|&cell| cell as u64));
+        sum.table(self.reveal.iter().map(|&us| unsigned(us)));
+        sum.table(self.extras.iter().map(|&cell| cell as u64));
+        sum.table(self.tree.strings.iter().map(|&byte| byte as u64));
+        sum.table(self.texts.iter().map(|&byte| byte as u64));
+        sum.0 as u32
     }
 
     fn style(&mut self, style: &Style) {

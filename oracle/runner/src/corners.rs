@@ -12,10 +12,14 @@ fn quoted(value: &str) -> String {
 /// All that are not at a limit.
 pub fn corners() -> Vec<String> {
     let mut corners: Vec<String> =
-        [WHOLE, TREE, TIMES, INLINE, HEAD, READINGS].concat().into_iter().map(String::from).collect();
+        [WHOLE, TREE, TIMES, INLINE, READINGS].concat().into_iter().map(String::from).collect();
     corners.extend(INLINE.iter().map(|inline| format!("<tt><body><p>{inline}</p><p>x</p></body></tt>")));
     corners.extend(INLINE.iter().map(|inline| format!("<p xml:space='preserve'>{inline}</p>")));
     corners.extend(INLINE.iter().map(|inline| format!("<tt xml:space='preserve'><body><p tts:color='zz'>{inline}")));
+    corners.extend(HEAD.iter().map(|head| format!("<tt><head>{head}</head></tt>")));
+    corners.extend(
+        HEAD.iter().map(|head| format!("<tt><head>{head}</head><body><p tts:zIndex='3' tts:border='4'/></body></tt>")),
+    );
     corners.extend(documents());
     for text in PUBLISHED {
         corners.push(text.to_string());
@@ -185,6 +189,8 @@ const TIMES: &[&str] = &[
     "<tt><body><p begin='5s' end='1s'/><p begin='5s' dur='-2s'/></body></tt>",
     "<tt><body timeContainer='seq'><p begin='5s' end='1s'/><p/></body></tt>",
     "<tt><body timeContainer='seq'><div><p dur='1s'/><p dur='2s'/></div><p/></body></tt>",
+    "<tt><body timeContainer='seq'><div><p dur='3s'/><p dur='2s'/></div><p/></body></tt>",
+    "<tt><body timeContainer='seq'><x><p dur='3s'/></x><x><p dur='-9s'/></x><p/></body></tt>",
     "<tt><body timeContainer='seq'><div dur='9s'><p dur='1s'/></div><p/></body></tt>",
     "<tt><body timeContainer='seq'><div dur='-9s'><p dur='1s'/></div><p/><x/><p/></body></tt>",
     "<tt><body timeContainer='seq'><x><p dur='1s'/><p dur='2s'/></x><p/></body></tt>",
@@ -270,7 +276,8 @@ const INLINE: &[&str] = &[
     "a <span begin='1s'/><br/>",
     "<span begin='1s' tts:fontWeight='bold'>a</span>",
     "<span begin='x'>a</span>",
-    "<span tts:fontWeight='bold' tts:fontStyle='italic' tts:textDecoration='underline line-through' tts:color='red' tts:fontFamily='F' tts:fontSize='9px'>a</span>",
+    "<span tts:fontWeight='bold' tts:fontStyle='italic' tts:textDecoration='underline line-through'>a</span>",
+    "<span tts:fontStyle='italic' tts:textDecoration='strike' tts:color='red' tts:fontFamily='F' tts:fontSize='9px'>a</span>",
     "<span tts:color='zz'>a</span>",
     "<span tts:color='zz'>a<br/>b</span>",
     "<span tts:fontFamily=''>a</span>",
@@ -306,33 +313,33 @@ const INLINE: &[&str] = &[
     "<span>&lt;&amp;&gt;&quot;&apos;</span>",
 ];
 
-/// Styles and regions.
+/// What stands in a head: styles and regions.
 const HEAD: &[&str] = &[
-    "<tt><head><styling><style id='a' xml:id='b'/><style/><style xml:id=''/><style xml:id/></styling></head></tt>",
-    "<tt><head><styling><style tts:color='#aé' tts:fontSize='1e9'/></styling></head></tt>",
-    "<tt><head><styling><style id='a' tts:color='#aé' tts:fontSize='1234567'/></styling></head></tt>",
-    "<tt><head><styling><style id='a' tts:backgroundColor='#aé' tts:fontSize='1234567'/></styling></head></tt>",
-    "<tt><head><styling><style id='a' tts:fontSize='1e9px'/><style id='b' tts:fontSize='px'/><style id='c' tts:fontSize='-5px'/></styling></head></tt>",
-    "<tt><head><styling><style id='a' tts:fontSize='80%' tts:color='#+f+f+f'/></styling></head></tt>",
-    "<tt><head><styling><style id='a' style=' b  c '/><style id='b' style='  '/><style id='c' style='\u{3000}d\u{85}'/></styling></head></tt>",
-    "<tt><head><styling><style id='a' tts:textAlign='justify'/><style id='b' tts:textAlign=' JUSTIFY '/><style id='c' tts:textAlign='middle'/></styling></head></tt>",
-    "<tt><head><styling><style id='a' tts:textAlign='END'/><style id='b' tts:textAlign='\u{A0}left\u{A0}'/><style id='c' tts:textAlign='start'/></styling></head></tt>",
-    "<tt><head><styling><style id='a' tts:zIndex='1' tts:backgroundClip='2' itts:fillLineGap='3' tts:origin='4' TTS:ORIGIN='5'/></styling></head></tt>",
-    "<tt><head><styling><style id='a' tts:textDecoration='underline strike'/><style id='b' tts:textDecoration='lineThrough'/></styling></head></tt>",
-    "<tt><head><styling><style id='a' tts:fontWeight='bold'/><style id='a' tts:fontStyle='oblique' style='b'/><style id='a' tts:opacity='1'/></styling></head></tt>",
-    "<tt><head><layout><region id='a' xml:id='b'/><region/><region id=''/></layout></head></tt>",
-    "<tt><head><layout><region id='a' tts:color='#aé' tts:fontSize='1e9' tts:textDecoration='underline' style=' b ' tts:textAlign='left'/></layout></head></tt>",
-    "<tt><head><layout><region id='a'><style tts:origin='x'/></region><x><region id='b'/></x></layout></head></tt>",
-    "<tt><head><layout><region id='r' tts:zIndex='1'/></layout><styling><style id='a' tts:zIndex='2'/></styling></head><body><p tts:zIndex='3' tts:border='4'/></body></tt>",
-    "<tt><head><styling/><styling><style id='a'/></styling></head></tt>",
-    "<tt><head/><head><styling><style id='a'/></styling></head></tt>",
-    "<tt><head><x><styling><style id='a'/></styling></x></head></tt>",
-    "<tt><head><styling><x><style id='a'/></x><Y:STYLE ID='b'/></styling></head></tt>",
-    "<tt><head><styling><style id='&amp;&#65;' tts:fontFamily='&quot;' tts:origin='&lt;' style='&#32;a&#32;'/></styling></head></tt>",
+    "<styling><style id='a' xml:id='b'/><style/><style xml:id=''/><style xml:id/></styling>",
+    "<styling><style tts:color='#aé' tts:fontSize='1e9'/></styling>",
+    "<styling><style id='a' tts:color='#aé' tts:fontSize='1234567'/></styling>",
+    "<styling><style id='a' tts:backgroundColor='#aé' tts:fontSize='1234567'/></styling>",
+    "<styling><style id='a' tts:fontSize='1e9px'/><style id='b' tts:fontSize='px'/><style id='c' tts:fontSize='-5px'/></styling>",
+    "<styling><style id='a' tts:fontSize='80%' tts:color='#+f+f+f'/></styling>",
+    "<styling><style id='a' style=' b  c '/><style id='b' style='  '/><style id='c' style='\u{3000}d\u{85}'/></styling>",
+    "<styling><style id='a' tts:textAlign='justify'/><style id='b' tts:textAlign=' JUSTIFY '/><style id='c' tts:textAlign='middle'/></styling>",
+    "<styling><style id='a' tts:textAlign='END'/><style id='b' tts:textAlign='\u{A0}left\u{A0}'/><style id='c' tts:textAlign='start'/></styling>",
+    "<styling><style id='a' tts:zIndex='1' tts:backgroundClip='2' itts:fillLineGap='3' tts:origin='4' TTS:ORIGIN='5'/></styling>",
+    "<styling><style id='a' tts:textDecoration='underline strike'/><style id='b' tts:textDecoration='lineThrough'/></styling>",
+    "<styling><style id='a' tts:fontWeight='bold'/><style id='a' tts:fontStyle='oblique' style='b'/><style id='a' tts:opacity='1'/></styling>",
+    "<layout><region id='a' xml:id='b'/><region/><region id=''/></layout>",
+    "<layout><region id='a' tts:color='#aé' tts:fontSize='1e9' tts:textDecoration='underline' style=' b ' tts:textAlign='left'/></layout>",
+    "<layout><region id='a'><style tts:origin='x'/></region><x><region id='b'/></x></layout>",
+    "<layout><region id='r' tts:zIndex='1'/></layout><styling><style id='a' tts:zIndex='2'/></styling>",
+    "<styling/><styling><style id='a'/></styling>",
+    "<x><styling><style id='a'/></styling></x>",
+    "<styling><x><style id='a'/></x><Y:STYLE ID='b'/></styling>",
+    "<styling><style id='&amp;&#65;' tts:fontFamily='&quot;' tts:origin='&lt;' style='&#32;a&#32;'/></styling>",
 ];
 
 /// Those that the readings name besides.
 const READINGS: &[&str] = &[
+    "<tt><head/><head><styling><style id='a'/></styling></head></tt>",
     "<tt><body><p begin=\"1e3f\">",
     "<tt><body><p begin=\"0:0:0:nan\">",
     "<tt><body><p begin=\"0.0000000000000000000001s\">",

@@ -217,13 +217,23 @@ impl Lending {
 
     /// Number and place of the port's answer.
     pub fn ask(&mut self, call: Call, text: &[u8], lengths: &Lengths, care: Care) -> (u32, u32) {
+        let told = self.call(call, text, lengths, care);
+        (told as u32, (told >> 32) as u32)
+    }
+
+    /// The number alone, for its time: few cells are filled before.
+    pub fn time(&mut self, call: Call, text: &[u8]) -> u32 {
+        self.call(call, text, &FIXED, Care::Near(0)) as u32
+    }
+
+    fn call(&mut self, call: Call, text: &[u8], lengths: &Lengths, care: Care) -> u64 {
         self.calls += 1;
         let (l, n) = (lengths, self.calls);
         let function = match call {
             Call::Parse => port::pg_parse,
             Call::Cue => port::pg_bytes_to_cue,
         };
-        let told = function(
+        function(
             text,
             self.nodes.lend(l, care, n),
             self.attrs.lend(l, care, n),
@@ -239,8 +249,7 @@ impl Lending {
             self.extras.lend(l, care, n),
             self.strings.lend(l, care, n),
             self.texts.lend(l, care, n),
-        );
-        (told as u32, (told >> 32) as u32)
+        )
     }
 
     /// The first cell that is not what it must be, after `ask` with the same lengths and care.

@@ -27,10 +27,17 @@ impl Debug for Input<'_> {
     }
 }
 
-/// The tree, or number and place of what turns the text away, 2 to 11. `None` if document 01 and the Rust differ, which
-/// counts as a difference.
-pub fn read<'a>(run: &mut Run, text: &'a [u8]) -> Option<Result<Read<'a>, Refusal>> {
-    let refused = |number, place| Some(Err(Refusal { place, number }));
+/// What a text is, up to its tree.
+pub enum Reading<'a> {
+    Tree(Read<'a>),
+    /// 2 to 11.
+    Refused(Refusal),
+    /// Document 01 and the Rust do not say the same: what the Rust says, and what document 01.
+    Differs(String, String),
+}
+
+pub fn read(text: &[u8]) -> Reading<'_> {
+    let refused = |number, place| Reading::Refused(Refusal { place, number });
     if text.len() > BYTES {
         return refused(2, 0);
     }
@@ -46,14 +53,23 @@ pub fn read<'a>(run: &mut Run, text: &'a [u8]) -> Option<Result<Read<'a>, Refusa
         Err(_) => document.error.is_some(),
     };
     if !same {
-        let rust = format!("{:?}", tree.map_err(|_| "an error"));
-        let said = format!("{:?}", document.refusal());
-        run.same("document 01", format_args!("{:?}", Input(text.as_bytes())), rust, said);
-        return None;
+        return Reading::Differs(format!("{:?}", tree.map_err(|_| "an error")), format!("{:?}", document.refusal()));
     }
     match document.refusal() {
-        Some(refusal) => Some(Err(refusal)),
-        None => Some(Ok(Read { text, document, tree: tree.unwrap_or_default() })),
+        Some(refusal) => Reading::Refused(refusal),
+        None => Reading::Tree(Read { text, document, tree: tree.unwrap_or_default() }),
+    }
+}
+
+/// The same; that the two differ counts as a difference.
+pub fn read_in<'a>(run: &mut Run, text: &'a [u8]) -> Option<Result<Read<'a>, Refusal>> {
+    match read(text) {
+        Reading::Tree(read) => Some(Ok(read)),
+        Reading::Refused(refusal) => Some(Err(refusal)),
+        Reading::Differs(rust, said) => {
+            run.same("document 01", format_args!("{:?}", Input(text)), rust, said);
+            None
+        }
     }
 }
 

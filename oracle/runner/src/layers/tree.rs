@@ -161,7 +161,7 @@ impl Tables {
         if lengths.iter().zip(FIXED).any(|(&length, fixed)| length < fixed) {
             return Some((1, [0; 3]));
         }
-        match rows::read(run, text)? {
+        match rows::read_in(run, text)? {
             Err(refusal) => Some((refusal.number, [refusal.place as u64, 0, 0])),
             Ok(read) => {
                 self.must.fill(&read);

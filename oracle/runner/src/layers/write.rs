@@ -3,10 +3,12 @@
 
 use super::Layer;
 use super::styles::{BREAKS, WHOLE};
+use crate::bench::Bench;
 use crate::compare::{Run, deep};
 use crate::corners::corners;
 use crate::document::BYTES;
 use crate::films::{documents, film};
+use crate::hostile::hostile;
 use crate::lending::{Call, Care, FIXED, Lending as Reading};
 use crate::placed::{Cue, Placed, Segment, Track, Wrapper};
 use crate::soil::soil;
@@ -19,7 +21,7 @@ use reference::ir::SubtitleTrack;
 use reference::ttml::{self, access};
 use std::fmt::{self, Debug, Formatter};
 
-pub const LAYER: Layer = Layer { name: "write", compare, record: None, bench: None };
+pub const LAYER: Layer = Layer { name: "write", compare, record: None, bench: Some(bench) };
 
 fn compare(run: &mut Run) {
     deep(|| {
@@ -243,4 +245,47 @@ fn nested(depth: usize, last: usize) -> Track {
         segments = vec![Segment::Wrapper(wrapper, segments)];
     }
     Track { cues: vec![cue(1, segments)], ..Track::default() }
+}
+
+fn bench(bench: &mut Bench) {
+    deep(|| {
+        for (name, text) in [
+            ("film", film(60_000)),
+            ("short film", film(3_000)),
+            ("one cue", "<tt><body><p begin='1s'>A<br/>B".to_string()),
+        ] {
+            row(bench, name, &text);
+        }
+        for ((name, half), (_, whole)) in hostile(20_000).iter().zip(&hostile(40_000)) {
+            let (small, large) = (row(bench, name, half), row(bench, name, whole));
+            let (mut first, mut second) = (vec![0; BYTES], vec![0; BYTES]);
+            bench.growth(
+                || write(&small.handed(Lending::Fixed), &mut first),
+                || write(&large.handed(Lending::Fixed), &mut second),
+            );
+        }
+    });
+}
+
+/// Both sides on the track of a text, and on its first cue; gives the tables.
+fn row(bench: &mut Bench, name: &str, text: &str) -> Tables {
+    let track = ttml::parse(text.as_bytes()).unwrap();
+    let mut tables = Tables::new();
+    tables.lay(&track).unwrap();
+    let handed = tables.handed(Lending::Fixed);
+    let (written, cue) = (ttml::write(&track), access::cue_to_bytes(&track.cues[0]));
+    // As many bytes as are needed: what is left over would be cleared.
+    let mut out = vec![0; written.len()];
+    assert!(written.len() > BYTES || write(&handed, &mut out) >> 32 == written.len() as u64, "write differs on {name}");
+    assert_eq!(cue_to_bytes(&handed, 0, &mut out) >> 32, cue.len() as u64, "cue_to_bytes differs on {name}");
+    bench.row(&format!("write, {name}"), written.len(), || ttml::write(&track), || write(&handed, &mut out));
+    let first = &track.cues[0];
+    let mut out = vec![0; cue.len()];
+    bench.row(
+        &format!("cue_to_bytes, {name}"),
+        cue.len(),
+        || access::cue_to_bytes(first),
+        || cue_to_bytes(&handed, 0, &mut out),
+    );
+    tables
 }
