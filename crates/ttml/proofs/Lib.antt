@@ -3,3 +3,4 @@ pub mod Queries
 pub mod Trees
 pub mod Demands
 pub mod Marked
+pub mod Rewriting

@@ -3,3 +3,5 @@ pub mod Trees
 pub mod Queries
 pub mod Demands
 pub mod Marked
+pub mod Recaption
+pub mod ReadBack

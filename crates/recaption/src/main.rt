@@ -1,0 +1,68 @@
+// Reads TTML on standard input and writes it anew on standard output; on a refusal only the number, a blank, the place and LF.
+ghost use lib.ListN.{length};
+ghost use Rattle.recaption.specs.Fits.{Fits};
+use libc::STDIN_FILENO;
+use libc::STDOUT_FILENO;
+use tree::Refusal;
+use writer::Answer;
+
+fn main() {
+    // one byte more than a text may have: longer input meets 2
+    let mut text = [0u8; 65537];
+    let got = io::read_full(STDIN_FILENO, &mut text);
+    let mut nodes = [0u32; 49152];
+    let mut attrs = [0u32; 32768];
+    let mut head = [0u32; 10];
+    let mut params = [0u32; 256];
+    let mut styles = [0u32; 6912];
+    let mut regions = [0u32; 1024];
+    let mut cues = [0u32; 22528];
+    let mut times = [0i64; 4096];
+    let mut segments = [0u32; 131072];
+    let mut reveal = [0i64; 16384];
+    let mut sizes = [0f32; 16640];
+    let mut extras = [0u32; 24576];
+    let mut strings = [0u8; 65536];
+    let mut texts = [0u8; 65536];
+    let mut out = [0u8; 65536];
+    let answer = ttml::recaption(
+        &text[..got],
+        &mut nodes,
+        &mut attrs,
+        &mut head,
+        &mut params,
+        &mut styles,
+        &mut regions,
+        &mut cues,
+        &mut times,
+        &mut segments,
+        &mut reveal,
+        &mut sizes,
+        &mut extras,
+        &mut strings,
+        &mut texts,
+        &mut out,
+    );
+    say(answer, &out);
+}
+
+// What stands in `out`, or the refusal.
+fn say(answer: Answer, out: &[u8])
+    requires { ⌜ Fits answer (length (now out)) ⌝ }
+{
+    match answer {
+        Answer::Bytes(n) => {
+            io::write_all(STDOUT_FILENO, &out[..n]);
+        }
+        Answer::Refused(r) => {
+            refuse(r);
+        }
+    }
+}
+
+fn refuse(r: Refusal) {
+    io::print_decimal(STDOUT_FILENO, r.number as u64);
+    io::write_all(STDOUT_FILENO, b" ");
+    io::print_decimal(STDOUT_FILENO, r.place as u64);
+    io::write_all(STDOUT_FILENO, b"\n");
+}

@@ -1,0 +1,20 @@
+-- What reading a text and writing it anew promises. Definitions alone.
+use mathlib.Core.Path.{_≡_}
+use mathlib.Core.List.{List}
+use Prim.Native.Nat.{ℕ}
+use lib.ListN.{length, replicate}
+use Rattle.track.specs.Track.{Bytes}
+use Rattle.promised.specs.declared.Answer as reader
+use Rattle.promised.specs.Promise.{Tables, Parsed}
+use Rattle.writer.specs.declared.calls.Answer as writer
+use Rattle.writer.specs.Promise.{Promise, wholeText}
+
+-- after the text was read: its track is written; or the answer is the reader's number and place, and nothing is written
+abbrev pub ThenWritten : reader.Answer → (left : Tables) (out : Bytes) → writer.Answer → (written : Bytes) → Type 0
+ThenWritten reader.Answer.Track left out answer written = Promise wholeText (left .track) out answer written
+ThenWritten (reader.Answer.Refused r) left out answer written = (answer ≡ writer.Answer.Refused r) × (written ≡ replicate (length out) 0)
+
+pub record Recaptioned (text : Bytes) (lent : Tables) (out : Bytes) (answer : writer.Answer) (left : Tables) (written : Bytes) : Type 0 where
+  pub reading : reader.Answer
+  pub read : Parsed text lent reading left
+  pub writes : ThenWritten reading left out answer written

@@ -1,0 +1,72 @@
+// A text read and written anew.
+ghost use Rattle.promised.specs.Promise.{tables};
+ghost use Rattle.ttml.specs.Recaption.{Recaptioned};
+use writer::Answer;
+
+// The track of the text, written to `out`; the track itself is left in its tables.
+pub fn recaption(
+    text: &[u8],
+    nodes: &mut [u32],
+    attrs: &mut [u32],
+    head: &mut [u32],
+    params: &mut [u32],
+    styles: &mut [u32],
+    regions: &mut [u32],
+    cues: &mut [u32],
+    times: &mut [i64],
+    segments: &mut [u32],
+    reveal: &mut [i64],
+    sizes: &mut [f32],
+    extras: &mut [u32],
+    strings: &mut [u8],
+    texts: &mut [u8],
+    out: &mut [u8],
+) -> Answer
+    ensures { λ r. ⌜ Recaptioned (now (text .entry))
+        (tables (now (nodes .entry)) (now (attrs .entry)) (now (head .entry)) (now (params .entry)) (now (styles .entry))
+        (now (regions .entry)) (now (cues .entry)) (now (times .entry)) (now (segments .entry)) (now (reveal .entry)) (now (sizes .entry))
+        (now (extras .entry)) (now (strings .entry)) (now (texts .entry)))
+        (now (out .entry)) r
+        (tables (now (nodes .exit)) (now (attrs .exit)) (now (head .exit)) (now (params .exit)) (now (styles .exit)) (now (regions .exit))
+        (now (cues .exit)) (now (times .exit)) (now (segments .exit)) (now (reveal .exit)) (now (sizes .exit)) (now (extras .exit))
+        (now (strings .exit)) (now (texts .exit)))
+        (now (out .exit)) ⌝ }
+{
+    match reader::parse(
+        text,
+        nodes,
+        attrs,
+        head,
+        params,
+        styles,
+        regions,
+        cues,
+        times,
+        segments,
+        reveal,
+        sizes,
+        extras,
+        strings,
+        texts,
+    ) {
+        promised::Answer::Refused(r) => {
+            scan::clear_bytes(out);
+            Answer::Refused(r)
+        }
+        promised::Answer::Track => document::write(
+            head,
+            params,
+            styles,
+            regions,
+            cues,
+            times,
+            segments,
+            reveal,
+            sizes,
+            extras,
+            strings,
+            texts,
+            out,
+        ),
+    }
+}
