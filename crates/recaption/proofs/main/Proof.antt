@@ -3,11 +3,6 @@ use borrow.Author.Needs.{needs}
 use Rattle.recaption.proofs.Fitting.{fitting}
 use Rattle.recaption.proofs.main.Statement.{statement}
 use Rattle.recaption.proofs.main.Tie as tie
-use Rattle.recaption.proofs.main.Reads as reads
-use Rattle.recaption.proofs.main.Lts as lts
-use Rattle.io.proofs.read_full.Reads as read-full-reads
-use Rattle.recaption.proofs.say.Reads as say-reads
-use Rattle.ttml.proofs.recaption.Reads as recaption-reads
 
 slice-aggregate-read-full : tie.Need-slice-aggregate-read-full
 slice-aggregate-read-full c = search needs

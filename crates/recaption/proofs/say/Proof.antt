@@ -1,17 +1,16 @@
 -- `say` is safe and ends.
 use borrow.Author.Needs.{needs}
+use Rattle.recaption.proofs.Fitting.{counted}
 use Rattle.recaption.proofs.say.Statement.{statement}
 use Rattle.recaption.proofs.say.Tie as tie
-use Rattle.recaption.proofs.say.Reads as reads
-use Rattle.recaption.proofs.say.Lts as lts
-use Rattle.io.proofs.write_all.Reads as write-all-reads
-use Rattle.recaption.proofs.refuse.Reads as refuse-reads
 
 enum-known-answer : tie.Need-enum-known-answer
 enum-known-answer c = search needs
 
 slice-aggregate-write-all : tie.Need-slice-aggregate-write-all
-slice-aggregate-write-all c = ?
+slice-aggregate-write-all c =
+    let s = c .before .before .before .before .before in
+    counted (s .args .out .now) (c .before .before .answer .given .1) (s .pre)
 
 write-all-requires : tie.Need-write-all-requires
 write-all-requires c κs = search needs
