@@ -74,16 +74,6 @@ exports! {
     /// As `probe_escape_text`.
     fn probe_escape_attr(text: &[u8], out: &mut [u8]) -> usize;
 
-    /// 0: the tree stands in the three tables; else document 01's number, 1 to 11. `out` is the place of a refusal, and
-    /// how many nodes and attributes a tree has. `u32::MAX` if it has fewer than 3 cells; then no table is touched.
-    fn probe_parse_xml(
-        text: &[u8],
-        nodes: &mut [u32],
-        attrs: &mut [u32],
-        strings: &mut [u8],
-        out: &mut [u64]
-    ) -> u32;
-
     /// 0: no decimal; 1: one, and `out` is its digits, how many of them stand behind the point, and 1 for a minus;
     /// 2: one past the limits. 3 if `out` has fewer than 3 cells, or the limits are above 18 or 2^32 - 1.
     fn probe_decimal(text: &[u8], digits: u64, decimals: u64, out: &mut [u64]) -> u32;
@@ -113,73 +103,19 @@ exports! {
     fn probe_color(text: &[u8], out: &mut [u8]) -> u32;
     /// As `probe_escape_text`.
     fn probe_color_text(r: u8, g: u8, b: u8, a: u8, alpha: bool, out: &mut [u8]) -> usize;
-
-    /// `resolve_referenced_style` on a handed track: 0, or document 01's number. The ids reached stand in `ids`, a row of
-    /// four cells each: 0 (in `value`) or 1 (in `strings`), place, length, 0. `out` is the place of a refusal, 1 for a
-    /// style, how many ids, and of a style: its name (place and length in `value`), colour and background (flag, red,
-    /// green, blue, alpha), family (flag, place, length in `strings`), size (flag, 1 for a minus, digits, scale), bold,
-    /// italic, underline, strike, alignment. `size[0]` is the f32. `u32::MAX` if there are fewer than 27 and 1 cells.
-    fn probe_resolve_referenced_style(
-        value: &[u8],
-        head: &[u32],
-        params: &[u32],
-        styles: &[u32],
-        regions: &[u32],
-        cues: &[u32],
-        times: &[i64],
-        segments: &[u32],
-        reveal: &[i64],
-        sizes: &[f32],
-        extras: &[u32],
-        strings: &[u8],
-        texts: &[u8],
-        ids: &mut [u32],
-        out: &mut [u64],
-        size: &mut [f32]
-    ) -> u32;
-    /// `region_style`; the same.
-    fn probe_region_style(
-        id: &[u8],
-        head: &[u32],
-        params: &[u32],
-        styles: &[u32],
-        regions: &[u32],
-        cues: &[u32],
-        times: &[i64],
-        segments: &[u32],
-        reveal: &[i64],
-        sizes: &[f32],
-        extras: &[u32],
-        strings: &[u8],
-        texts: &[u8],
-        ids: &mut [u32],
-        out: &mut [u64],
-        size: &mut [f32]
-    ) -> u32;
-    /// `effective_style_for_cue_index`; the same.
-    fn probe_effective_style_for_cue_index(
-        head: &[u32],
-        params: &[u32],
-        styles: &[u32],
-        regions: &[u32],
-        cues: &[u32],
-        times: &[i64],
-        segments: &[u32],
-        reveal: &[i64],
-        sizes: &[f32],
-        extras: &[u32],
-        strings: &[u8],
-        texts: &[u8],
-        cue_index: usize,
-        ids: &mut [u32],
-        out: &mut [u64],
-        size: &mut [f32]
-    ) -> u32;
 }
 
-// The public calls, of libttml.a.
+// The public calls, of libttml.a. Document 01's number stands in the low 32 bits of an answer, 0 for none, and in the high 32 its place.
 exports! {
-    /// The track of a text: document 01's number in the low 32 bits, 0 for a track, and its place in the high 32.
+    /// The tree of a text. `counts` is how many nodes and attributes it has; 1 if it has fewer than 2 cells.
+    fn pg_parse_xml(
+        text: &[u8],
+        nodes: &mut [u32],
+        attrs: &mut [u32],
+        strings: &mut [u8],
+        counts: &mut [u32]
+    ) -> u64;
+    /// The track of a text.
     fn pg_parse(
         text: &[u8],
         nodes: &mut [u32],
@@ -230,7 +166,7 @@ exports! {
         strings: &[u8],
         texts: &[u8]
     ) -> u64;
-    /// A handed track as text at the start of `out`: the number, 0 for a text, and in the high 32 bits how many bytes.
+    /// A handed track as text at the start of `out`: without a number the high 32 bits are how many bytes.
     fn pg_write(
         head: &[u32],
         params: &[u32],
@@ -262,5 +198,66 @@ exports! {
         texts: &[u8],
         index: usize,
         out: &mut [u8]
+    ) -> u64;
+    /// `resolve_referenced_style` on a handed track: 0, or document 01's number, in the low 32 bits. The ids reached stand in `ids`, a row of
+    /// four cells each: 0 (in `value`) or 1 (in `strings`), place, length, 0. `out` is the place of a refusal, 1 for a
+    /// style, how many ids, and of a style: its name (place and length in `value`), colour and background (flag, red,
+    /// green, blue, alpha), family (flag, place, length in `strings`), size (flag, 1 for a minus, digits, scale), bold,
+    /// italic, underline, strike, alignment. `size[0]` is the f32. 1 if there are fewer than 27 and 1 cells.
+    fn pg_resolve_referenced_style(
+        value: &[u8],
+        head: &[u32],
+        params: &[u32],
+        styles: &[u32],
+        regions: &[u32],
+        cues: &[u32],
+        times: &[i64],
+        segments: &[u32],
+        reveal: &[i64],
+        sizes: &[f32],
+        extras: &[u32],
+        strings: &[u8],
+        texts: &[u8],
+        ids: &mut [u32],
+        out: &mut [u64],
+        size: &mut [f32]
+    ) -> u64;
+    /// `region_style`; the same.
+    fn pg_region_style(
+        id: &[u8],
+        head: &[u32],
+        params: &[u32],
+        styles: &[u32],
+        regions: &[u32],
+        cues: &[u32],
+        times: &[i64],
+        segments: &[u32],
+        reveal: &[i64],
+        sizes: &[f32],
+        extras: &[u32],
+        strings: &[u8],
+        texts: &[u8],
+        ids: &mut [u32],
+        out: &mut [u64],
+        size: &mut [f32]
+    ) -> u64;
+    /// `effective_style_for_cue_index`; the same.
+    fn pg_effective_style_for_cue_index(
+        head: &[u32],
+        params: &[u32],
+        styles: &[u32],
+        regions: &[u32],
+        cues: &[u32],
+        times: &[i64],
+        segments: &[u32],
+        reveal: &[i64],
+        sizes: &[f32],
+        extras: &[u32],
+        strings: &[u8],
+        texts: &[u8],
+        cue_index: usize,
+        ids: &mut [u32],
+        out: &mut [u64],
+        size: &mut [f32]
     ) -> u64;
 }

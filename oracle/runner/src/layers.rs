@@ -6,6 +6,7 @@ pub mod entities;
 pub mod numerals;
 pub mod parse;
 pub mod readback;
+pub mod recaption;
 pub mod scan;
 pub mod styles;
 pub mod times;
@@ -30,6 +31,7 @@ pub static LAYERS: &[Layer] = &[
     parse::LAYER,
     write::LAYER,
     readback::LAYER,
+    recaption::LAYER,
 ];
 
 pub struct Layer {

@@ -71,6 +71,10 @@ pub trait Cell: Copy + PartialEq {
     const FILL: Self;
 }
 
+impl Cell for u32 {
+    const FILL: u32 = 0xA5A5_5A5A;
+}
+
 impl Cell for u64 {
     const FILL: u64 = 0xFFFF_0BAD_0BAD_FFFF;
 }

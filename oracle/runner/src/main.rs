@@ -58,7 +58,8 @@ fn main() -> ExitCode {
     done.unwrap_or_else(|wrong| {
         let names: Vec<&str> = LAYERS.iter().map(|layer| layer.name).collect();
         eprintln!("oracle: {wrong}");
-        eprintln!("usage: oracle/compare|record|bench [--sources DIR] [--probe DIR] [--ttml DIR] [--seed S] [--count N] [LAYER..]");
+        eprintln!("usage: oracle/compare|record|bench [OPTION..] [LAYER..]");
+        eprintln!("options: --sources DIR --probe DIR --ttml DIR --recaption FILE --seed S --count N");
         eprintln!("layers: {}", names.join(" "));
         ExitCode::from(2)
     })

@@ -80,7 +80,7 @@ pub struct Asker {
 
 const FILL: u32 = 0xA5A5_5A5A;
 const GUARD: usize = 16;
-/// The cells of an answer: `probe_resolve_referenced_style` says which.
+/// The cells of an answer: `pg_resolve_referenced_style` says which.
 pub const OUT: usize = 27;
 
 /// What the port may not answer, in words.
@@ -133,20 +133,21 @@ fn call(
 ) -> u32 {
     let Handed { head, params, styles, regions, cues, times, segments, reveal, sizes, extras, strings, texts } =
         tables.handed(lending);
-    match question {
-        Question::Value(value) => port::probe_resolve_referenced_style(
+    let told = match question {
+        Question::Value(value) => port::pg_resolve_referenced_style(
             value, head, params, styles, regions, cues, times, segments, reveal, sizes, extras, strings, texts, ids,
             out, size,
         ),
-        Question::Region(id) => port::probe_region_style(
+        Question::Region(id) => port::pg_region_style(
             id, head, params, styles, regions, cues, times, segments, reveal, sizes, extras, strings, texts, ids, out,
             size,
         ),
-        Question::Cue(index) => port::probe_effective_style_for_cue_index(
+        Question::Cue(index) => port::pg_effective_style_for_cue_index(
             head, params, styles, regions, cues, times, segments, reveal, sizes, extras, strings, texts, *index, ids,
             out, size,
         ),
-    }
+    };
+    told as u32
 }
 
 fn told_style(out: &[u64], size: f32, text: &[u8], strings: &[u8]) -> Told<Option<Style>> {

@@ -343,7 +343,7 @@ fn lines(rng: &mut Rng, lines: &mut Lines) {
 }
 
 /// What document 01 says of a text, held to the Rust.
-fn meant(call: Call, text: &[u8]) -> Met<(Read<'_>, Track)> {
+pub fn meant(call: Call, text: &[u8]) -> Met<(Read<'_>, Track)> {
     let read = match rows::read(text) {
         Reading::Tree(read) => read,
         Reading::Refused(refusal) => return Err(refusal),

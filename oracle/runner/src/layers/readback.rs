@@ -114,7 +114,8 @@ impl Side {
 fn body(text: &[u8]) -> String {
     let text = String::from_utf8_lossy(text);
     let inside = text.split_once("<div>").and_then(|(_, rest)| rest.rsplit_once("</div>"));
-    inside.map_or("", |(inside, _)| inside.trim()).escape_debug().to_string()
+    let shown = |c: char| if c.is_control() { c.escape_debug().to_string() } else { c.to_string() };
+    inside.map_or("", |(inside, _)| inside.trim()).chars().map(shown).collect()
 }
 
 /// What small cues are made of; `)` ends a wrapper.

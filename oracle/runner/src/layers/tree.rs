@@ -66,11 +66,11 @@ fn compare(run: &mut Run) {
     });
 }
 
-/// What the port did, as far as it is a difference: the answer's number, place, nodes and attributes, and the first
+/// What the port did, as far as it is a difference: the answer's number and place, how many nodes and attributes, and the first
 /// cell that is not what it must be.
 #[derive(Debug, PartialEq)]
 struct Done {
-    answer: Result<(u32, [u64; 3]), Fault>,
+    answer: Result<(u64, [u32; 2]), Fault>,
     wrong: Option<Wrong>,
 }
 
@@ -156,16 +156,16 @@ impl Tables {
 
     /// What the answer must be, by the Rust and document 01, and in `must` the cells. `None` if these two differ,
     /// which counts as a difference.
-    fn must(&mut self, run: &mut Run, text: &[u8], lengths: [usize; 3]) -> Option<(u32, [u64; 3])> {
+    fn must(&mut self, run: &mut Run, text: &[u8], lengths: [usize; 3]) -> Option<(u64, [u32; 2])> {
         self.must.clear();
         if lengths.iter().zip(FIXED).any(|(&length, fixed)| length < fixed) {
-            return Some((1, [0; 3]));
+            return Some((1, [0; 2]));
         }
         match rows::read_in(run, text)? {
-            Err(refusal) => Some((refusal.number, [refusal.place as u64, 0, 0])),
+            Err(refusal) => Some((refusal.number as u64 | (refusal.place as u64) << 32, [0; 2])),
             Ok(read) => {
                 self.must.fill(&read);
-                Some((0, [0, read.document.nodes.len() as u64, read.document.attrs.len() as u64]))
+                Some((0, [read.document.nodes.len() as u32, read.document.attrs.len() as u32]))
             }
         }
     }
@@ -175,7 +175,7 @@ impl Tables {
         let nodes = lend(&mut self.nodes, lengths[0], CELL, dirt, self.calls);
         let attrs = lend(&mut self.attrs, lengths[1], CELL, dirt, self.calls);
         let strings = lend(&mut self.strings, lengths[2], BYTE, dirt, self.calls);
-        let answer = cells(3 + self.calls % 2, |out| port::probe_parse_xml(text, nodes, attrs, strings, out));
+        let answer = cells(2, |counts| port::pg_parse_xml(text, nodes, attrs, strings, counts));
         Done { answer, wrong: self.wrong(lengths) }
     }
 
@@ -206,19 +206,21 @@ impl Tables {
     fn read(&mut self, text: &str) -> u32 {
         let Tables { nodes, attrs, strings, .. } = self;
         let (nodes, attrs, strings) = (&mut nodes[..NODES], &mut attrs[..ATTRS], &mut strings[..STRINGS]);
-        port::probe_parse_xml(text.as_bytes(), nodes, attrs, strings, &mut [0; 3])
+        port::pg_parse_xml(text.as_bytes(), nodes, attrs, strings, &mut [0; 2]) as u32
     }
 
-    /// With fewer than 3 cells for the answer no table is touched.
+    /// With fewer than 2 cells for the counts, or more.
     fn no_answer(&mut self, run: &mut Run) {
-        for length in 0..3 {
+        for length in 0..4 {
             let nodes = lend(&mut self.nodes, NODES, CELL, Dirt::All, 0);
             let attrs = lend(&mut self.attrs, ATTRS, CELL, Dirt::All, 0);
             let strings = lend(&mut self.strings, STRINGS, BYTE, Dirt::All, 0);
-            let answer = cells(length, |out| port::probe_parse_xml(b"<a b='c'>d", nodes, attrs, strings, out));
-            let answer = answer.map(|(number, [])| number);
-            let kept = [all(nodes, CELL), all(attrs, CELL), all(strings, BYTE)];
-            run.same("parse_xml", format_args!("{length} cells"), (Ok(u32::MAX), [true; 3]), (answer, kept));
+            let answer = cells(length, |counts| port::pg_parse_xml(b"<a b='c'>d", nodes, attrs, strings, counts));
+            let answer = answer.map(|(told, counts): (_, [u32; 4])| (told, counts[..length].to_vec()));
+            let clear = [all(nodes, 0), all(attrs, 0), all(strings, 0)];
+            let (number, counts) = if length < 2 { (1, vec![0; length]) } else { (0, [2, 1, 0, 0][..length].to_vec()) };
+            let must = (Ok((number, counts)), [length < 2; 3]);
+            run.same("parse_xml", format_args!("{length} cells"), must, (answer, clear));
         }
     }
 }
