@@ -113,15 +113,13 @@ apply-style-ref-part-is-visited-end : (t : ℕ) → apply-style-ref-lts.Need-par
     apply-style-ref-Inv-loop apply-style-ref-μ-loop
 apply-style-ref-part-is-visited-end t c = omega (
   arith,
-  c .before .before .before .before .before .before .before .before .before .before .before
-      .pre .1 .1 .within,
+  c .before .before .before .before .before .before .before .before .before .before .before .pre .1 .1 .within,
 )
 
 apply-style-ref-is-visited-requires : (t : ℕ) → apply-style-ref-lts.Need-is-visited-requires (claims t) (apply-style-ref-at t) apply-style-ref.Post
     apply-style-ref-Inv-loop apply-style-ref-μ-loop
 apply-style-ref-is-visited-requires t c κs = (
-  c .before .before .before .before .before .before .before .before .before .before .before .before
-      .pre .1 .2,
+  c .before .before .before .before .before .before .before .before .before .before .before .before .pre .1 .2,
   c .before .before .before .hash .ensures .0,
   c .before .before .before .hash .ensures .1,
 )
@@ -137,8 +135,7 @@ apply-style-ref-same-length-2 t c = search needs
 apply-style-ref-returns : (t : ℕ) → apply-style-ref-lts.Need-returns (claims t) (apply-style-ref-at t) apply-style-ref.Post
     apply-style-ref-Inv-loop apply-style-ref-μ-loop
 unfolding stringAt
-apply-style-ref-returns t c = applied-again _ _ _ _ _ _ _ _ _ (c .before .before .before .before .before .before .before .before .before
-    .before .before .before .before .before .pre .1 .2) (sym (c .before .is-visited .ensures) ∙ c .if1 .taken)
+apply-style-ref-returns t c = applied-again _ _ _ _ _ _ _ _ _ (c .before .before .before .before .before .before .before .before .before .before .before .before .before .before .pre .1 .2) (sym (c .before .is-visited .ensures) ∙ c .if1 .taken)
 
 apply-style-ref-same-length-3 : (t : ℕ) → apply-style-ref-lts.Need-same-length-3 (claims t) (apply-style-ref-at t) apply-style-ref.Post
     apply-style-ref-Inv-loop apply-style-ref-μ-loop
@@ -151,24 +148,21 @@ apply-style-ref-same-length-4 t c = search needs
 apply-style-ref-returns-2 : (t : ℕ) → apply-style-ref-lts.Need-returns-2 (claims t) (apply-style-ref-at t) apply-style-ref.Post
     apply-style-ref-Inv-loop apply-style-ref-μ-loop
 unfolding stringAt
-apply-style-ref-returns-2 t c = applied-full _ _ _ _ _ _ _ _ _ (c .before .before .before .before .before .before .before .before .before
-    .before .before .before .before .before .before .pre .1 .2) (sym (c .before .before .is-visited .ensures) ∙ c .before .if1 .left) (inl (c .if2
+apply-style-ref-returns-2 t c = applied-full _ _ _ _ _ _ _ _ _ (c .before .before .before .before .before .before .before .before .before .before .before .before .before .before .before .pre .1 .2) (sym (c .before .before .is-visited .ensures) ∙ c .before .if1 .left) (inl (c .if2
     .taken))
 
 apply-style-ref-mul-if3 : (t : ℕ) → apply-style-ref-lts.Need-mul-if3 (claims t) (apply-style-ref-at t) apply-style-ref.Post
     apply-style-ref-Inv-loop apply-style-ref-μ-loop
 apply-style-ref-mul-if3 t c = omega (
   arith,
-  c .before .before .before .before .before .before .before .before .before .before .before .before
-      .before .before .before .pre .1 .2 .rows,
+  c .before .before .before .before .before .before .before .before .before .before .before .before .before .before .before .pre .1 .2 .tree .rows,
 )
 
 apply-style-ref-sub-if3 : (t : ℕ) → apply-style-ref-lts.Need-sub-if3 (claims t) (apply-style-ref-at t) apply-style-ref.Post
     apply-style-ref-Inv-loop apply-style-ref-μ-loop
 apply-style-ref-sub-if3 t c = omega (
   arith,
-  c .before .before .before .before .before .before .before .before .before .before .before .before
-      .before .before .before .pre .1 .2 .rows,
+  c .before .before .before .before .before .before .before .before .before .before .before .before .before .before .before .pre .1 .2 .tree .rows,
 )
 
 apply-style-ref-same-length-5 : (t : ℕ) → apply-style-ref-lts.Need-same-length-5 (claims t) (apply-style-ref-at t) apply-style-ref.Post
@@ -182,31 +176,36 @@ apply-style-ref-same-length-6 t c = search needs
 apply-style-ref-returns-3 : (t : ℕ) → apply-style-ref-lts.Need-returns-3 (claims t) (apply-style-ref-at t) apply-style-ref.Post
     apply-style-ref-Inv-loop apply-style-ref-μ-loop
 unfolding stringAt
-apply-style-ref-returns-3 t c = applied-full _ _ _ _ _ _ _ _ _ (c .before .before .before .before .before .before .before .before .before
-    .before .before .before .before .before .before .before .pre .1 .2) (sym (c .before .before .before .is-visited .ensures) ∙ c .before .before
-    .if1 .left) (inr (c .if3 .taken))
+apply-style-ref-returns-3 t c = applied-full _ _ _ _ _ _ _ _ _ (c .before .before .before .before .before .before .before .before .before .before .before .before .before .before .before .before .pre .1 .2) (sym (c .before .before .before .is-visited .ensures) ∙ c .before .before .if1 .left) (inr (c .if3 .taken))
+
+apply-style-ref-sub-add-id : (t : ℕ) → apply-style-ref-lts.Need-sub-add-id (claims t) (apply-style-ref-at t) apply-style-ref.Post
+    apply-style-ref-Inv-loop apply-style-ref-μ-loop
+apply-style-ref-sub-add-id t c = omega arith
+
+apply-style-ref-part-add-id-start : (t : ℕ) → apply-style-ref-lts.Need-part-add-id-start (claims t) (apply-style-ref-at t) apply-style-ref.Post
+    apply-style-ref-Inv-loop apply-style-ref-μ-loop
+apply-style-ref-part-add-id-start t c = search needs
+
+apply-style-ref-part-add-id-end : (t : ℕ) → apply-style-ref-lts.Need-part-add-id-end (claims t) (apply-style-ref-at t) apply-style-ref.Post
+    apply-style-ref-Inv-loop apply-style-ref-μ-loop
+apply-style-ref-part-add-id-end t c = omega (arith, c .before .before .before .before .before .before .before .before .before .before .before .before .before .before .before .before .before .before .pre .1 .1 .within)
 
 apply-style-ref-add-id-requires : (t : ℕ) → apply-style-ref-lts.Need-add-id-requires (claims t) (apply-style-ref-at t) apply-style-ref.Post
     apply-style-ref-Inv-loop apply-style-ref-μ-loop
 apply-style-ref-add-id-requires t c κs =
-    let p = c .before .before .before .before .before .before .before .before .before .before .before .before .before .before .before .before
-    .before .before .pre .1 in (
-      omega (arith, p .2 .rows, c .before .before .if3 .left),
-      omega (arith, c .before .before .before .if2 .left),
-      omega (
-        arith,
-        c .before .before
-            .before .before .before .before .before .before .before .hash .ensures .1,
-        p .2 .buckets,
-      ),
+    let p = c .before .before .before .before .before .before .before .before .before .before .before .before .before .before .before .before .before .before .before .pre .1 in (
+      omega (arith, p .2 .tree .rows, c .before .before .before .if3 .left),
+      omega (arith, c .before .before .before .before .if2 .left),
+      p .2 .tree,
+      c .before .before .before .before .before .before .before .before .before .before .hash .ensures .0,
+      c .before .before .before .before .before .before .before .before .before .before .hash .ensures .1,
       omega (arith, p .1 .within, p .1 .few),
-      omega
-          (arith, p .1 .within, p .1 .few),
+      omega (arith, p .1 .within, p .1 .few),
     )
 
-apply-style-ref-add-t27 : (t : ℕ) → apply-style-ref-lts.Need-add-t27 (claims t) (apply-style-ref-at t) apply-style-ref.Post
+apply-style-ref-add-t39 : (t : ℕ) → apply-style-ref-lts.Need-add-t39 (claims t) (apply-style-ref-at t) apply-style-ref.Post
     apply-style-ref-Inv-loop apply-style-ref-μ-loop
-apply-style-ref-add-t27 t c = omega (arith, c .before .before .before .before .before .before .before .before .before .if2 .left)
+apply-style-ref-add-t39 t c = omega (arith, c .before .before .before .before .before .before .before .before .before .before .if2 .left)
 
 apply-style-ref-sub-chain-of : (t : ℕ) → apply-style-ref-lts.Need-sub-chain-of (claims t) (apply-style-ref-at t) apply-style-ref.Post
     apply-style-ref-Inv-loop apply-style-ref-μ-loop
@@ -220,14 +219,12 @@ apply-style-ref-part-chain-of-end : (t : ℕ) → apply-style-ref-lts.Need-part-
     apply-style-ref-Inv-loop apply-style-ref-μ-loop
 apply-style-ref-part-chain-of-end t c = omega (
   arith,
-  c .before .before .before .before .before .before .before .before .before .before .before
-      .before .before .before .before .before .before .before .before .before .before .before .before .before .pre .1 .1 .within,
+  c .before .before .before .before .before .before .before .before .before .before .before .before .before .before .before .before .before .before .before .before .before .before .before .before .before .pre .1 .1 .within,
 )
 
 apply-style-ref-chain-of-requires : (t : ℕ) → apply-style-ref-lts.Need-chain-of-requires (claims t) (apply-style-ref-at t) apply-style-ref.Post
     apply-style-ref-Inv-loop apply-style-ref-μ-loop
-apply-style-ref-chain-of-requires t c κs = c .before .before .before .before .before .before .before .before .before .before .before .before
-    .before .before .before .before .before .before .before .before .before .before .before .before .before .pre .1 .0 .chained
+apply-style-ref-chain-of-requires t c κs = c .before .before .before .before .before .before .before .before .before .before .before .before .before .before .before .before .before .before .before .before .before .before .before .before .before .before .pre .1 .0 .chained
 
 apply-style-ref-add-to : (t : ℕ) → apply-style-ref-lts.Need-add-to (claims t) (apply-style-ref-at t) apply-style-ref.Post apply-style-ref-Inv-loop
     apply-style-ref-μ-loop
@@ -237,35 +234,19 @@ apply-style-ref-loop-holds : (t : ℕ) → apply-style-ref-lts.Need-loop-holds (
     apply-style-ref-Inv-loop apply-style-ref-μ-loop
 unfolding stringAt
 apply-style-ref-loop-holds t c =
-    let a = c .before .before .before .before .before .before .before .before .before .before .before .before .before .before .before .before
-    .before .before .before .before .before .before .before .before .before .before .before .args in
-    let n : Type 0 = Entry (a .text .now) (a .strings .now) (a .own .now) (a .source) (a .at) (a .len) (c .before .before .before .before .before
-    .before .before .before .before .before .before .before .before .before .before .before .before .before .hash .result) (a .ids .now) (a
-    .heads .now) (c .before .before .before .before .before .before .before .before .add-id .last .0) (c .before .before .before .before
-    .before .before .before .before .add-id .last .1 .0) (a .w) in
+    let a = c .before .before .before .before .before .before .before .before .before .before .before .before .before .before .before .before .before .before .before .before .before .before .before .before .before .before .before .before .args in
+    let p = c .before .before .before .before .before .before .before .before .before .before .before .before .before .before .before .before .before .before .before .before .before .before .before .before .before .before .before .before .pre .1 in
+    let i = c .before .before .before .before .before .before .before .before .add-id in
+    let n : Type 0 = Entry (a .text .now) (a .strings .now) (a .own .now) (a .source) (a .at) (a .len) (a .ids .now) (a .heads .now) (i .last .0)
+    (i .last .1 .0) (a .w) in
     let entry : n = record {
-      held = c .before .before .before .before .before .before .before .before .before .before .before .before .before .before .before .before
-          .before .before .before .before .before .before .before .before .before .before .before .pre .1 .2;
-      new = sym (c .before .before .before .before .before .before .before .before .before .before .before .before .before .before .is-visited
-          .ensures) ∙ c .before .before .before .before .before .before .before .before .before .before .before .before .before .if1 .left;
-      stands = c .before .before .before .before .before .before .before .before .before .before .before .before .before .before .before
-          .before .before .before .before .before .before .before .before .before .before .before .before .pre .1 .1;
-      room = omega (
-        arith,
-        c .before .before .before .before .before .before .before .before .before .before .before .before .before .before
-            .before .before .before .before .before .before .before .before .before .before .before .before .before .pre .1 .2 .rows,
-        c .before
-            .before .before .before .before .before .before .before .before .before .before .if3 .left,
-      );
-      few = omega (arith, c .before .before .before .before .before .before .before .before .before .before .before .before .if2 .left);
-      bucket = c .before .before .before .before .before .before .before .before .before .before .before .before .before .before .before
-          .before .before .before .hash .ensures .0;
-      small = c .before .before .before .before .before .before .before .before .before .before .before .before .before .before .before .before
-          .before .before .hash .ensures .1;
-      laid = c .before .before .before .before .before .before .before .before .add-id .ensures .0;
-      led = c .before .before .before .before .before .before .before .before .add-id .ensures .1;
+      held = p .2;
+      new = sym (c .before .before .before .before .before .before .before .before .before .before .before .before .before .before .before .is-visited .ensures) ∙ c .before .before .before .before .before .before .before .before .before .before .before .before .before .before .if1 .left;
+      stands = p .1;
+      kept = c .before .before .before .before .before .before .before .ids .given;
+      post = i .ensures;
     } in
-    along-start _ _ _ _ _ _ _ _ _ (entered-held _ _ _ _ _ _ _ _ _ _ _ _ entry)
+    along-start _ _ _ _ _ _ _ _ _ (entered-held _ _ _ _ _ _ _ _ _ _ _ entry)
 
 apply-style-ref-sub-next-word : (t : ℕ) → apply-style-ref-lts.Need-sub-next-word (claims t) (apply-style-ref-at t) apply-style-ref.Post
     apply-style-ref-Inv-loop apply-style-ref-μ-loop
@@ -299,84 +280,48 @@ apply-style-ref-part-own-style-end : (t : ℕ) → apply-style-ref-lts.Need-part
     apply-style-ref-Inv-loop apply-style-ref-μ-loop
 apply-style-ref-part-own-style-end t c = omega (
   arith,
-  c .before .before .before .before .before .before .before .before .before .before .before
-      .before .before .before .before .before .before .before .before .before .before .before .before .before .before .before .before .before .before
-      .before .before .before .pre .1 .1 .within,
+  c .before .before .before .before .before .before .before .before .before .before .before .before .before .before .before .before .before .before .before .before .before .before .before .before .before .before .before .before .before .before .before .before .before .pre .1 .1 .within,
 )
 
 apply-style-ref-own-style-requires : (t : ℕ) → apply-style-ref-lts.Need-own-style-requires (claims t) (apply-style-ref-at t) apply-style-ref.Post
     apply-style-ref-Inv-loop apply-style-ref-μ-loop
-apply-style-ref-own-style-requires t c κs = c .before .before .before .before .before .before .before .before .before .before .before .before
-    .before .before .before .before .before .before .before .before .before .before .before .before .before .before .before .before .before .before
-    .before .before .before .pre .1 .0
+apply-style-ref-own-style-requires t c κs = c .before .before .before .before .before .before .before .before .before .before .before .before .before .before .before .before .before .before .before .before .before .before .before .before .before .before .before .before .before .before .before .before .before .before .pre .1 .0
 
 apply-style-ref-same-length-7 : (t : ℕ) → apply-style-ref-lts.Need-same-length-7 (claims t) (apply-style-ref-at t) apply-style-ref.Post
     apply-style-ref-Inv-loop apply-style-ref-μ-loop
 apply-style-ref-same-length-7 t c = omega (
   arith,
   c .before .before .before .before .before .before .loop .inv .grown .kept,
-  c .before .before
-      .before .before .before .before .before .before .before .before .before .before .before .before .ids .given,
+  c .before .before .before .before .before .before .before .before .before .before .before .before .before .before .ids .given,
 )
 
 apply-style-ref-same-length-8 : (t : ℕ) → apply-style-ref-lts.Need-same-length-8 (claims t) (apply-style-ref-at t) apply-style-ref.Post
     apply-style-ref-Inv-loop apply-style-ref-μ-loop
 apply-style-ref-same-length-8 t c = omega (
   arith,
-  c .before .before .before .before .before .before .loop .inv .grown .held .buckets,
-  c .before
-      .before .before .before .before .before .before .before .before .before .before .before .before .before .before .before .before .before .before
-      .before .before .before .before .before .before .before .before .before .before .before .before .before .before .before .pre .1 .2 .buckets,
+  c .before .before .before .before .before .before .loop .inv .grown .held .tree .buckets,
+  c .before .before .before .before .before .before .before .before .before .before .before .before .before .before .before .before .before .before .before .before .before .before .before .before .before .before .before .before .before .before .before .before .before .before .before .pre .1 .2 .tree .buckets,
 )
 
 apply-style-ref-returns-4 : (t : ℕ) → apply-style-ref-lts.Need-returns-4 (claims t) (apply-style-ref-at t) apply-style-ref.Post
     apply-style-ref-Inv-loop apply-style-ref-μ-loop
 unfolding stringAt
 apply-style-ref-returns-4 t c =
-    let a = c .before .before .before .before .before .before .before .before .before .before .before .before .before .before .before .before
-    .before .before .before .before .before .before .before .before .before .before .before .before .before .before .before .before .before
-    .before .args in
-    let n : Type 0 = Entry (a .text .now) (a .strings .now) (a .own .now) (a .source) (a .at) (a .len) (c .before .before .before .before .before
-    .before .before .before .before .before .before .before .before .before .before .before .before .before .before .before .before .before
-    .before .before .before .hash .result) (a .ids .now) (a .heads .now) (c .before .before .before .before .before .before .before .before
-    .before .before .before .before .before .before .before .add-id .last .0) (c .before .before .before .before .before .before .before
-    .before .before .before .before .before .before .before .before .add-id .last .1 .0) (a .w) in
+    let a = c .before .before .before .before .before .before .before .before .before .before .before .before .before .before .before .before .before .before .before .before .before .before .before .before .before .before .before .before .before .before .before .before .before .before .before .args in
+    let p = c .before .before .before .before .before .before .before .before .before .before .before .before .before .before .before .before .before .before .before .before .before .before .before .before .before .before .before .before .before .before .before .before .before .before .before .pre .1 in
+    let i = c .before .before .before .before .before .before .before .before .before .before .before .before .before .before .before .add-id in
+    let n : Type 0 = Entry (a .text .now) (a .strings .now) (a .own .now) (a .source) (a .at) (a .len) (a .ids .now) (a .heads .now) (i .last .0)
+    (i .last .1 .0) (a .w) in
     let entry : n = record {
-      held = c .before .before .before .before .before .before .before .before .before .before .before .before .before .before .before .before
-          .before .before .before .before .before .before .before .before .before .before .before .before .before .before .before .before
-          .before .before .pre .1 .2;
-      new = sym (c .before .before .before .before .before .before .before .before .before .before .before .before .before .before .before
-          .before .before .before .before .before .before .is-visited .ensures) ∙ c .before .before .before .before .before .before .before
-          .before .before .before .before .before .before .before .before .before .before .before .before .before .if1 .left;
-      stands = c .before .before .before .before .before .before .before .before .before .before .before .before .before .before .before
-          .before .before .before .before .before .before .before .before .before .before .before .before .before .before .before .before
-          .before .before .before .pre .1 .1;
-      room = omega (
-        arith,
-        c .before .before .before .before .before .before .before .before .before .before .before .before .before .before
-            .before .before .before .before .before .before .before .before .before .before .before .before .before .before .before .before
-            .before .before .before .before .pre .1 .2 .rows,
-        c .before .before .before .before .before .before .before .before .before .before
-            .before .before .before .before .before .before .before .before .if3 .left,
-      );
-      few = omega (
-        arith,
-        c .before .before .before .before .before .before .before .before .before .before .before .before .before .before
-            .before .before .before .before .before .if2 .left,
-      );
-      bucket = c .before .before .before .before .before .before .before .before .before .before .before .before .before .before .before
-          .before .before .before .before .before .before .before .before .before .before .hash .ensures .0;
-      small = c .before .before .before .before .before .before .before .before .before .before .before .before .before .before .before .before
-          .before .before .before .before .before .before .before .before .before .hash .ensures .1;
-      laid = c .before .before .before .before .before .before .before .before .before .before .before .before .before .before .before .add-id
-          .ensures .0;
-      led = c .before .before .before .before .before .before .before .before .before .before .before .before .before .before .before .add-id
-          .ensures .1;
+      held = p .2;
+      new = sym (c .before .before .before .before .before .before .before .before .before .before .before .before .before .before .before .before .before .before .before .before .before .before .is-visited .ensures) ∙ c .before .before .before .before .before .before .before .before .before .before .before .before .before .before .before .before .before .before .before .before .before .if1 .left;
+      stands = p .1;
+      kept = c .before .before .before .before .before .before .before .before .before .before .before .before .before .before .ids .given;
+      post = i .ensures;
     } in
-    applied-first _ _ _ _ _ _ _ _ _ _ _ _ entry _ _ _ _ (c .before .before .before .before .before .before .before .before .chain-of .ensures) _ _
+    applied-first _ _ _ _ _ _ _ _ _ _ _ entry _ _ _ _ (c .before .before .before .before .before .before .before .before .chain-of .ensures) _ _
     _ _ (c .before .before .before .before .before .before .loop .inv .grown)
-    (c .before .before .before .before .before .before .loop .inv .tidy) (along-done _ _ _ _ _ _ _ _ _ _ _ _ (c .before .before .before
-    .before .before .before .loop .inv) (rw (c .before .before .enum-told .given .1) at (c .before .before .before .before .next-word
+    (c .before .before .before .before .before .before .loop .inv .tidy) (along-done _ _ _ _ _ _ _ _ _ _ _ _ (c .before .before .before .before .before .before .loop .inv) (rw (c .before .before .enum-told .given .1) at (c .before .before .before .before .next-word
     .ensures))) (c .own-style .ensures)
 
 apply-style-ref-enum-known-x : (t : ℕ) → apply-style-ref-lts.Need-enum-known-x (claims t) (apply-style-ref-at t) apply-style-ref.Post
@@ -387,12 +332,8 @@ apply-style-ref-add-apply-style-ref : (t : ℕ) → apply-style-ref-lts.Need-add
     apply-style-ref-Inv-loop apply-style-ref-μ-loop
 apply-style-ref-add-apply-style-ref t c =
     let w = rw (c .before .x .given .1) at (c .before .before .before .next-word .ensures) in
-    let k : length (part (c .before .before .before .before .before .before .before .chain-of .result .place) (c .before .before .before .before
-    .before .before .before .chain-of .result .place + c .before .before .before .before .before .before .before .chain-of .result .len) (c
-    .before .before .before .before .before .before .before .before .before .before .before .before .before .before .before .before .before
-    .before .before .before .before .before .before .before .before .before .before .before .before .before .before .before .before .args
-    .strings .now)) ≡ c .before .before .before .before .before .before .before .chain-of .result .place + c .before .before .before .before
-    .before .before .before .chain-of .result .len - c .before .before .before .before .before .before .before .chain-of .result .place =
+    let k : length (part (c .before .before .before .before .before .before .before .chain-of .result .place) (c .before .before .before .before .before .before .before .chain-of .result .place + c .before .before .before .before .before .before .before .chain-of .result .len) (c .before .before .before .before .before .before .before .before .before .before .before .before .before .before .before .before .before .before .before .before .before .before .before .before .before .before .before .before .before .before .before .before .before .before .args
+    .strings .now)) ≡ c .before .before .before .before .before .before .before .chain-of .result .place + c .before .before .before .before .before .before .before .chain-of .result .len - c .before .before .before .before .before .before .before .chain-of .result .place =
     part-length _ _ _ (omega arith) (c .before .before .before .before .before .before .before .chain-of .ensures .within) in
     omega (
       arith,
@@ -400,8 +341,7 @@ apply-style-ref-add-apply-style-ref t c =
       w .some-byte,
       k,
       c .before .before .before .before .before .before .before .chain-of .ensures .within,
-      c .before
-          .before .before .before .before .before .before .chain-of .ensures .few,
+      c .before .before .before .before .before .before .before .chain-of .ensures .few,
     )
 
 apply-style-ref-sub-apply-style-ref : (t : ℕ) → apply-style-ref-lts.Need-sub-apply-style-ref (claims t) (apply-style-ref-at t) apply-style-ref.Post
@@ -431,38 +371,26 @@ unfolding stringAt
 apply-style-ref-apply-style-ref-requires t c κs =
     let w = rw (c .before .before .before .before .x .given .1) at (c .before .before .before .before .before .before .next-word .ensures) in
     let g = c .before .before .before .before .before .before .before .before .loop .inv .grown in
-    let p = c .before .before .before .before .before .before .before .before .before .before .before .before .before .before .before .before
-    .before .before .before .before .before .before .before .before .before .before .before .before .before .before .before .before .before
-    .before .before .before .pre .1 in (
+    let p = c .before .before .before .before .before .before .before .before .before .before .before .before .before .before .before .before .before .before .before .before .before .before .before .before .before .before .before .before .before .before .before .before .before .before .before .before .before .pre .1 in (
       omega (
         arith,
-        c .before .before .before .before .before .before .before .before .before .before .before .before .before .before .before
-            .before .before .before .before .before .before .before .before .before .before .before .before .before .before .before .before .before
-            .before .before .before .before .pre .0,
+        c .before .before .before .before .before .before .before .before .before .before .before .before .before .before .before .before .before .before .before .before .before .before .before .before .before .before .before .before .before .before .before .before .before .before .before .before .before .pre .0,
         g .kept,
         g .more,
-        g .held .rows,
-        c .before .before .before .before .before .before .before
-            .before .before .before .before .before .before .before .before .before .ids .given,
-        c .before .before .before .before .before .before
-            .before .before .before .before .before .before .before .before .before .before .before .before .before .before .if3 .left,
-        p .2 .rows,
+        g .held .tree .rows,
+        c .before .before .before .before .before .before .before .before .before .before .before .before .before .before .before .before .ids .given,
+        c .before .before .before .before .before .before .before .before .before .before .before .before .before .before .before .before .before .before .before .before .before .if3 .left,
+        p .2 .tree .rows,
       ),
       (
         p .0,
         record {
           known = omega arith;
           is = refl;
-          within = word-within _ _ _ _ _ _ _ _ _ _ (omega arith) (c .before .before .before .before .before .before .before .before .before .before
-              .chain-of .ensures .within) _ _ _ _ (c .before .before .before .before .before .before .before .before .loop .inv) _ _ w (c .before
-              .before .before .before .before .before .before .before .loop .ids) (c .before .before .before .before .before .before .before
-              .before .loop .heads);
+          within = word-within _ _ _ _ _ _ _ _ _ _ (omega arith) (c .before .before .before .before .before .before .before .before .before .before .chain-of .ensures .within) _ _ _ _ (c .before .before .before .before .before .before .before .before .loop .inv) _ _ w (c .before .before .before .before .before .before .before .before .loop .ids) (c .before .before .before .before .before .before .before .before .loop .heads);
           few = omega (
             arith,
-            word-end _ _ _ _ _ _ _ _ _ _ (omega arith) (c .before .before .before .before .before .before .before .before .before
-                .before .chain-of .ensures .within) _ _ _ _ (c .before .before .before .before .before .before .before .before .loop .inv) _ _ w (c
-                .before .before .before .before .before .before .before .before .loop .ids) (c .before .before .before .before .before .before
-                .before .before .loop .heads),
+            word-end _ _ _ _ _ _ _ _ _ _ (omega arith) (c .before .before .before .before .before .before .before .before .before .before .chain-of .ensures .within) _ _ _ _ (c .before .before .before .before .before .before .before .before .loop .inv) _ _ w (c .before .before .before .before .before .before .before .before .loop .ids) (c .before .before .before .before .before .before .before .before .loop .heads),
             c .before .before .before .before .before .before .before .before .before .before .chain-of .ensures
                 .few,
           );
@@ -480,11 +408,8 @@ apply-style-ref-same-length-9 : (t : ℕ) → apply-style-ref-lts.Need-same-leng
 apply-style-ref-same-length-9 t c = omega (
   arith,
   c .before .before .before .before .before .ids2 .given,
-  c .before .before .before .before .before
-      .before .before .before .before .before .before .before .before .before .before .loop .inv .grown .kept,
-  c .before .before .before .before
-      .before .before .before .before .before .before .before .before .before .before .before .before .before .before .before .before .before .before
-      .before .ids .given,
+  c .before .before .before .before .before .before .before .before .before .before .before .before .before .before .before .loop .inv .grown .kept,
+  c .before .before .before .before .before .before .before .before .before .before .before .before .before .before .before .before .before .before .before .before .before .before .before .ids .given,
 )
 
 apply-style-ref-same-length-10 : (t : ℕ) → apply-style-ref-lts.Need-same-length-10 (claims t) (apply-style-ref-at t) apply-style-ref.Post
@@ -492,74 +417,30 @@ apply-style-ref-same-length-10 : (t : ℕ) → apply-style-ref-lts.Need-same-len
 apply-style-ref-same-length-10 t c = omega (
   arith,
   c .before .before .before .heads2 .given,
-  c .before .before .before .before .before .before
-      .before .before .before .before .before .before .before .before .before .loop .inv .grown .held .buckets,
-  c .before .before .before .before
-      .before .before .before .before .before .before .before .before .before .before .before .before .before .before .before .before .before .before
-      .before .before .before .before .before .before .before .before .before .before .before .before .before .before .before .before .before .before
-      .before .before .before .pre .1 .2 .buckets,
+  c .before .before .before .before .before .before .before .before .before .before .before .before .before .before .before .loop .inv .grown .held .tree .buckets,
+  c .before .before .before .before .before .before .before .before .before .before .before .before .before .before .before .before .before .before .before .before .before .before .before .before .before .before .before .before .before .before .before .before .before .before .before .before .before .before .before .before .before .before .before .before .pre .1 .2 .tree .buckets,
 )
 
 apply-style-ref-returns-5 : (t : ℕ) → apply-style-ref-lts.Need-returns-5 (claims t) (apply-style-ref-at t) apply-style-ref.Post
     apply-style-ref-Inv-loop apply-style-ref-μ-loop
 unfolding stringAt
 apply-style-ref-returns-5 t c =
-    let w = rw (c .before .before .before .before .before .before .before .before .before .before .before .x .given .1) at (c .before .before
-    .before .before .before .before .before .before .before .before .before .before .before .next-word .ensures) in
-    let a = c .before .before .before .before .before .before .before .before .before .before .before .before .before .before .before .before
-    .before .before .before .before .before .before .before .before .before .before .before .before .before .before .before .before .before
-    .before .before .before .before .before .before .before .before .before .before .args in
-    let n : Type 0 = Entry (a .text .now) (a .strings .now) (a .own .now) (a .source) (a .at) (a .len) (c .before .before .before .before .before
-    .before .before .before .before .before .before .before .before .before .before .before .before .before .before .before .before .before
-    .before .before .before .before .before .before .before .before .before .before .before .before .hash .result) (a .ids .now) (a .heads
-    .now) (c .before .before .before .before .before .before .before .before .before .before .before .before .before .before .before .before
-    .before .before .before .before .before .before .before .before .add-id .last .0) (c .before .before .before .before .before .before
-    .before .before .before .before .before .before .before .before .before .before .before .before .before .before .before .before .before
-    .before .add-id .last .1 .0) (a .w) in
+    let w = rw (c .before .before .before .before .before .before .before .before .before .before .before .x .given .1) at (c .before .before .before .before .before .before .before .before .before .before .before .before .before .next-word .ensures) in
+    let a = c .before .before .before .before .before .before .before .before .before .before .before .before .before .before .before .before .before .before .before .before .before .before .before .before .before .before .before .before .before .before .before .before .before .before .before .before .before .before .before .before .before .before .before .before .args in
+    let p = c .before .before .before .before .before .before .before .before .before .before .before .before .before .before .before .before .before .before .before .before .before .before .before .before .before .before .before .before .before .before .before .before .before .before .before .before .before .before .before .before .before .before .before .before .pre .1 in
+    let i = c .before .before .before .before .before .before .before .before .before .before .before .before .before .before .before .before .before .before .before .before .before .before .before .before .add-id in
+    let n : Type 0 = Entry (a .text .now) (a .strings .now) (a .own .now) (a .source) (a .at) (a .len) (a .ids .now) (a .heads .now) (i .last .0)
+    (i .last .1 .0) (a .w) in
     let entry : n = record {
-      held = c .before .before .before .before .before .before .before .before .before .before .before .before .before .before .before .before
-          .before .before .before .before .before .before .before .before .before .before .before .before .before .before .before .before
-          .before .before .before .before .before .before .before .before .before .before .before .pre .1 .2;
-      new = sym (c .before .before .before .before .before .before .before .before .before .before .before .before .before .before .before
-          .before .before .before .before .before .before .before .before .before .before .before .before .before .before .before .is-visited
-          .ensures) ∙ c .before .before .before .before .before .before .before .before .before .before .before .before .before .before .before
-          .before .before .before .before .before .before .before .before .before .before .before .before .before .before .if1 .left;
-      stands = c .before .before .before .before .before .before .before .before .before .before .before .before .before .before .before
-          .before .before .before .before .before .before .before .before .before .before .before .before .before .before .before .before
-          .before .before .before .before .before .before .before .before .before .before .before .before .pre .1 .1;
-      room = omega (
-        arith,
-        c .before .before .before .before .before .before .before .before .before .before .before .before .before .before
-            .before .before .before .before .before .before .before .before .before .before .before .before .before .before .before .before
-            .before .before .before .before .before .before .before .before .before .before .before .before .before .pre .1 .2 .rows,
-        c .before
-            .before .before .before .before .before .before .before .before .before .before .before .before .before .before .before .before
-            .before .before .before .before .before .before .before .before .before .before .if3 .left,
-      );
-      few = omega (
-        arith,
-        c .before .before .before .before .before .before .before .before .before .before .before .before .before .before
-            .before .before .before .before .before .before .before .before .before .before .before .before .before .before .if2 .left,
-      );
-      bucket = c .before .before .before .before .before .before .before .before .before .before .before .before .before .before .before
-          .before .before .before .before .before .before .before .before .before .before .before .before .before .before .before .before
-          .before .before .before .hash .ensures .0;
-      small = c .before .before .before .before .before .before .before .before .before .before .before .before .before .before .before .before
-          .before .before .before .before .before .before .before .before .before .before .before .before .before .before .before .before
-          .before .before .hash .ensures .1;
-      laid = c .before .before .before .before .before .before .before .before .before .before .before .before .before .before .before .before
-          .before .before .before .before .before .before .before .before .add-id .ensures .0;
-      led = c .before .before .before .before .before .before .before .before .before .before .before .before .before .before .before .before
-          .before .before .before .before .before .before .before .before .add-id .ensures .1;
+      held = p .2;
+      new = sym (c .before .before .before .before .before .before .before .before .before .before .before .before .before .before .before .before .before .before .before .before .before .before .before .before .before .before .before .before .before .before .before .is-visited .ensures) ∙ c .before .before .before .before .before .before .before .before .before .before .before .before .before .before .before .before .before .before .before .before .before .before .before .before .before .before .before .before .before .before .if1 .left;
+      stands = p .1;
+      kept = c .before .before .before .before .before .before .before .before .before .before .before .before .before .before .before .before .before .before .before .before .before .before .before .ids .given;
+      post = i .ensures;
     } in
     let o = rw (c .enum-told2 .given .1) at (c .before .before .before .before .before .before .apply-style-ref .ensures) in
-    applied-over _ _ _ _ _ _ _ _ _ _ _ _ entry _ _ _ _ (c .before .before .before .before .before .before .before .before .before .before .before
-    .before .before .before .before .before .before .chain-of .ensures) _ _ (o .kept ∙ c .before .before .before .before .before .before
-    .before .before .before .before .before .before .before .before .before .loop .inv .grown .kept)
-    (full-in _ _ _ _ _ _ _ _ _ _ (omega arith) (c .before .before .before .before .before .before .before .before .before .before .before .before
-    .before .before .before .before .before .chain-of .ensures .within) _ _ _ _ (c .before .before .before .before .before .before .before
-    .before .before .before .before .before .before .before .before .loop .inv) _ _ w _ (c .before .before .before .before .before .before
-    .apply-style-ref .last .1 .1 .1 .1 .1 .1 .1 .1 .1 .1 .0) o)
+    applied-over _ _ _ _ _ _ _ _ _ _ _ entry _ _ _ _ (c .before .before .before .before .before .before .before .before .before .before .before .before .before .before .before .before .before .chain-of .ensures) _ _ (o .kept ∙ c .before .before .before .before .before .before .before .before .before .before .before .before .before .before .before .loop .inv .grown .kept)
+    (full-in _ _ _ _ _ _ _ _ _ _ (omega arith) (c .before .before .before .before .before .before .before .before .before .before .before .before .before .before .before .before .before .chain-of .ensures .within) _ _ _ _ (c .before .before .before .before .before .before .before .before .before .before .before .before .before .before .before .loop .inv) _ _ w _ (c .before .before .before .before .before .before .apply-style-ref .last .1 .1 .1 .1 .1 .1 .1 .1 .1 .1 .0) o)
 
 apply-style-ref-enum-known-t : (t : ℕ) → apply-style-ref-lts.Need-enum-known-t (claims t) (apply-style-ref-at t) apply-style-ref.Post
     apply-style-ref-Inv-loop apply-style-ref-μ-loop
@@ -568,20 +449,15 @@ apply-style-ref-enum-known-t t c = search needs
 apply-style-ref-loop-less : (t : ℕ) → apply-style-ref-lts.Need-loop-less (claims t) (apply-style-ref-at t) apply-style-ref.Post
     apply-style-ref-Inv-loop apply-style-ref-μ-loop
 apply-style-ref-loop-less t c =
-    let w = rw (c .before .before .before .before .before .before .before .before .before .before .before .before .x .given .1) at (c .before
-    .before .before .before .before .before .before .before .before .before .before .before .before .before .next-word .ensures) in
+    let w = rw (c .before .before .before .before .before .before .before .before .before .before .before .before .x .given .1) at (c .before .before .before .before .before .before .before .before .before .before .before .before .before .before .next-word .ensures) in
     omega (arith, w .within-text, w .some-byte, w .after)
 
 apply-style-ref-loop-again : (t : ℕ) → apply-style-ref-lts.Need-loop-again (claims t) (apply-style-ref-at t) apply-style-ref.Post
     apply-style-ref-Inv-loop apply-style-ref-μ-loop
 unfolding stringAt
 apply-style-ref-loop-again t c =
-    let w = rw (c .before .before .before .before .before .before .before .before .before .before .before .before .x .given .1) at (c .before
-    .before .before .before .before .before .before .before .before .before .before .before .before .before .next-word .ensures) in
-    step-in _ _ _ _ _ _ _ _ _ _ (omega arith) (c .before .before .before .before .before .before .before .before .before .before .before .before
-    .before .before .before .before .before .before .chain-of .ensures .within) _ _ _ _ (c .before .before .before .before .before .before
-    .before .before .before .before .before .before .before .before .before .before .loop .inv) _ _ w _ _ _ (rw (c .before .t .given .1) at (c
-    .before .before .before .before .before .before .before .apply-style-ref .ensures))
+    let w = rw (c .before .before .before .before .before .before .before .before .before .before .before .before .x .given .1) at (c .before .before .before .before .before .before .before .before .before .before .before .before .before .before .next-word .ensures) in
+    step-in _ _ _ _ _ _ _ _ _ _ (omega arith) (c .before .before .before .before .before .before .before .before .before .before .before .before .before .before .before .before .before .before .chain-of .ensures .within) _ _ _ _ (c .before .before .before .before .before .before .before .before .before .before .before .before .before .before .before .before .loop .inv) _ _ w _ _ _ (rw (c .before .t .given .1) at (c .before .before .before .before .before .before .before .apply-style-ref .ensures))
 
 pub +apply-style-ref-spec : {M : Type 1} → statement M
 +apply-style-ref-spec = close μ-apply-style-ref λ t. apply-style-ref-lts.spec (claims t)
@@ -609,8 +485,11 @@ pub +apply-style-ref-spec : {M : Type 1} → statement M
     (apply-style-ref-same-length-5 t)
     (apply-style-ref-same-length-6 t)
     (apply-style-ref-returns-3 t)
+    (apply-style-ref-sub-add-id t)
+    (apply-style-ref-part-add-id-start t)
+    (apply-style-ref-part-add-id-end t)
     (apply-style-ref-add-id-requires t)
-    (apply-style-ref-add-t27 t)
+    (apply-style-ref-add-t39 t)
     (apply-style-ref-sub-chain-of t)
     (apply-style-ref-part-chain-of-start t)
     (apply-style-ref-part-chain-of-end t)
