@@ -12,7 +12,9 @@ use Rattle.styles.proofs.ids.add_id.Statement.{statement}
 use Rattle.styles.proofs.ids.add_id.Tie as tie
 
 free-slot-requires : tie.Need-free-slot-requires
-free-slot-requires c κs = (c .before .before .before .before .before .pre .2, c .before .before .before .before .before .pre .3, c .before .before .before .before .before .pre .4)
+free-slot-requires c κs =
+    let c5 = c .before .before .before .before .before in
+    (c5 .pre .2, c5 .pre .3, c5 .pre .4)
 
 mul-at : tie.Need-mul-at
 mul-at c = search needs
@@ -66,7 +68,9 @@ mul-heads : tie.Need-mul-heads
 mul-heads c = search needs
 
 slice-write-heads : tie.Need-slice-write-heads
-slice-write-heads c = omega (arith, c .before .before .before .before .before .before .before .before .pre .2 .buckets, c .before .before .before .before .before .before .before .before .pre .4)
+slice-write-heads c =
+    let c8 = c .before .before .before .before .before .before .before .before in
+    omega (arith, c8 .pre .2 .buckets, c8 .pre .4)
 
 same-length : tie.Need-same-length
 same-length c = search needs
@@ -99,11 +103,13 @@ slice-read-link c = simp length-set (omega (arith, c .before .before .before .be
 
 with-row-requires : tie.Need-with-row-requires
 with-row-requires c κs =
-    let a = c .before .before .before .before .before .before .before .before .before .before .args in
+    let c4 = c .before .before .before .before in
+    let c10 = c4 .before .before .before .before .before .before in
+    let a = c10 .args in
     let t : List ℕ = set (set (set (set (a .ids .now) (a .n * 4) (a .source)) (a .n * 4 + 1) (a .place)) (a .n * 4 + 2) (a .len)) (a .n * 4 + 3) 0 in
     let laid : t ≡ sets (a .ids .now) (a .n * 4) (a .source ∷ a .place ∷ a .len ∷ 0 ∷ []) = simp (add-one, add-two, add-three) in
-    let p = c .before .before .before .before .before .before .before .before .before .before .pre in
-    (p .1, free-link _ _ _ _ _ _ _ (p .0) (p .1) (p .2) t laid _ _ (c .before .before .before .before .free-slot .ensures) (c .before .before .if1 .left))
+    let p = c10 .pre in
+    (p .1, free-link _ _ _ _ _ _ _ (p .0) (p .1) (p .2) t laid _ _ (c4 .free-slot .ensures) (c .before .before .if1 .left))
 
 mul-ids-5 : tie.Need-mul-ids-5
 mul-ids-5 c = search needs
@@ -119,11 +125,15 @@ same-length-4 c = search needs
 
 returns-2 : tie.Need-returns-2
 returns-2 c =
-    let a = c .before .before .before .before .before .before .before .before .before .before .before .args in
+    let c3 = c .before .before .before in
+    let c5 = c3 .before .before in
+    let c11 = c5 .before .before .before .before .before .before in
+    let a = c11 .args in
     let t : List ℕ = set (set (set (set (a .ids .now) (a .n * 4) (a .source)) (a .n * 4 + 1) (a .place)) (a .n * 4 + 2) (a .len)) (a .n * 4 + 3) 0 in
     let laid : t ≡ sets (a .ids .now) (a .n * 4) (a .source ∷ a .place ∷ a .len ∷ 0 ∷ []) = simp (add-one, add-two, add-three) in
-    let p = c .before .before .before .before .before .before .before .before .before .before .before .pre in
-    add-next _ _ _ _ _ _ _ (p .0) (p .1) (p .2) t laid _ _ (c .before .before .before .before .before .free-slot .ensures) (c .before .before .before .if1 .left) _ (c .with-row .ensures .0) (c .with-row .ensures .1) _ refl
+    let p = c11 .pre in
+    add-next _ _ _ _ _ _ _ (p .0) (p .1) (p .2) t laid _ _ (c5 .free-slot .ensures) (c3 .if1 .left) _ (c .with-row .ensures .0)
+    (c .with-row .ensures .1) _ refl
 
 pub add-id-spec : {M : Type 1} → statement M
 add-id-spec =

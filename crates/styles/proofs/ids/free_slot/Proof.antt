@@ -25,16 +25,27 @@ sub-next-row : tie.Need-sub-next-row Inv-loop μ-loop
 sub-next-row c = omega arith
 
 next-row-requires : tie.Need-next-row-requires Inv-loop μ-loop
-next-row-requires c κs = falling-row _ _ _ _ _ _ _ _ (c .before .before .before .before .before .before .before .pre .0) (c .before .before .loop .inv) (omega arith)
+next-row-requires c κs =
+    let c7 = c .before .before .before .before .before .before .before in
+    falling-row _ _ _ _ _ _ _ _ (c7 .pre .0) (c .before .before .loop .inv) (omega arith)
 
 add-depth : tie.Need-add-depth Inv-loop μ-loop
-add-depth c = omega (arith, falling-deep _ _ _ _ _ _ _ _ (c .before .before .before .before .before .before .before .before .pre .0) (c .before .before .before .loop .inv) (omega arith))
+add-depth c =
+    let c3 = c .before .before .before in
+    let c8 = c3 .before .before .before .before .before in
+    omega (arith, falling-deep _ _ _ _ _ _ _ _ (c8 .pre .0) (c3 .loop .inv) (omega arith))
 
 loop-less : tie.Need-loop-less Inv-loop μ-loop
-loop-less c = omega (arith, falling-deep _ _ _ _ _ _ _ _ (c .before .before .before .before .before .before .before .before .pre .0) (c .before .before .before .loop .inv) (omega arith))
+loop-less c =
+    let c3 = c .before .before .before in
+    let c8 = c3 .before .before .before .before .before in
+    omega (arith, falling-deep _ _ _ _ _ _ _ _ (c8 .pre .0) (c3 .loop .inv) (omega arith))
 
 loop-again : tie.Need-loop-again Inv-loop μ-loop
-loop-again c = falling-step _ _ _ _ _ _ _ _ (c .before .before .before .before .before .before .before .before .pre .0) (c .before .before .before .loop .inv) (omega arith) _ (c .before .turns .ensures) _ (c .next-row .ensures)
+loop-again c =
+    let c3 = c .before .before .before in
+    let c8 = c3 .before .before .before .before .before in
+    falling-step _ _ _ _ _ _ _ _ (c8 .pre .0) (c3 .loop .inv) (omega arith) _ (c .before .turns .ensures) _ (c .next-row .ensures)
 
 returns : tie.Need-returns Inv-loop μ-loop
 returns c = falling-ends _ _ _ _ _ _ _ _ (c .before .before .before .before .before .before .pre .0) (c .before .loop .inv) (omega arith)

@@ -32,10 +32,18 @@ sub-is-id : tie.Need-sub-is-id Inv-loop μ-loop
 sub-is-id c = omega arith
 
 is-id-requires : tie.Need-is-id-requires Inv-loop μ-loop
-is-id-requires c κs = (search-row _ _ _ _ _ _ (c .before .before .before .before .before .before .before .before .pre .0) _ _ (c .before .loop .inv) (omega arith), search-within _ _ _ _ _ _ (c .before .before .before .before .before .before .before .before .pre .0) _ _ (c .before .loop .inv) (omega arith))
+is-id-requires c κs =
+    let c8 = c .before .before .before .before .before .before .before .before in (
+      search-row _ _ _ _ _ _ (c8 .pre .0) _ _ (c .before .loop .inv) (omega arith),
+      search-within _ _ _ _ _ _ (c8 .pre .0) _ _
+          (c .before .loop .inv) (omega arith),
+    )
 
 returns : tie.Need-returns Inv-loop μ-loop
-returns c = sym (search-hit _ _ _ _ _ _ (c .before .before .before .before .before .before .before .before .before .before .pre .0) _ _ (c .before .before .before .loop .inv) (omega arith) (sym (c .before .is-id .ensures) ∙ c .if1 .taken))
+returns c =
+    let c3 = c .before .before .before in
+    let c10 = c3 .before .before .before .before .before .before .before in
+    sym (search-hit _ _ _ _ _ _ (c10 .pre .0) _ _ (c3 .loop .inv) (omega arith) (sym (c .before .is-id .ensures) ∙ c .if1 .taken))
 
 turns-requires : tie.Need-turns-requires Inv-loop μ-loop
 turns-requires c κs = search needs
@@ -44,19 +52,35 @@ sub-next-row : tie.Need-sub-next-row Inv-loop μ-loop
 sub-next-row c = omega arith
 
 next-row-requires : tie.Need-next-row-requires Inv-loop μ-loop
-next-row-requires c κs = search-row _ _ _ _ _ _ (c .before .before .before .before .before .before .before .before .before .before .before .pre .0) _ _ (c .before .before .before .before .loop .inv) (omega arith)
+next-row-requires c κs =
+    let c4 = c .before .before .before .before in
+    let c11 = c4 .before .before .before .before .before .before .before in
+    search-row _ _ _ _ _ _ (c11 .pre .0) _ _ (c4 .loop .inv) (omega arith)
 
 add-depth : tie.Need-add-depth Inv-loop μ-loop
-add-depth c = omega (arith, search-deep _ _ _ _ _ _ (c .before .before .before .before .before .before .before .before .before .before .before .before .pre .0) _ _ (c .before .before .before .before .before .loop .inv) (omega arith))
+add-depth c =
+    let c5 = c .before .before .before .before .before in
+    let c12 = c5 .before .before .before .before .before .before .before in
+    omega (arith, search-deep _ _ _ _ _ _ (c12 .pre .0) _ _ (c5 .loop .inv) (omega arith))
 
 loop-less : tie.Need-loop-less Inv-loop μ-loop
-loop-less c = omega (arith, search-deep _ _ _ _ _ _ (c .before .before .before .before .before .before .before .before .before .before .before .before .pre .0) _ _ (c .before .before .before .before .before .loop .inv) (omega arith))
+loop-less c =
+    let c5 = c .before .before .before .before .before in
+    let c12 = c5 .before .before .before .before .before .before .before in
+    omega (arith, search-deep _ _ _ _ _ _ (c12 .pre .0) _ _ (c5 .loop .inv) (omega arith))
 
 loop-again : tie.Need-loop-again Inv-loop μ-loop
-loop-again c = search-step _ _ _ _ _ _ (c .before .before .before .before .before .before .before .before .before .before .before .before .pre .0) _ _ (c .before .before .before .before .before .loop .inv) (omega arith) (sym (c .before .before .before .is-id .ensures) ∙ c .before .before .if1 .left) _ (c .before .turns .ensures) _ (c .next-row .ensures)
+loop-again c =
+    let c3 = c .before .before .before in
+    let c5 = c3 .before .before in
+    let c12 = c5 .before .before .before .before .before .before .before in
+    search-step _ _ _ _ _ _ (c12 .pre .0) _ _ (c5 .loop .inv) (omega arith) (sym (c3 .is-id .ensures)
+    ∙ c .before .before .if1 .left) _ (c .before .turns .ensures) _ (c .next-row .ensures)
 
 returns-2 : tie.Need-returns-2 Inv-loop μ-loop
-returns-2 c = sym (search-none _ _ _ _ _ _ (c .before .before .before .before .before .before .before .before .pre .0) _ _ (c .before .loop .inv) (omega arith))
+returns-2 c =
+    let c8 = c .before .before .before .before .before .before .before .before in
+    sym (search-none _ _ _ _ _ _ (c8 .pre .0) _ _ (c .before .loop .inv) (omega arith))
 
 pub is-visited-spec : {M : Type 1} → statement M
 is-visited-spec =
