@@ -23,7 +23,7 @@ use Rattle.styles.specs.Values.{blank, unstyled, laidOver}
 use Rattle.styles.specs.Resolve.{Walked, Resolution, start, walk, answered, resolve}
 use Rattle.styles.specs.Queries.{others, both, styled, withOwn}
 use Rattle.styles.specs.Cells.{overlaid, blankLook, isPlain, Tidy}
-use Rattle.styles.specs.Ids.{idsIn, lastOf, Held, Unlinked}
+use Rattle.styles.specs.Ids.{idsIn, Held, Unlinked}
 use Rattle.styles.specs.Steps.{
   stylesIn,
   stateIn,
@@ -47,21 +47,24 @@ use Rattle.styles.proofs.Overlays.{plain-unstyled}
 use Rattle.styles.proofs.Both.{both-ids, both-longer}
 use Rattle.styles.proofs.Tidying.{tidy-blank, tidy-over}
 
-pub held-none : (x z t : List ℕ) → Held x z t (replicate 4096 0) 0
-unfolding lastOf
-held-none x z t = record {
-  rows = omega arith;
-  few = omega arith;
-  buckets = length-replicate {A = ℕ} 4096 0;
-  within = λ i l. absurd (omega arith);
-  head = λ h l. getD-replicate {A = ℕ} 4096 h 0 0 l;
-  link = λ i l. absurd (omega arith);
-}
-
 zeros : (n i : ℕ) → _≡_ {A = ℕ} (getD (replicate n 0) i 0) 0
 zeros zero i = refl
 zeros (suc n) zero = refl
 zeros (suc n) (suc i) = zeros n i
+
+pub held-none : (x z t : List ℕ) → Held x z t (replicate 4096 0) 0
+held-none x z t = record {
+  tree = record {
+    rows = omega arith;
+    buckets = length-replicate {A = ℕ} 4096 0;
+    first = λ h. omega (arith, zeros 4096 h);
+    next = λ i b l. absurd (omega arith);
+    later = λ i b l. absurd (omega arith);
+  };
+  few = omega arith;
+  within = λ i l. absurd (omega arith);
+  found = λ i l. absurd (omega arith);
+}
 
 -- nothing is resolved to nothing
 pub resolve-nothing : (styles : List (Style Bytes)) → resolve styles [] ≡ record { style = none; ids = [] }
@@ -122,7 +125,7 @@ module _ (x s : List ℕ) (f : List Float) (z : List ℕ) (n : ℕ) (first secon
             tidy = rw k (done .tidy (rw plain tidy-blank));
             kept = u .kept ∙ (more .grown .kept ∙ done .grown .kept);
             stood = rw c (record {
-              fits = omega (arith, h .rows, u .kept);
+              fits = omega (arith, h .tree .rows, u .kept);
               few = h .few;
               rows = λ i l. unlinked-within x z t₂ t₃ (b .count) u i (h .within i l);
               marks = u .zeros;

@@ -11,10 +11,8 @@ use mathlib.Core.Logic.{_⊎_, inl, inr}
 use mathlib.Core.List.{List, [], _∷_, _++_}
 use native.Mathlib.Omega.{arith}
 use lib.ListN.{length, getD}
-use lib.Seq.{sets, length-sets}
 use lib.Ieee.{Float}
 use Rattle.scan.specs.Part.{stringAt}
-use Rattle.scan.proofs.Stores.{sets-other}
 use Rattle.unicode.specs.White.{words}
 use Rattle.names.specs.Numbers.{isIn}
 use Rattle.track.specs.declared.strings.Span.{Span}
@@ -23,11 +21,10 @@ use Rattle.styles.specs.declared.apply.Walk.{Walk}
 use Rattle.styles.specs.Reaches.{parents}
 use Rattle.styles.specs.Resolve.{Walked, meet, own, walk}
 use Rattle.styles.specs.Cells.{Tidy}
-use Rattle.styles.specs.Ids.{sourceOf, idsIn, hashOf, Held}
+use Rattle.styles.specs.Ids.{sourceOf, idsIn, Held, Added, AddPost}
 use Rattle.styles.specs.Steps.{stylesIn, stateIn, Stands, ChainOf, OwnStyle, Grown, Over, Applies, Overflows}
 use Rattle.styles.proofs.Walks.{own-visited}
 use Rattle.styles.proofs.Equations.{walk-is}
-use Rattle.styles.proofs.Adding.{held-more, ids-more}
 use Rattle.styles.proofs.Along.{walk-none, met-longer, ids-length, grown-none, grown-more, over-kept, over-longer}
 
 module _ (x s : List ℕ) (f : List Float) (z : List ℕ) (n : ℕ) (id : Bytes) (t heads : List ℕ) (w : Walk) (held : Held x z t heads (w .count)) where
@@ -66,79 +63,53 @@ module _ (x s : List ℕ) (f : List Float) (z : List ℕ) (n : ℕ) (id : Bytes)
     applied-full (inr h) = record { kept = refl; over = λ e. inl (omega (arith, more-ids e)) }
 
 -- the id stands where it is said to, was not visited, and has the row after the last
-pub record Entry (x z own : List ℕ) (source at len h : ℕ) (t heads t₁ heads₁ : List ℕ) (w : Walk) : Type 0 where
+pub record Entry (x z own : List ℕ) (source at len : ℕ) (t heads t₁ heads₁ : List ℕ) (w : Walk) : Type 0 where
   pub held : Held x z t heads (w .count)
   pub new : isIn (stringAt own at len) (idsIn x z t (w .count)) ≡ false
   pub stands : Stands x z own source at len
-  pub room : w .count * 4 + 4 ≤ length t
-  pub few : w .count < 65536
-  pub bucket : h ≡ hashOf (stringAt own at len)
-  pub small : h < 4096
-  pub laid : t₁ ≡ sets t (w .count * 4) (source ∷ at ∷ len ∷ getD heads h 0 ∷ [])
-  pub led : heads₁ ≡ sets heads h ((w .count + 1) ∷ [])
+  pub kept : length t₁ ≡ length t
+  pub post : AddPost t heads (w .count) source at len (stringAt own at len) t₁ heads₁
 
-module _ (x z own : List ℕ) (source at len h : ℕ) (t heads t₁ heads₁ : List ℕ) (w : Walk) (entry : Entry x z own source at len h t heads t₁ heads₁
-    w) where
-  id : Bytes
-  id = stringAt own at len
+module _ (x z own : List ℕ) (source at len : ℕ) (t heads t₁ heads₁ : List ℕ) (w : Walk) (entry : Entry x z own source at len t heads t₁ heads₁ w)
+  where
+    abbrev pub entered : Walk
+    entered = record { count = w .count + 1; found = w .found; look = w .look }
 
-  here : id ≡ stringAt (sourceOf x z source) at len
-  unfolding id
-  here = rw (entry .stands .is)
+    added : Added x z t heads (w .count) (stringAt own at len) t₁ heads₁
+    added = entry .post x z (entry .held) (entry .stands .known) (rw (entry .stands .is) at (entry .stands .within)) (rw (entry .stands .is))
 
-  within : at + len ≤ length (sourceOf x z source)
-  within = rw (entry .stands .is) at (entry .stands .within)
+    pub entered-held : Held x z t₁ heads₁ (w .count + 1)
+    entered-held = added .held
 
-  bucket′ : h ≡ hashOf (stringAt (sourceOf x z source) at len)
-  unfolding id
-  bucket′ = entry .bucket ∙ ap hashOf here
+    pub entered-grown : Grown x z t t₁ heads₁ (w .count) (w .count + 1)
+    entered-grown = record { more = omega arith; kept = entry .kept; held = entered-held; behind = added .behind }
 
-  abbrev pub entered : Walk
-  entered = record { count = w .count + 1; found = w .found; look = w .look }
+    meets : stateIn x z t₁ entered ≡ meet (stringAt own at len) (stateIn x z t w)
+    unfolding meet
+    meets = rw (added .ids)
 
-  pub entered-held : Held x z t₁ heads₁ (w .count + 1)
-  entered-held = held-more x z t heads (w .count) (entry .held) source at len h t₁ heads₁ (entry .room) (entry .few) (entry .stands .known) within
-      bucket′ (entry .small) (entry .laid) (entry .led)
+    module _ (s : List ℕ) (f : List Float) (n : ℕ) (chain : Span) (of : ChainOf s z n (stringAt own at len) chain) where
+      abbrev walked : List ℕ → Walked
+      walked e = walk (stylesIn s f e z n) (words (stringAt z (chain .place) (chain .len))) (stateIn x z t₁ entered)
 
-  pub entered-grown : Grown x z t t₁ heads₁ (w .count) (w .count + 1)
-  entered-grown = record {
-    more = omega arith;
-    kept = rw (entry .laid) (length-sets t (w .count * 4) (source ∷ at ∷ len ∷ getD heads h 0 ∷ []));
-    held = entered-held;
-    behind = λ k l. rw (entry .laid) (sets-other (source ∷ at ∷ len ∷ getD heads h 0 ∷ []) t (w .count * 4) k (inr (omega arith)));
-  }
+      as-walked : (e : List ℕ) → walk (stylesIn s f e z n) (parents (stylesIn s f e z n) (stringAt own at len)) (meet (stringAt own at len) (stateIn
+          x z t w)) ≡ walked e
+      as-walked e = rw (of .is f e, meets)
 
-  meets : stateIn x z t₁ entered ≡ meet (stringAt own at len) (stateIn x z t w)
-  unfolding meet id
-  meets =
-      rw (
-        ids-more x z t heads (w .count) (entry .held) source at len h t₁ heads₁ (entry .room) (entry .few) (entry .stands .known) within bucket′
-            (entry .small) (entry .laid) (entry .led),
-        here,
-      )
+      pub applied-first : (t₂ heads₂ : List ℕ) (v r : Walk) → Grown x z t₁ t₂ heads₂ (w .count + 1) (v .count)
+          → (Tidy (w .look) → Tidy (v .look)) → ((e : List ℕ) → walked e ≡ stateIn x z t₂ v) → OwnStyle s f z n (stringAt own at len) v r
+          → Applies x s f z n (stringAt own at len ∷ []) t t₂ heads₂ w r
+      applied-first t₂ heads₂ v r g d k o = record {
+        grown = rw (o .count) (grown-more x z t t₁ t₂ heads₁ heads₂ (w .count) (w .count + 1) (v .count) entered-grown g);
+        tidy = λ h. o .tidy (d h);
+        is = λ e. opened x s f z n (stringAt own at len) t heads w (entry .held) (entry .new) e ∙ rw (as-walked e, k e) (sym (o .is e x t₂));
+      }
 
-  module _ (s : List ℕ) (f : List Float) (n : ℕ) (chain : Span) (of : ChainOf s z n (stringAt own at len) chain) where
-    abbrev walked : List ℕ → Walked
-    walked e = walk (stylesIn s f e z n) (words (stringAt z (chain .place) (chain .len))) (stateIn x z t₁ entered)
-
-    as-walked : (e : List ℕ) → walk (stylesIn s f e z n) (parents (stylesIn s f e z n) (stringAt own at len)) (meet (stringAt own at len) (stateIn
-        x z t w)) ≡ walked e
-    as-walked e = rw (of .is f e, meets)
-
-    pub applied-first : (t₂ heads₂ : List ℕ) (v r : Walk) → Grown x z t₁ t₂ heads₂ (w .count + 1) (v .count)
-        → (Tidy (w .look) → Tidy (v .look)) → ((e : List ℕ) → walked e ≡ stateIn x z t₂ v) → OwnStyle s f z n (stringAt own at len) v r
-        → Applies x s f z n (stringAt own at len ∷ []) t t₂ heads₂ w r
-    applied-first t₂ heads₂ v r g d k o = record {
-      grown = rw (o .count) (grown-more x z t t₁ t₂ heads₁ heads₂ (w .count) (w .count + 1) (v .count) entered-grown g);
-      tidy = λ h. o .tidy (d h);
-      is = λ e. opened x s f z n (stringAt own at len) t heads w (entry .held) (entry .new) e ∙ rw (as-walked e, k e) (sym (o .is e x t₂));
-    }
-
-    pub applied-over : (t₂ heads₂ : List ℕ) → length t₂ ≡ length t₁ → ((e : List ℕ) → Over t₁ (walked e .visited))
-        → Overflows x s f z n (stringAt own at len ∷ []) t t₂ heads₂ w
-    applied-over t₂ heads₂ l o = record {
-      kept = l ∙ entered-grown .kept;
-      over = λ e.
-          rw (opened-ids x s f z n (stringAt own at len) t heads w (entry .held) (entry .new) e, as-walked e)
-          (over-kept t t₁ (walked e .visited) (entered-grown .kept) (o e));
-    }
+      pub applied-over : (t₂ heads₂ : List ℕ) → length t₂ ≡ length t₁ → ((e : List ℕ) → Over t₁ (walked e .visited))
+          → Overflows x s f z n (stringAt own at len ∷ []) t t₂ heads₂ w
+      applied-over t₂ heads₂ l o = record {
+        kept = l ∙ entered-grown .kept;
+        over = λ e.
+            rw (opened-ids x s f z n (stringAt own at len) t heads w (entry .held) (entry .new) e, as-walked e)
+            (over-kept t t₁ (walked e .visited) (entered-grown .kept) (o e));
+      }

@@ -93,7 +93,7 @@ fn apply_style_ref(
     if ids.len() - count * 4 < 4 {
         return Applied::Full;
     }
-    crate::ids::add_id(ids, heads, count, h, source, at, len);
+    crate::ids::add_id(ids, heads, count, h, source, at, len, &own[at..end]);
     let look = w.look;
     let mut s = Walk {
         count: count + 1,

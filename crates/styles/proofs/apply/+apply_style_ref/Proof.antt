@@ -109,19 +109,18 @@ apply-style-ref-part-is-visited-start : (t : ℕ) → apply-style-ref-lts.Need-p
     apply-style-ref.Post apply-style-ref-Inv-loop apply-style-ref-μ-loop
 apply-style-ref-part-is-visited-start t c = search needs
 
-apply-style-ref-part-is-visited-end : (t : ℕ) → apply-style-ref-lts.Need-part-is-visited-end (claims t) (apply-style-ref-at t) apply-style-ref.Post
+apply-style-ref-part-is-visited-end : (t : ℕ) → apply-style-ref-lts.Need-part-is-visited-end (claims t) (apply-style-ref-at t)
+    apply-style-ref.Post
     apply-style-ref-Inv-loop apply-style-ref-μ-loop
-apply-style-ref-part-is-visited-end t c = omega (
-  arith,
-  c .before .before .before .before .before .before .before .before .before .before .before
-      .pre .1 .1 .within,
-)
+apply-style-ref-part-is-visited-end t c =
+    let c11 = c .before .before .before .before .before .before .before .before .before .before .before in
+    omega (arith, c11 .pre .1 .1 .within)
 
-apply-style-ref-is-visited-requires : (t : ℕ) → apply-style-ref-lts.Need-is-visited-requires (claims t) (apply-style-ref-at t) apply-style-ref.Post
+apply-style-ref-is-visited-requires : (t : ℕ) → apply-style-ref-lts.Need-is-visited-requires (claims t) (apply-style-ref-at t)
+    apply-style-ref.Post
     apply-style-ref-Inv-loop apply-style-ref-μ-loop
 apply-style-ref-is-visited-requires t c κs = (
-  c .before .before .before .before .before .before .before .before .before .before .before .before
-      .pre .1 .2,
+  c .before .before .before .before .before .before .before .before .before .before .before .before .pre .1 .2,
   c .before .before .before .hash .ensures .0,
   c .before .before .before .hash .ensures .1,
 )
@@ -137,8 +136,9 @@ apply-style-ref-same-length-2 t c = search needs
 apply-style-ref-returns : (t : ℕ) → apply-style-ref-lts.Need-returns (claims t) (apply-style-ref-at t) apply-style-ref.Post
     apply-style-ref-Inv-loop apply-style-ref-μ-loop
 unfolding stringAt
-apply-style-ref-returns t c = applied-again _ _ _ _ _ _ _ _ _ (c .before .before .before .before .before .before .before .before .before
-    .before .before .before .before .before .pre .1 .2) (sym (c .before .is-visited .ensures) ∙ c .if1 .taken)
+apply-style-ref-returns t c =
+    let c14 = c .before .before .before .before .before .before .before .before .before .before .before .before .before .before in
+    applied-again _ _ _ _ _ _ _ _ _ (c14 .pre .1 .2) (sym (c .before .is-visited .ensures) ∙ c .if1 .taken)
 
 apply-style-ref-same-length-3 : (t : ℕ) → apply-style-ref-lts.Need-same-length-3 (claims t) (apply-style-ref-at t) apply-style-ref.Post
     apply-style-ref-Inv-loop apply-style-ref-μ-loop
@@ -151,25 +151,22 @@ apply-style-ref-same-length-4 t c = search needs
 apply-style-ref-returns-2 : (t : ℕ) → apply-style-ref-lts.Need-returns-2 (claims t) (apply-style-ref-at t) apply-style-ref.Post
     apply-style-ref-Inv-loop apply-style-ref-μ-loop
 unfolding stringAt
-apply-style-ref-returns-2 t c = applied-full _ _ _ _ _ _ _ _ _ (c .before .before .before .before .before .before .before .before .before
-    .before .before .before .before .before .before .pre .1 .2) (sym (c .before .before .is-visited .ensures) ∙ c .before .if1 .left) (inl (c .if2
-    .taken))
+apply-style-ref-returns-2 t c =
+    let c14 = c .before .before .before .before .before .before .before .before .before .before .before .before .before .before in
+    let c15 = c14 .before in
+    applied-full _ _ _ _ _ _ _ _ _ (c15 .pre .1 .2) (sym (c .before .before .is-visited .ensures) ∙ c .before .if1 .left) (inl (c .if2 .taken))
 
 apply-style-ref-mul-if3 : (t : ℕ) → apply-style-ref-lts.Need-mul-if3 (claims t) (apply-style-ref-at t) apply-style-ref.Post
     apply-style-ref-Inv-loop apply-style-ref-μ-loop
-apply-style-ref-mul-if3 t c = omega (
-  arith,
-  c .before .before .before .before .before .before .before .before .before .before .before .before
-      .before .before .before .pre .1 .2 .rows,
-)
+apply-style-ref-mul-if3 t c =
+    let c15 = c .before .before .before .before .before .before .before .before .before .before .before .before .before .before .before in
+    omega (arith, c15 .pre .1 .2 .tree .rows)
 
 apply-style-ref-sub-if3 : (t : ℕ) → apply-style-ref-lts.Need-sub-if3 (claims t) (apply-style-ref-at t) apply-style-ref.Post
     apply-style-ref-Inv-loop apply-style-ref-μ-loop
-apply-style-ref-sub-if3 t c = omega (
-  arith,
-  c .before .before .before .before .before .before .before .before .before .before .before .before
-      .before .before .before .pre .1 .2 .rows,
-)
+apply-style-ref-sub-if3 t c =
+    let c15 = c .before .before .before .before .before .before .before .before .before .before .before .before .before .before .before in
+    omega (arith, c15 .pre .1 .2 .tree .rows)
 
 apply-style-ref-same-length-5 : (t : ℕ) → apply-style-ref-lts.Need-same-length-5 (claims t) (apply-style-ref-at t) apply-style-ref.Post
     apply-style-ref-Inv-loop apply-style-ref-μ-loop
@@ -182,52 +179,69 @@ apply-style-ref-same-length-6 t c = search needs
 apply-style-ref-returns-3 : (t : ℕ) → apply-style-ref-lts.Need-returns-3 (claims t) (apply-style-ref-at t) apply-style-ref.Post
     apply-style-ref-Inv-loop apply-style-ref-μ-loop
 unfolding stringAt
-apply-style-ref-returns-3 t c = applied-full _ _ _ _ _ _ _ _ _ (c .before .before .before .before .before .before .before .before .before
-    .before .before .before .before .before .before .before .pre .1 .2) (sym (c .before .before .before .is-visited .ensures) ∙ c .before .before
-    .if1 .left) (inr (c .if3 .taken))
+apply-style-ref-returns-3 t c =
+    let c3 = c .before .before .before in
+    let c16 = c3 .before .before .before .before .before .before .before .before .before .before .before .before .before in
+    applied-full _ _ _ _ _ _ _ _ _ (c16 .pre .1 .2) (sym (c3 .is-visited .ensures) ∙ c .before .before .if1 .left) (inr (c .if3 .taken))
+
+apply-style-ref-sub-add-id : (t : ℕ) → apply-style-ref-lts.Need-sub-add-id (claims t) (apply-style-ref-at t) apply-style-ref.Post
+    apply-style-ref-Inv-loop apply-style-ref-μ-loop
+apply-style-ref-sub-add-id t c = omega arith
+
+apply-style-ref-part-add-id-start : (t : ℕ) → apply-style-ref-lts.Need-part-add-id-start (claims t) (apply-style-ref-at t) apply-style-ref.Post
+    apply-style-ref-Inv-loop apply-style-ref-μ-loop
+apply-style-ref-part-add-id-start t c = search needs
+
+apply-style-ref-part-add-id-end : (t : ℕ) → apply-style-ref-lts.Need-part-add-id-end (claims t) (apply-style-ref-at t) apply-style-ref.Post
+    apply-style-ref-Inv-loop apply-style-ref-μ-loop
+apply-style-ref-part-add-id-end t c =
+    let c14 = c .before .before .before .before .before .before .before .before .before .before .before .before .before .before in
+    let c18 = c14 .before .before .before .before in
+    omega (arith, c18 .pre .1 .1 .within)
 
 apply-style-ref-add-id-requires : (t : ℕ) → apply-style-ref-lts.Need-add-id-requires (claims t) (apply-style-ref-at t) apply-style-ref.Post
     apply-style-ref-Inv-loop apply-style-ref-μ-loop
 apply-style-ref-add-id-requires t c κs =
-    let p = c .before .before .before .before .before .before .before .before .before .before .before .before .before .before .before .before
-    .before .before .pre .1 in (
-      omega (arith, p .2 .rows, c .before .before .if3 .left),
-      omega (arith, c .before .before .before .if2 .left),
-      omega (
-        arith,
-        c .before .before
-            .before .before .before .before .before .before .before .hash .ensures .1,
-        p .2 .buckets,
-      ),
+    let c3 = c .before .before .before in
+    let c4 = c3 .before in
+    let c10 = c4 .before .before .before .before .before .before in
+    let c19 = c10 .before .before .before .before .before .before .before .before .before in
+    let p = c19 .pre .1 in (
+      omega (arith, p .2 .tree .rows, c3 .if3 .left),
+      omega (arith, c4 .if2 .left),
+      p .2 .tree,
+      c10 .hash .ensures .0,
+      c10 .hash .ensures .1,
       omega (arith, p .1 .within, p .1 .few),
-      omega
-          (arith, p .1 .within, p .1 .few),
+      omega (arith, p .1 .within, p .1 .few),
     )
 
-apply-style-ref-add-t27 : (t : ℕ) → apply-style-ref-lts.Need-add-t27 (claims t) (apply-style-ref-at t) apply-style-ref.Post
+apply-style-ref-add-t39 : (t : ℕ) → apply-style-ref-lts.Need-add-t39 (claims t) (apply-style-ref-at t) apply-style-ref.Post
     apply-style-ref-Inv-loop apply-style-ref-μ-loop
-apply-style-ref-add-t27 t c = omega (arith, c .before .before .before .before .before .before .before .before .before .if2 .left)
+apply-style-ref-add-t39 t c = omega (arith, c .before .before .before .before .before .before .before .before .before .before .if2 .left)
 
 apply-style-ref-sub-chain-of : (t : ℕ) → apply-style-ref-lts.Need-sub-chain-of (claims t) (apply-style-ref-at t) apply-style-ref.Post
     apply-style-ref-Inv-loop apply-style-ref-μ-loop
 apply-style-ref-sub-chain-of t c = omega arith
 
-apply-style-ref-part-chain-of-start : (t : ℕ) → apply-style-ref-lts.Need-part-chain-of-start (claims t) (apply-style-ref-at t) apply-style-ref.Post
+apply-style-ref-part-chain-of-start : (t : ℕ) → apply-style-ref-lts.Need-part-chain-of-start (claims t) (apply-style-ref-at t)
+    apply-style-ref.Post
     apply-style-ref-Inv-loop apply-style-ref-μ-loop
 apply-style-ref-part-chain-of-start t c = search needs
 
 apply-style-ref-part-chain-of-end : (t : ℕ) → apply-style-ref-lts.Need-part-chain-of-end (claims t) (apply-style-ref-at t) apply-style-ref.Post
     apply-style-ref-Inv-loop apply-style-ref-μ-loop
-apply-style-ref-part-chain-of-end t c = omega (
-  arith,
-  c .before .before .before .before .before .before .before .before .before .before .before
-      .before .before .before .before .before .before .before .before .before .before .before .before .before .pre .1 .1 .within,
-)
+apply-style-ref-part-chain-of-end t c =
+    let c14 = c .before .before .before .before .before .before .before .before .before .before .before .before .before .before in
+    let c25 = c14 .before .before .before .before .before .before .before .before .before .before .before in
+    omega (arith, c25 .pre .1 .1 .within)
 
 apply-style-ref-chain-of-requires : (t : ℕ) → apply-style-ref-lts.Need-chain-of-requires (claims t) (apply-style-ref-at t) apply-style-ref.Post
     apply-style-ref-Inv-loop apply-style-ref-μ-loop
-apply-style-ref-chain-of-requires t c κs = c .before .before .before .before .before .before .before .before .before .before .before .before
-    .before .before .before .before .before .before .before .before .before .before .before .before .before .pre .1 .0 .chained
+apply-style-ref-chain-of-requires t c κs =
+    let c14 = c .before .before .before .before .before .before .before .before .before .before .before .before .before .before in
+    let c26 = c14 .before .before .before .before .before .before .before .before .before .before .before .before in
+    c26 .pre .1 .0 .chained
 
 apply-style-ref-add-to : (t : ℕ) → apply-style-ref-lts.Need-add-to (claims t) (apply-style-ref-at t) apply-style-ref.Post apply-style-ref-Inv-loop
     apply-style-ref-μ-loop
@@ -237,35 +251,24 @@ apply-style-ref-loop-holds : (t : ℕ) → apply-style-ref-lts.Need-loop-holds (
     apply-style-ref-Inv-loop apply-style-ref-μ-loop
 unfolding stringAt
 apply-style-ref-loop-holds t c =
-    let a = c .before .before .before .before .before .before .before .before .before .before .before .before .before .before .before .before
-    .before .before .before .before .before .before .before .before .before .before .before .args in
-    let n : Type 0 = Entry (a .text .now) (a .strings .now) (a .own .now) (a .source) (a .at) (a .len) (c .before .before .before .before .before
-    .before .before .before .before .before .before .before .before .before .before .before .before .before .hash .result) (a .ids .now) (a
-    .heads .now) (c .before .before .before .before .before .before .before .before .add-id .last .0) (c .before .before .before .before
-    .before .before .before .before .add-id .last .1 .0) (a .w) in
+    let c7 = c .before .before .before .before .before .before .before in
+    let c8 = c7 .before in
+    let c14 = c8 .before .before .before .before .before .before in
+    let c15 = c14 .before in
+    let c28 = c15 .before .before .before .before .before .before .before .before .before .before .before .before .before in
+    let a = c28 .args in
+    let p = c28 .pre .1 in
+    let i = c8 .add-id in
+    let n : Type 0 = Entry (a .text .now) (a .strings .now) (a .own .now) (a .source) (a .at) (a .len) (a .ids .now) (a .heads .now) (i .last .0)
+    (i .last .1 .0) (a .w) in
     let entry : n = record {
-      held = c .before .before .before .before .before .before .before .before .before .before .before .before .before .before .before .before
-          .before .before .before .before .before .before .before .before .before .before .before .pre .1 .2;
-      new = sym (c .before .before .before .before .before .before .before .before .before .before .before .before .before .before .is-visited
-          .ensures) ∙ c .before .before .before .before .before .before .before .before .before .before .before .before .before .if1 .left;
-      stands = c .before .before .before .before .before .before .before .before .before .before .before .before .before .before .before
-          .before .before .before .before .before .before .before .before .before .before .before .before .pre .1 .1;
-      room = omega (
-        arith,
-        c .before .before .before .before .before .before .before .before .before .before .before .before .before .before
-            .before .before .before .before .before .before .before .before .before .before .before .before .before .pre .1 .2 .rows,
-        c .before
-            .before .before .before .before .before .before .before .before .before .before .if3 .left,
-      );
-      few = omega (arith, c .before .before .before .before .before .before .before .before .before .before .before .before .if2 .left);
-      bucket = c .before .before .before .before .before .before .before .before .before .before .before .before .before .before .before
-          .before .before .before .hash .ensures .0;
-      small = c .before .before .before .before .before .before .before .before .before .before .before .before .before .before .before .before
-          .before .before .hash .ensures .1;
-      laid = c .before .before .before .before .before .before .before .before .add-id .ensures .0;
-      led = c .before .before .before .before .before .before .before .before .add-id .ensures .1;
+      held = p .2;
+      new = sym (c15 .is-visited .ensures) ∙ c14 .if1 .left;
+      stands = p .1;
+      kept = c7 .ids .given;
+      post = i .ensures;
     } in
-    along-start _ _ _ _ _ _ _ _ _ (entered-held _ _ _ _ _ _ _ _ _ _ _ _ entry)
+    along-start _ _ _ _ _ _ _ _ _ (entered-held _ _ _ _ _ _ _ _ _ _ _ entry)
 
 apply-style-ref-sub-next-word : (t : ℕ) → apply-style-ref-lts.Need-sub-next-word (claims t) (apply-style-ref-at t) apply-style-ref.Post
     apply-style-ref-Inv-loop apply-style-ref-μ-loop
@@ -297,114 +300,86 @@ apply-style-ref-part-own-style-start t c = search needs
 
 apply-style-ref-part-own-style-end : (t : ℕ) → apply-style-ref-lts.Need-part-own-style-end (claims t) (apply-style-ref-at t) apply-style-ref.Post
     apply-style-ref-Inv-loop apply-style-ref-μ-loop
-apply-style-ref-part-own-style-end t c = omega (
-  arith,
-  c .before .before .before .before .before .before .before .before .before .before .before
-      .before .before .before .before .before .before .before .before .before .before .before .before .before .before .before .before .before .before
-      .before .before .before .pre .1 .1 .within,
-)
+apply-style-ref-part-own-style-end t c =
+    let c14 = c .before .before .before .before .before .before .before .before .before .before .before .before .before .before in
+    let c28 = c14 .before .before .before .before .before .before .before .before .before .before .before .before .before .before in
+    let c33 = c28 .before .before .before .before .before in
+    omega (arith, c33 .pre .1 .1 .within)
 
 apply-style-ref-own-style-requires : (t : ℕ) → apply-style-ref-lts.Need-own-style-requires (claims t) (apply-style-ref-at t) apply-style-ref.Post
     apply-style-ref-Inv-loop apply-style-ref-μ-loop
-apply-style-ref-own-style-requires t c κs = c .before .before .before .before .before .before .before .before .before .before .before .before
-    .before .before .before .before .before .before .before .before .before .before .before .before .before .before .before .before .before .before
-    .before .before .before .pre .1 .0
+apply-style-ref-own-style-requires t c κs =
+    let c14 = c .before .before .before .before .before .before .before .before .before .before .before .before .before .before in
+    let c28 = c14 .before .before .before .before .before .before .before .before .before .before .before .before .before .before in
+    let c34 = c28 .before .before .before .before .before .before in
+    c34 .pre .1 .0
 
 apply-style-ref-same-length-7 : (t : ℕ) → apply-style-ref-lts.Need-same-length-7 (claims t) (apply-style-ref-at t) apply-style-ref.Post
     apply-style-ref-Inv-loop apply-style-ref-μ-loop
 apply-style-ref-same-length-7 t c = omega (
   arith,
   c .before .before .before .before .before .before .loop .inv .grown .kept,
-  c .before .before
-      .before .before .before .before .before .before .before .before .before .before .before .before .ids .given,
+  c .before .before .before .before .before .before .before .before .before .before .before .before .before .before .ids .given,
 )
 
 apply-style-ref-same-length-8 : (t : ℕ) → apply-style-ref-lts.Need-same-length-8 (claims t) (apply-style-ref-at t) apply-style-ref.Post
     apply-style-ref-Inv-loop apply-style-ref-μ-loop
-apply-style-ref-same-length-8 t c = omega (
-  arith,
-  c .before .before .before .before .before .before .loop .inv .grown .held .buckets,
-  c .before
-      .before .before .before .before .before .before .before .before .before .before .before .before .before .before .before .before .before .before
-      .before .before .before .before .before .before .before .before .before .before .before .before .before .before .before .pre .1 .2 .buckets,
-)
+apply-style-ref-same-length-8 t c =
+    let c6 = c .before .before .before .before .before .before in
+    let c20 = c6 .before .before .before .before .before .before .before .before .before .before .before .before .before .before in
+    let c34 = c20 .before .before .before .before .before .before .before .before .before .before .before .before .before .before in
+    let c35 = c34 .before in
+    omega (arith, c6 .loop .inv .grown .held .tree .buckets, c35 .pre .1 .2 .tree .buckets)
 
 apply-style-ref-returns-4 : (t : ℕ) → apply-style-ref-lts.Need-returns-4 (claims t) (apply-style-ref-at t) apply-style-ref.Post
     apply-style-ref-Inv-loop apply-style-ref-μ-loop
 unfolding stringAt
 apply-style-ref-returns-4 t c =
-    let a = c .before .before .before .before .before .before .before .before .before .before .before .before .before .before .before .before
-    .before .before .before .before .before .before .before .before .before .before .before .before .before .before .before .before .before
-    .before .args in
-    let n : Type 0 = Entry (a .text .now) (a .strings .now) (a .own .now) (a .source) (a .at) (a .len) (c .before .before .before .before .before
-    .before .before .before .before .before .before .before .before .before .before .before .before .before .before .before .before .before
-    .before .before .before .hash .result) (a .ids .now) (a .heads .now) (c .before .before .before .before .before .before .before .before
-    .before .before .before .before .before .before .before .add-id .last .0) (c .before .before .before .before .before .before .before
-    .before .before .before .before .before .before .before .before .add-id .last .1 .0) (a .w) in
+    let c4 = c .before .before .before .before in
+    let c6 = c4 .before .before in
+    let c8 = c6 .before .before in
+    let c14 = c8 .before .before .before .before .before .before in
+    let c15 = c14 .before in
+    let c21 = c15 .before .before .before .before .before .before in
+    let c22 = c21 .before in
+    let c35 = c22 .before .before .before .before .before .before .before .before .before .before .before .before .before in
+    let a = c35 .args in
+    let p = c35 .pre .1 in
+    let i = c15 .add-id in
+    let n : Type 0 = Entry (a .text .now) (a .strings .now) (a .own .now) (a .source) (a .at) (a .len) (a .ids .now) (a .heads .now) (i .last .0)
+    (i .last .1 .0) (a .w) in
     let entry : n = record {
-      held = c .before .before .before .before .before .before .before .before .before .before .before .before .before .before .before .before
-          .before .before .before .before .before .before .before .before .before .before .before .before .before .before .before .before
-          .before .before .pre .1 .2;
-      new = sym (c .before .before .before .before .before .before .before .before .before .before .before .before .before .before .before
-          .before .before .before .before .before .before .is-visited .ensures) ∙ c .before .before .before .before .before .before .before
-          .before .before .before .before .before .before .before .before .before .before .before .before .before .if1 .left;
-      stands = c .before .before .before .before .before .before .before .before .before .before .before .before .before .before .before
-          .before .before .before .before .before .before .before .before .before .before .before .before .before .before .before .before
-          .before .before .before .pre .1 .1;
-      room = omega (
-        arith,
-        c .before .before .before .before .before .before .before .before .before .before .before .before .before .before
-            .before .before .before .before .before .before .before .before .before .before .before .before .before .before .before .before
-            .before .before .before .before .pre .1 .2 .rows,
-        c .before .before .before .before .before .before .before .before .before .before
-            .before .before .before .before .before .before .before .before .if3 .left,
-      );
-      few = omega (
-        arith,
-        c .before .before .before .before .before .before .before .before .before .before .before .before .before .before
-            .before .before .before .before .before .if2 .left,
-      );
-      bucket = c .before .before .before .before .before .before .before .before .before .before .before .before .before .before .before
-          .before .before .before .before .before .before .before .before .before .before .hash .ensures .0;
-      small = c .before .before .before .before .before .before .before .before .before .before .before .before .before .before .before .before
-          .before .before .before .before .before .before .before .before .before .hash .ensures .1;
-      laid = c .before .before .before .before .before .before .before .before .before .before .before .before .before .before .before .add-id
-          .ensures .0;
-      led = c .before .before .before .before .before .before .before .before .before .before .before .before .before .before .before .add-id
-          .ensures .1;
+      held = p .2;
+      new = sym (c22 .is-visited .ensures) ∙ c21 .if1 .left;
+      stands = p .1;
+      kept = c14 .ids .given;
+      post = i .ensures;
     } in
-    applied-first _ _ _ _ _ _ _ _ _ _ _ _ entry _ _ _ _ (c .before .before .before .before .before .before .before .before .chain-of .ensures) _ _
-    _ _ (c .before .before .before .before .before .before .loop .inv .grown)
-    (c .before .before .before .before .before .before .loop .inv .tidy) (along-done _ _ _ _ _ _ _ _ _ _ _ _ (c .before .before .before
-    .before .before .before .loop .inv) (rw (c .before .before .enum-told .given .1) at (c .before .before .before .before .next-word
-    .ensures))) (c .own-style .ensures)
+    applied-first _ _ _ _ _ _ _ _ _ _ _ entry _ _ _ _ (c8 .chain-of .ensures) _ _
+    _ _ (c6 .loop .inv .grown)
+    (c6 .loop .inv .tidy) (along-done _ _ _ _ _ _ _ _ _ _ _ _ (c6 .loop .inv) (rw (c .before .before .enum-told .given .1) at
+    (c4 .next-word .ensures))) (c .own-style .ensures)
 
 apply-style-ref-enum-known-x : (t : ℕ) → apply-style-ref-lts.Need-enum-known-x (claims t) (apply-style-ref-at t) apply-style-ref.Post
     apply-style-ref-Inv-loop apply-style-ref-μ-loop
 apply-style-ref-enum-known-x t c = search needs
 
-apply-style-ref-add-apply-style-ref : (t : ℕ) → apply-style-ref-lts.Need-add-apply-style-ref (claims t) (apply-style-ref-at t) apply-style-ref.Post
+apply-style-ref-add-apply-style-ref : (t : ℕ) → apply-style-ref-lts.Need-add-apply-style-ref (claims t) (apply-style-ref-at t)
+    apply-style-ref.Post
     apply-style-ref-Inv-loop apply-style-ref-μ-loop
 apply-style-ref-add-apply-style-ref t c =
-    let w = rw (c .before .x .given .1) at (c .before .before .before .next-word .ensures) in
-    let k : length (part (c .before .before .before .before .before .before .before .chain-of .result .place) (c .before .before .before .before
-    .before .before .before .chain-of .result .place + c .before .before .before .before .before .before .before .chain-of .result .len) (c
-    .before .before .before .before .before .before .before .before .before .before .before .before .before .before .before .before .before
-    .before .before .before .before .before .before .before .before .before .before .before .before .before .before .before .before .args
-    .strings .now)) ≡ c .before .before .before .before .before .before .before .chain-of .result .place + c .before .before .before .before
-    .before .before .before .chain-of .result .len - c .before .before .before .before .before .before .before .chain-of .result .place =
-    part-length _ _ _ (omega arith) (c .before .before .before .before .before .before .before .chain-of .ensures .within) in
-    omega (
-      arith,
-      w .within-text,
-      w .some-byte,
-      k,
-      c .before .before .before .before .before .before .before .chain-of .ensures .within,
-      c .before
-          .before .before .before .before .before .before .chain-of .ensures .few,
-    )
+    let c3 = c .before .before .before in
+    let c7 = c3 .before .before .before .before in
+    let c21 = c7 .before .before .before .before .before .before .before .before .before .before .before .before .before .before in
+    let c34 = c21 .before .before .before .before .before .before .before .before .before .before .before .before .before in
+    let w = rw (c .before .x .given .1) at (c3 .next-word .ensures) in
+    let k : length (part (c7 .chain-of .result .place) (c7 .chain-of .result .place + c7 .chain-of .result .len) (c34 .args .strings .now)) ≡
+    c7 .chain-of .result .place + c7 .chain-of .result .len - c7 .chain-of .result .place =
+    part-length _ _ _ (omega arith) (c7 .chain-of .ensures .within) in
+    omega (arith, w .within-text, w .some-byte, k, c7 .chain-of .ensures .within, c7 .chain-of .ensures .few)
 
-apply-style-ref-sub-apply-style-ref : (t : ℕ) → apply-style-ref-lts.Need-sub-apply-style-ref (claims t) (apply-style-ref-at t) apply-style-ref.Post
+apply-style-ref-sub-apply-style-ref : (t : ℕ) → apply-style-ref-lts.Need-sub-apply-style-ref (claims t) (apply-style-ref-at t)
+    apply-style-ref.Post
     apply-style-ref-Inv-loop apply-style-ref-μ-loop
 apply-style-ref-sub-apply-style-ref t c =
     let w = rw (c .before .before .x .given .1) at (c .before .before .before .before .next-word .ensures) in
@@ -429,43 +404,28 @@ apply-style-ref-apply-style-ref-requires :
     ) (apply-style-ref-at t) apply-style-ref.Post apply-style-ref-Inv-loop apply-style-ref-μ-loop
 unfolding stringAt
 apply-style-ref-apply-style-ref-requires t c κs =
-    let w = rw (c .before .before .before .before .x .given .1) at (c .before .before .before .before .before .before .next-word .ensures) in
-    let g = c .before .before .before .before .before .before .before .before .loop .inv .grown in
-    let p = c .before .before .before .before .before .before .before .before .before .before .before .before .before .before .before .before
-    .before .before .before .before .before .before .before .before .before .before .before .before .before .before .before .before .before
-    .before .before .before .pre .1 in (
-      omega (
-        arith,
-        c .before .before .before .before .before .before .before .before .before .before .before .before .before .before .before
-            .before .before .before .before .before .before .before .before .before .before .before .before .before .before .before .before .before
-            .before .before .before .before .pre .0,
-        g .kept,
-        g .more,
-        g .held .rows,
-        c .before .before .before .before .before .before .before
-            .before .before .before .before .before .before .before .before .before .ids .given,
-        c .before .before .before .before .before .before
-            .before .before .before .before .before .before .before .before .before .before .before .before .before .before .if3 .left,
-        p .2 .rows,
-      ),
+    let c4 = c .before .before .before .before in
+    let c6 = c4 .before .before in
+    let c8 = c6 .before .before in
+    let c10 = c8 .before .before in
+    let c16 = c10 .before .before .before .before .before .before in
+    let c21 = c16 .before .before .before .before .before in
+    let c35 = c21 .before .before .before .before .before .before .before .before .before .before .before .before .before .before in
+    let c37 = c35 .before .before in
+    let w = rw (c4 .x .given .1) at (c6 .next-word .ensures) in
+    let g = c8 .loop .inv .grown in
+    let p = c37 .pre .1 in
+    let end = c10 .chain-of .ensures in
+    let here = c8 .loop in (
+      omega (arith, c37 .pre .0, g .kept, g .more, g .held .tree .rows, c16 .ids .given, c21 .if3 .left, p .2 .tree .rows),
       (
         p .0,
         record {
           known = omega arith;
           is = refl;
-          within = word-within _ _ _ _ _ _ _ _ _ _ (omega arith) (c .before .before .before .before .before .before .before .before .before .before
-              .chain-of .ensures .within) _ _ _ _ (c .before .before .before .before .before .before .before .before .loop .inv) _ _ w (c .before
-              .before .before .before .before .before .before .before .loop .ids) (c .before .before .before .before .before .before .before
-              .before .loop .heads);
-          few = omega (
-            arith,
-            word-end _ _ _ _ _ _ _ _ _ _ (omega arith) (c .before .before .before .before .before .before .before .before .before
-                .before .chain-of .ensures .within) _ _ _ _ (c .before .before .before .before .before .before .before .before .loop .inv) _ _ w (c
-                .before .before .before .before .before .before .before .before .loop .ids) (c .before .before .before .before .before .before
-                .before .before .loop .heads),
-            c .before .before .before .before .before .before .before .before .before .before .chain-of .ensures
-                .few,
-          );
+          within = word-within _ _ _ _ _ _ _ _ _ _ (omega arith) (end .within) _ _ _ _ (here .inv) _ _ w (here .ids) (here .heads);
+          few = let q = word-end _ _ _ _ _ _ _ _ _ _ (omega arith) (end .within) _ _ _ _ (here .inv) _ _ w (here .ids) (here .heads) in
+              omega (arith, q, end .few);
         },
         g .held,
       ),
@@ -477,89 +437,53 @@ apply-style-ref-enum-told-2 t c = search needs
 
 apply-style-ref-same-length-9 : (t : ℕ) → apply-style-ref-lts.Need-same-length-9 (claims t) (apply-style-ref-at t) apply-style-ref.Post
     apply-style-ref-Inv-loop apply-style-ref-μ-loop
-apply-style-ref-same-length-9 t c = omega (
-  arith,
-  c .before .before .before .before .before .ids2 .given,
-  c .before .before .before .before .before
-      .before .before .before .before .before .before .before .before .before .before .loop .inv .grown .kept,
-  c .before .before .before .before
-      .before .before .before .before .before .before .before .before .before .before .before .before .before .before .before .before .before .before
-      .before .ids .given,
-)
+apply-style-ref-same-length-9 t c =
+    let c5 = c .before .before .before .before .before in
+    let c15 = c5 .before .before .before .before .before .before .before .before .before .before in
+    let c23 = c15 .before .before .before .before .before .before .before .before in
+    omega (arith, c5 .ids2 .given, c15 .loop .inv .grown .kept, c23 .ids .given)
 
 apply-style-ref-same-length-10 : (t : ℕ) → apply-style-ref-lts.Need-same-length-10 (claims t) (apply-style-ref-at t) apply-style-ref.Post
     apply-style-ref-Inv-loop apply-style-ref-μ-loop
-apply-style-ref-same-length-10 t c = omega (
-  arith,
-  c .before .before .before .heads2 .given,
-  c .before .before .before .before .before .before
-      .before .before .before .before .before .before .before .before .before .loop .inv .grown .held .buckets,
-  c .before .before .before .before
-      .before .before .before .before .before .before .before .before .before .before .before .before .before .before .before .before .before .before
-      .before .before .before .before .before .before .before .before .before .before .before .before .before .before .before .before .before .before
-      .before .before .before .pre .1 .2 .buckets,
-)
+apply-style-ref-same-length-10 t c =
+    let c3 = c .before .before .before in
+    let c15 = c3 .before .before .before .before .before .before .before .before .before .before .before .before in
+    let c29 = c15 .before .before .before .before .before .before .before .before .before .before .before .before .before .before in
+    let c43 = c29 .before .before .before .before .before .before .before .before .before .before .before .before .before .before in
+    let c44 = c43 .before in
+    omega (arith, c3 .heads2 .given, c15 .loop .inv .grown .held .tree .buckets, c44 .pre .1 .2 .tree .buckets)
 
 apply-style-ref-returns-5 : (t : ℕ) → apply-style-ref-lts.Need-returns-5 (claims t) (apply-style-ref-at t) apply-style-ref.Post
     apply-style-ref-Inv-loop apply-style-ref-μ-loop
 unfolding stringAt
 apply-style-ref-returns-5 t c =
-    let w = rw (c .before .before .before .before .before .before .before .before .before .before .before .x .given .1) at (c .before .before
-    .before .before .before .before .before .before .before .before .before .before .before .next-word .ensures) in
-    let a = c .before .before .before .before .before .before .before .before .before .before .before .before .before .before .before .before
-    .before .before .before .before .before .before .before .before .before .before .before .before .before .before .before .before .before
-    .before .before .before .before .before .before .before .before .before .before .args in
-    let n : Type 0 = Entry (a .text .now) (a .strings .now) (a .own .now) (a .source) (a .at) (a .len) (c .before .before .before .before .before
-    .before .before .before .before .before .before .before .before .before .before .before .before .before .before .before .before .before
-    .before .before .before .before .before .before .before .before .before .before .before .before .hash .result) (a .ids .now) (a .heads
-    .now) (c .before .before .before .before .before .before .before .before .before .before .before .before .before .before .before .before
-    .before .before .before .before .before .before .before .before .add-id .last .0) (c .before .before .before .before .before .before
-    .before .before .before .before .before .before .before .before .before .before .before .before .before .before .before .before .before
-    .before .add-id .last .1 .0) (a .w) in
+    let c6 = c .before .before .before .before .before .before in
+    let c11 = c6 .before .before .before .before .before in
+    let c13 = c11 .before .before in
+    let c15 = c13 .before .before in
+    let c17 = c15 .before .before in
+    let c23 = c17 .before .before .before .before .before .before in
+    let c24 = c23 .before in
+    let c30 = c24 .before .before .before .before .before .before in
+    let c31 = c30 .before in
+    let c44 = c31 .before .before .before .before .before .before .before .before .before .before .before .before .before in
+    let w = rw (c11 .x .given .1) at (c13 .next-word .ensures) in
+    let a = c44 .args in
+    let p = c44 .pre .1 in
+    let i = c24 .add-id in
+    let n : Type 0 = Entry (a .text .now) (a .strings .now) (a .own .now) (a .source) (a .at) (a .len) (a .ids .now) (a .heads .now) (i .last .0)
+    (i .last .1 .0) (a .w) in
     let entry : n = record {
-      held = c .before .before .before .before .before .before .before .before .before .before .before .before .before .before .before .before
-          .before .before .before .before .before .before .before .before .before .before .before .before .before .before .before .before
-          .before .before .before .before .before .before .before .before .before .before .before .pre .1 .2;
-      new = sym (c .before .before .before .before .before .before .before .before .before .before .before .before .before .before .before
-          .before .before .before .before .before .before .before .before .before .before .before .before .before .before .before .is-visited
-          .ensures) ∙ c .before .before .before .before .before .before .before .before .before .before .before .before .before .before .before
-          .before .before .before .before .before .before .before .before .before .before .before .before .before .before .if1 .left;
-      stands = c .before .before .before .before .before .before .before .before .before .before .before .before .before .before .before
-          .before .before .before .before .before .before .before .before .before .before .before .before .before .before .before .before
-          .before .before .before .before .before .before .before .before .before .before .before .before .pre .1 .1;
-      room = omega (
-        arith,
-        c .before .before .before .before .before .before .before .before .before .before .before .before .before .before
-            .before .before .before .before .before .before .before .before .before .before .before .before .before .before .before .before
-            .before .before .before .before .before .before .before .before .before .before .before .before .before .pre .1 .2 .rows,
-        c .before
-            .before .before .before .before .before .before .before .before .before .before .before .before .before .before .before .before
-            .before .before .before .before .before .before .before .before .before .before .if3 .left,
-      );
-      few = omega (
-        arith,
-        c .before .before .before .before .before .before .before .before .before .before .before .before .before .before
-            .before .before .before .before .before .before .before .before .before .before .before .before .before .before .if2 .left,
-      );
-      bucket = c .before .before .before .before .before .before .before .before .before .before .before .before .before .before .before
-          .before .before .before .before .before .before .before .before .before .before .before .before .before .before .before .before
-          .before .before .before .hash .ensures .0;
-      small = c .before .before .before .before .before .before .before .before .before .before .before .before .before .before .before .before
-          .before .before .before .before .before .before .before .before .before .before .before .before .before .before .before .before
-          .before .before .hash .ensures .1;
-      laid = c .before .before .before .before .before .before .before .before .before .before .before .before .before .before .before .before
-          .before .before .before .before .before .before .before .before .add-id .ensures .0;
-      led = c .before .before .before .before .before .before .before .before .before .before .before .before .before .before .before .before
-          .before .before .before .before .before .before .before .before .add-id .ensures .1;
+      held = p .2;
+      new = sym (c31 .is-visited .ensures) ∙ c30 .if1 .left;
+      stands = p .1;
+      kept = c23 .ids .given;
+      post = i .ensures;
     } in
-    let o = rw (c .enum-told2 .given .1) at (c .before .before .before .before .before .before .apply-style-ref .ensures) in
-    applied-over _ _ _ _ _ _ _ _ _ _ _ _ entry _ _ _ _ (c .before .before .before .before .before .before .before .before .before .before .before
-    .before .before .before .before .before .before .chain-of .ensures) _ _ (o .kept ∙ c .before .before .before .before .before .before
-    .before .before .before .before .before .before .before .before .before .loop .inv .grown .kept)
-    (full-in _ _ _ _ _ _ _ _ _ _ (omega arith) (c .before .before .before .before .before .before .before .before .before .before .before .before
-    .before .before .before .before .before .chain-of .ensures .within) _ _ _ _ (c .before .before .before .before .before .before .before
-    .before .before .before .before .before .before .before .before .loop .inv) _ _ w _ (c .before .before .before .before .before .before
-    .apply-style-ref .last .1 .1 .1 .1 .1 .1 .1 .1 .1 .1 .0) o)
+    let o = rw (c .enum-told2 .given .1) at (c6 .apply-style-ref .ensures) in
+    applied-over _ _ _ _ _ _ _ _ _ _ _ entry _ _ _ _ (c17 .chain-of .ensures) _ _ (o .kept ∙ c15 .loop .inv .grown .kept)
+    (full-in _ _ _ _ _ _ _ _ _ _ (omega arith) (c17 .chain-of .ensures .within) _ _ _ _ (c15 .loop .inv) _ _ w _
+    (c6 .apply-style-ref .last .1 .1 .1 .1 .1 .1 .1 .1 .1 .1 .0) o)
 
 apply-style-ref-enum-known-t : (t : ℕ) → apply-style-ref-lts.Need-enum-known-t (claims t) (apply-style-ref-at t) apply-style-ref.Post
     apply-style-ref-Inv-loop apply-style-ref-μ-loop
@@ -568,20 +492,23 @@ apply-style-ref-enum-known-t t c = search needs
 apply-style-ref-loop-less : (t : ℕ) → apply-style-ref-lts.Need-loop-less (claims t) (apply-style-ref-at t) apply-style-ref.Post
     apply-style-ref-Inv-loop apply-style-ref-μ-loop
 apply-style-ref-loop-less t c =
-    let w = rw (c .before .before .before .before .before .before .before .before .before .before .before .before .x .given .1) at (c .before
-    .before .before .before .before .before .before .before .before .before .before .before .before .before .next-word .ensures) in
+    let c12 = c .before .before .before .before .before .before .before .before .before .before .before .before in
+    let c14 = c12 .before .before in
+    let w = rw (c12 .x .given .1) at (c14 .next-word .ensures) in
     omega (arith, w .within-text, w .some-byte, w .after)
 
 apply-style-ref-loop-again : (t : ℕ) → apply-style-ref-lts.Need-loop-again (claims t) (apply-style-ref-at t) apply-style-ref.Post
     apply-style-ref-Inv-loop apply-style-ref-μ-loop
 unfolding stringAt
 apply-style-ref-loop-again t c =
-    let w = rw (c .before .before .before .before .before .before .before .before .before .before .before .before .x .given .1) at (c .before
-    .before .before .before .before .before .before .before .before .before .before .before .before .before .next-word .ensures) in
-    step-in _ _ _ _ _ _ _ _ _ _ (omega arith) (c .before .before .before .before .before .before .before .before .before .before .before .before
-    .before .before .before .before .before .before .chain-of .ensures .within) _ _ _ _ (c .before .before .before .before .before .before
-    .before .before .before .before .before .before .before .before .before .before .loop .inv) _ _ w _ _ _ (rw (c .before .t .given .1) at (c
-    .before .before .before .before .before .before .before .apply-style-ref .ensures))
+    let c7 = c .before .before .before .before .before .before .before in
+    let c12 = c7 .before .before .before .before .before in
+    let c14 = c12 .before .before in
+    let c16 = c14 .before .before in
+    let c18 = c16 .before .before in
+    let w = rw (c12 .x .given .1) at (c14 .next-word .ensures) in
+    step-in _ _ _ _ _ _ _ _ _ _ (omega arith) (c18 .chain-of .ensures .within) _ _ _ _ (c16 .loop .inv) _ _ w _ _ _ (rw (c .before .t .given .1)
+    at (c7 .apply-style-ref .ensures))
 
 pub +apply-style-ref-spec : {M : Type 1} → statement M
 +apply-style-ref-spec = close μ-apply-style-ref λ t. apply-style-ref-lts.spec (claims t)
@@ -609,8 +536,11 @@ pub +apply-style-ref-spec : {M : Type 1} → statement M
     (apply-style-ref-same-length-5 t)
     (apply-style-ref-same-length-6 t)
     (apply-style-ref-returns-3 t)
+    (apply-style-ref-sub-add-id t)
+    (apply-style-ref-part-add-id-start t)
+    (apply-style-ref-part-add-id-end t)
     (apply-style-ref-add-id-requires t)
-    (apply-style-ref-add-t27 t)
+    (apply-style-ref-add-t39 t)
     (apply-style-ref-sub-chain-of t)
     (apply-style-ref-part-chain-of-start t)
     (apply-style-ref-part-chain-of-end t)

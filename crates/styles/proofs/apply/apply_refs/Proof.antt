@@ -44,9 +44,9 @@ same-length c = c .before .before .before .before .loop .inv .grown .kept
 same-length-2 : tie.Need-same-length-2 Inv-loop μ-loop
 same-length-2 c = omega (
   arith,
-  c .before .before .before .before .loop .inv .grown .held .buckets,
+  c .before .before .before .before .loop .inv .grown .held .tree .buckets,
   c .before .before .before .before .before
-      .before .before .before .before .before .before .before .pre .2 .buckets,
+      .before .before .before .before .before .before .before .pre .2 .tree .buckets,
 )
 
 returns : tie.Need-returns Inv-loop μ-loop
@@ -122,10 +122,10 @@ same-length-4 c = omega (
   arith,
   c .before .before .before .heads .given,
   c .before .before .before .before .before .before .before .before .before
-      .before .before .before .before .before .before .loop .inv .grown .held .buckets,
+      .before .before .before .before .before .before .loop .inv .grown .held .tree .buckets,
   c .before .before .before .before .before .before .before
       .before .before .before .before .before .before .before .before .before .before .before .before .before .before .before .before .pre .2
-      .buckets,
+      .tree .buckets,
 )
 
 returns-2 : tie.Need-returns-2 Inv-loop μ-loop

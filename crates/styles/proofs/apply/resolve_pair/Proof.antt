@@ -41,7 +41,7 @@ enum-known-b c = search needs
 clear-links-requires : tie.Need-clear-links-requires
 clear-links-requires c κs =
     let c7 = c .before .before .before .before .before .before .before in
-    (rw (c .before .before .b .given .1) at (c7 .apply-refs2 .ensures)) .grown .held .rows
+    (rw (c .before .before .b .given .1) at (c7 .apply-refs2 .ensures)) .grown .held .tree .rows
 
 same-length : tie.Need-same-length
 same-length c = search needs

@@ -1,75 +1,86 @@
--- `is_visited` meets its contract. The loop's invariant is `Searching`; the row's number falls. Assumes nothing.
+-- `is_visited` meets its contract. The loop's invariant is `Searching`; a row at a depth is past as many rows. Assumes nothing.
+use Prim.Native.Nat.{_-_}
 use mathlib.Core.Path.{_≡_, sym, _∙_}
 use native.Mathlib.Omega.{arith}
-use Rattle.styles.proofs.Search.{Searching, search-start, search-hit, search-step, search-row, search-within, search-none}
+use borrow.Author.Needs.{needs}
+use Rattle.styles.proofs.Search.{
+  Searching,
+  search-start,
+  search-deep,
+  search-row,
+  search-within,
+  search-hit,
+  search-step,
+  search-none,
+}
 use Rattle.styles.proofs.ids.is_visited.Statement.{statement}
 use Rattle.styles.proofs.ids.is_visited.Tie as tie
 
 abbrev Inv-loop : tie.InvT-loop
-Inv-loop text strings ids heads n h name next₀ next = Searching text strings ids name n next
+Inv-loop text strings ids heads n h name next₀ depth₀ next depth = Searching text strings ids heads name depth next
 
 abbrev μ-loop : tie.MeasureT-loop
-μ-loop text strings ids heads n h name next₀ next = next
+μ-loop text strings ids heads n h name next₀ depth₀ next depth = n - depth
 
 get-requires : tie.Need-get-requires Inv-loop μ-loop
-get-requires c κs = omega (arith, c .before .before .before .before .before .pre .0 .buckets)
+get-requires c κs = omega (arith, c .before .before .before .before .before .pre .0 .tree .buckets, c .before .before .before .before .before .pre .2)
 
 loop-holds : tie.Need-loop-holds Inv-loop μ-loop
-loop-holds c = search-start _ _ _ _ _ _ (c .before .before .before .before .before .before .pre .0) _ _ (c .before .before .before .before
-    .before .before .pre .1) (c .before .before .before .before .before .before .pre .2) (c .get .ensures)
+loop-holds c = search-start _ _ _ _ _ _ _ (c .before .before .before .before .before .before .pre .1) (c .get .ensures)
 
 sub-is-id : tie.Need-sub-is-id Inv-loop μ-loop
 sub-is-id c = omega arith
 
 is-id-requires : tie.Need-is-id-requires Inv-loop μ-loop
-is-id-requires c κs = (
-  search-row _ _ _ _ _ _ (c .before .before .before .before .before .before .before .before .pre .0) _ (c .before .loop
-      .inv) (omega arith),
-  search-within _ _ _ _ _ _ (c .before .before .before .before .before .before .before .before .pre .0) _ (c .before .loop
-      .inv) (omega arith),
-)
+is-id-requires c κs =
+    let c8 = c .before .before .before .before .before .before .before .before in (
+      search-row _ _ _ _ _ _ (c8 .pre .0) _ _ (c .before .loop .inv) (omega arith),
+      search-within _ _ _ _ _ _ (c8 .pre .0) _ _
+          (c .before .loop .inv) (omega arith),
+    )
 
 returns : tie.Need-returns Inv-loop μ-loop
-returns c = sym (search-hit _ _ _ _ _ _ (c .before .before .before .before .before .before .before .before .before .before .pre .0) _ (c
-    .before .before .before .loop .inv) (omega arith) (sym (c .before .is-id .ensures) ∙ c .if1 .taken))
+returns c =
+    let c3 = c .before .before .before in
+    let c10 = c3 .before .before .before .before .before .before .before in
+    sym (search-hit _ _ _ _ _ _ (c10 .pre .0) _ _ (c3 .loop .inv) (omega arith) (sym (c .before .is-id .ensures) ∙ c .if1 .taken))
 
-sub-get : tie.Need-sub-get Inv-loop μ-loop
-sub-get c = omega arith
+turns-requires : tie.Need-turns-requires Inv-loop μ-loop
+turns-requires c κs = search needs
 
-mul-get : tie.Need-mul-get Inv-loop μ-loop
-mul-get c = omega (
-  arith,
-  search-row _ _ _ _ _ _ (c .before .before .before .before .before .before .before .before .before .before .pre .0) _ (c
-      .before .before .before .loop .inv) (omega arith),
-)
+sub-next-row : tie.Need-sub-next-row Inv-loop μ-loop
+sub-next-row c = omega arith
 
-add-get : tie.Need-add-get Inv-loop μ-loop
-add-get c = omega (
-  arith,
-  search-row _ _ _ _ _ _ (c .before .before .before .before .before .before .before .before .before .before .pre .0) _ (c
-      .before .before .before .loop .inv) (omega arith),
-)
+next-row-requires : tie.Need-next-row-requires Inv-loop μ-loop
+next-row-requires c κs =
+    let c4 = c .before .before .before .before in
+    let c11 = c4 .before .before .before .before .before .before .before in
+    search-row _ _ _ _ _ _ (c11 .pre .0) _ _ (c4 .loop .inv) (omega arith)
 
-get-requires-2 : tie.Need-get-requires-2 Inv-loop μ-loop
-get-requires-2 c κs = omega (
-  arith,
-  search-row _ _ _ _ _ _ (c .before .before .before .before .before .before .before .before .before .before .pre
-      .0) _ (c .before .before .before .loop .inv) (omega arith),
-)
+add-depth : tie.Need-add-depth Inv-loop μ-loop
+add-depth c =
+    let c5 = c .before .before .before .before .before in
+    let c12 = c5 .before .before .before .before .before .before .before in
+    omega (arith, search-deep _ _ _ _ _ _ (c12 .pre .0) _ _ (c5 .loop .inv) (omega arith))
 
 loop-less : tie.Need-loop-less Inv-loop μ-loop
-loop-less c = search-step _ _ _ _ _ _ (c .before .before .before .before .before .before .before .before .before .before .before .pre .0) _ (c
-    .before .before .before .before .loop .inv) (omega arith) _ (sym (c .before .before .is-id .ensures) ∙ c .before .if1 .left) (c .get2 .ensures)
-    .1
+loop-less c =
+    let c5 = c .before .before .before .before .before in
+    let c12 = c5 .before .before .before .before .before .before .before in
+    omega (arith, search-deep _ _ _ _ _ _ (c12 .pre .0) _ _ (c5 .loop .inv) (omega arith))
 
 loop-again : tie.Need-loop-again Inv-loop μ-loop
-loop-again c = search-step _ _ _ _ _ _ (c .before .before .before .before .before .before .before .before .before .before .before .pre .0) _ (c
-    .before .before .before .before .loop .inv) (omega arith) _ (sym (c .before .before .is-id .ensures) ∙ c .before .if1 .left) (c .get2 .ensures)
-    .0
+loop-again c =
+    let c3 = c .before .before .before in
+    let c5 = c3 .before .before in
+    let c12 = c5 .before .before .before .before .before .before .before in
+    search-step _ _ _ _ _ _ (c12 .pre .0) _ _ (c5 .loop .inv) (omega arith) (sym (c3 .is-id .ensures)
+    ∙ c .before .before .if1 .left) _ (c .before .turns .ensures) _ (c .next-row .ensures)
 
 returns-2 : tie.Need-returns-2 Inv-loop μ-loop
-returns-2 c = sym (search-none _ _ _ _ _ _ (c .before .before .before .before .before .before .before .before .pre .0) _ (c .before .loop .inv)
-    (omega arith))
+returns-2 c =
+    let c8 = c .before .before .before .before .before .before .before .before in
+    sym (search-none _ _ _ _ _ _ (c8 .pre .0) _ _ (c .before .loop .inv) (omega arith))
 
 pub is-visited-spec : {M : Type 1} → statement M
 is-visited-spec =
@@ -82,10 +93,10 @@ is-visited-spec =
     sub-is-id
     is-id-requires
     returns
-    sub-get
-    mul-get
-    add-get
-    get-requires-2
+    turns-requires
+    sub-next-row
+    next-row-requires
+    add-depth
     loop-less
     loop-again
     returns-2)
