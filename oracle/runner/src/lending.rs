@@ -2,8 +2,9 @@
 //! afterwards.
 
 use crate::cells::Cells;
+use crate::handed::Handed;
 use crate::layers::tree::{ATTRS, NODES};
-use crate::tables::{self, Handed, SEGMENTS};
+use crate::tables::{self, SEGMENTS};
 use std::ops::Range;
 
 /// The lengths of the tables, in the order in which they are passed.

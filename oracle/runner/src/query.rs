@@ -1,7 +1,8 @@
 //! The port's three queries asked, and its answers in the terms of the Rust.
 
 use crate::reach::Question;
-use crate::tables::{Handed, Lending, Tables, align, spelling};
+use crate::handed::{Handed, Lending};
+use crate::tables::{Tables, align, spelling};
 use reference::ir::SubtitleStyle;
 
 /// What a query answers.

@@ -1,7 +1,8 @@
 //! Which tables are a track: document 01's number 17, as docs/TABLES.md says it of cells, written apart from the port.
 
 use crate::extras::{INLINE, Names, REGION, STYLE};
-use crate::tables::{Handed, SEGMENTS, spelling};
+use crate::handed::Handed;
+use crate::tables::{SEGMENTS, spelling};
 
 /// "Segments 16,384, nested 512 (a cue's own segments are nested 1)."
 const NESTED: usize = 512;

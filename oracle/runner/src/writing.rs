@@ -2,7 +2,7 @@
 
 use crate::compare::{Esc, Run};
 use crate::document::BYTES;
-use crate::tables::Handed;
+use crate::handed::Handed;
 use std::fmt::{self, Arguments, Debug, Formatter};
 
 /// What the port left in the buffer.

@@ -2,26 +2,22 @@
 //! Rust on each text; and the track that the tables mean, read back, against the Rust's own.
 
 use super::Layer;
-use crate::answer::Answer;
 use crate::bench::Bench;
-use crate::cases::{Rng, every_word};
+use crate::cases::every_word;
 use crate::cells::Cells;
 use crate::compare::{Run, deep};
 use crate::corners::{corners, limits, values};
 use crate::document::BYTES;
-use crate::elements::Met;
 use crate::films::{documents, film};
+use crate::held::{Told, held, judged, rust, told};
 use crate::hostile::hostile;
-use crate::judge;
-use crate::layers::{times, tree};
+use crate::layers::tree;
 use crate::lending::{Call, Care, FIXED, Lending, Lengths, MORE, Wrong};
-use crate::placed::Track;
-use crate::record::{Lines, Recording};
-use crate::rows::{self, Input, Read, Reading};
+use crate::record::Recording;
+use crate::replay::lines;
+use crate::rows::{self, Input};
 use crate::sheets::any_sheet;
-use crate::sum::Sum;
 use crate::texts::{FAMILIES, Family, any_cue, any_document, any_long};
-use reference::ir::{SubtitleCue, SubtitleStyle, SubtitleTrack};
 use reference::ttml::{self, access};
 
 pub const LAYER: Layer = Layer {
@@ -68,9 +64,6 @@ struct Done {
     answer: (u32, u32),
     wrong: Option<Wrong>,
 }
-
-/// What the Rust gives, as far as it is compared.
-type Told = (Vec<SubtitleStyle>, Vec<SubtitleCue>, Vec<(String, String)>);
 
 impl Side {
     fn new() -> Side {
@@ -208,57 +201,6 @@ fn name(call: Call) -> &'static str {
     }
 }
 
-fn judged(call: Call, read: &Read) -> Met<Track> {
-    match call {
-        Call::Parse => judge::parse(read),
-        Call::Cue => judge::bytes_to_cue(read),
-    }
-}
-
-/// Holds what is judged to what the Rust does: it gives the same track; an error for 12; it stops for 15 and 16. For 13 and 14
-/// it does whatever it does. Gives its track, or, where the two differ, what each says. Texts that it would decode to others
-/// are not asked.
-fn held(call: Call, read: &Read, judged: &Met<Track>) -> Result<Option<Told>, [Answer<Told>; 2]> {
-    if read.text.starts_with('\u{FEFF}') || read.text.contains('\r') {
-        return Ok(None);
-    }
-    let rust = Answer::ask(|| rust(call, read.text), stopped);
-    let same = match (judged, &rust) {
-        (Ok(track), Answer::Is(rust)) => told(track.rust()) == *rust,
-        (Err(refusal), Answer::Nothing) => refusal.number == 12,
-        (Err(refusal), Answer::Number(number)) => [13, 14].contains(&refusal.number) || refusal.number == *number,
-        (Err(refusal), Answer::Is(_)) => [13, 14].contains(&refusal.number),
-        (Ok(_), _) => false,
-    };
-    if !same {
-        let said = match judged {
-            Ok(track) => Answer::Is(told(track.rust())),
-            Err(refusal) => Answer::Number(refusal.number),
-        };
-        return Err([rust, said]);
-    }
-    Ok(if let Answer::Is(rust) = rust { Some(rust) } else { None })
-}
-
-fn rust(call: Call, text: &str) -> Option<Told> {
-    match call {
-        Call::Parse => ttml::parse(text.as_bytes()).ok().map(told),
-        Call::Cue => {
-            let cue = access::bytes_to_cue(text.as_bytes()).ok()?;
-            Some((Vec::new(), vec![cue], vec![("source_format".into(), "ttml".into())]))
-        }
-    }
-}
-
-fn told(track: SubtitleTrack) -> Told {
-    (track.styles, track.cues, track.metadata)
-}
-
-/// The number of the words with which the Rust stopped.
-fn stopped(words: &str) -> u32 {
-    if words.contains("char boundary") { 15 } else { times::number(words) }
-}
-
 /// One cue.
 const ONE: &str = "<tt><body><p begin=\"1s\" dur=\"500ms\">A<br/>B</p></body></tt>";
 
@@ -284,8 +226,7 @@ fn bench(bench: &mut Bench) {
         for ((name, half), (_, whole)) in hostile(BYTES / 2).iter().zip(&hostile(BYTES)) {
             row(bench, tables, Call::Parse, name, half);
             row(bench, tables, Call::Parse, name, whole);
-            let cleared = |lending: &mut Lending, text: &str| lending.time(Call::Parse, text.as_bytes());
-            bench.growth(|| cleared(others, half), || cleared(tables, whole));
+            bench.growth(|| others.time(Call::Parse, half.as_bytes()), || tables.time(Call::Parse, whole.as_bytes()));
         }
     });
 }
@@ -305,78 +246,5 @@ fn row(bench: &mut Bench, tables: &mut Lending, call: Call, name: &str, text: &s
             || access::bytes_to_cue(text.as_bytes()).ok(),
             || tables.time(call, text.as_bytes()),
         ),
-    }
-}
-
-/// The longest text of a recording: a line has at most 1,024 bytes.
-const RECORDED: usize = 480;
-
-/// The lines of a recording: `p` for parse, `c` for bytes_to_cue, `w` for parse and then write. The answer is a byte of the number, four
-/// of the place, for `w` of how many bytes are written, and four of the sum over the tables, for `w` over what is written.
-fn lines(rng: &mut Rng, lines: &mut Lines) {
-    let short = |text: &Vec<u8>| text.len() <= RECORDED;
-    let listed = |from: usize, step: usize| corners().into_iter().skip(from).step_by(step).map(String::into_bytes);
-    let values = |from: usize, step: usize| values().into_iter().skip(from).step_by(step).map(String::into_bytes);
-    let mut seeds = [0, 1, 2].map(|turn| Rng::new(rng.next(), ["p", "c", "w"][turn]));
-    let [documents, cues, written] = &mut seeds;
-    let random = std::iter::repeat_with(|| any_document(documents).into_bytes());
-    let pair = |call: Call| {
-        move |text: Vec<u8>| {
-            let answer = answer(call, &text);
-            (text, answer)
-        }
-    };
-    let refused = tree::corners().into_iter().step_by(37).map(|text| format!("<tt><body><p>{text}").into_bytes());
-    let limits = limits().into_iter().map(String::into_bytes).filter(short).step_by(3);
-    let questions = listed(0, 7).chain(values(0, 150)).chain(limits).chain(refused).chain(random).filter(short);
-    lines.pairs('p', 60, questions.map(pair(Call::Parse)));
-    let random = std::iter::repeat_with(|| any_cue(cues).into_bytes());
-    let questions = listed(3, 28).chain(values(7, 900)).chain(random).filter(short);
-    lines.pairs('c', 20, questions.map(pair(Call::Cue)));
-    let random = std::iter::repeat_with(|| any_document(written).into_bytes());
-    let questions = listed(5, 28).chain(random).filter(short);
-    let pair = |text: Vec<u8>| {
-        let answer = recaptioned(&text);
-        (text, answer)
-    };
-    lines.pairs('w', 20, questions.map(pair));
-}
-
-/// What document 01 says of a text, held to the Rust.
-pub fn meant(call: Call, text: &[u8]) -> Met<(Read<'_>, Track)> {
-    let read = match rows::read(text) {
-        Reading::Tree(read) => read,
-        Reading::Refused(refusal) => return Err(refusal),
-        Reading::Differs(rust, said) => panic!("{:?}: {rust}, {said}", Input(text)),
-    };
-    let judged = judged(call, &read);
-    held(call, &read, &judged).unwrap_or_else(|sides| panic!("{:?}: {sides:?}", Input(text)));
-    judged.map(|track| (read, track))
-}
-
-/// The bytes of an answer: its number, its place or how many bytes, and a sum.
-fn bytes(number: u32, place: usize, sum: u32) -> Vec<u8> {
-    [&[number as u8][..], &(place as u32).to_be_bytes(), &sum.to_be_bytes()].concat()
-}
-
-fn answer(call: Call, text: &[u8]) -> Vec<u8> {
-    let mut cells = Cells::default();
-    match meant(call, text) {
-        Err(refusal) => bytes(refusal.number, refusal.place, cells.sum()),
-        Ok((read, track)) => {
-            cells.fill(&read, &track);
-            bytes(0, 0, cells.sum())
-        }
-    }
-}
-
-/// The same for what is written of the track; here it always fits.
-fn recaptioned(text: &[u8]) -> Vec<u8> {
-    let mut sum = Sum::default();
-    let written = meant(Call::Parse, text).map(|(_, track)| ttml::write(&track.rust()));
-    sum.table(written.as_deref().unwrap_or_default().iter().map(|&byte| byte as u64));
-    match written {
-        Err(refusal) => bytes(refusal.number, refusal.place, sum.0 as u32),
-        Ok(written) => bytes(0, written.len(), sum.0 as u32),
     }
 }

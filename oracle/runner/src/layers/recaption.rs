@@ -1,12 +1,12 @@
 //! The program `recaption` as a process: a text on standard input, and on standard output what the Rust writes of its track, or the number
 //! and the place of its refusal.
 
-use super::parse::meant;
 use super::{Layer, tree};
 use crate::compare::{Esc, Run, deep};
 use crate::corners::{corners, limits};
 use crate::document::BYTES;
 use crate::films::{documents, film};
+use crate::held::meant;
 use crate::lending::Call;
 use crate::rows::Input;
 use crate::texts::{any_document, any_long};
