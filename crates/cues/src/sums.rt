@@ -87,20 +87,20 @@ pub fn start_of(
 pub fn lasting_to(
     attrs: &[u32],
     strings: &[u8],
-    e: xml::Element,
+    container: xml::Element,
     ctx: TimingCtx,
     start: i64,
     children: i64,
 ) -> Moment
-    requires { ⌜ HasRows (now attrs) (now strings) (e .first) (e .many) ⌝ }
-    ensures { λ r. ⌜ OfRows (now (attrs .entry)) (now (strings .entry)) (e .first) (e .many) (λ l.
-        momentSaid r ≡ endFrom ctx (e .place) start children l) ⌝ }
+    requires { ⌜ HasRows (now attrs) (now strings) (container .first) (container .many) ⌝ }
+    ensures { λ r. ⌜ OfRows (now (attrs .entry)) (now (strings .entry)) (container .first) (container .many) (λ l.
+        momentSaid r ≡ endFrom ctx (container .place) start children l) ⌝ }
 {
-    match time_given(attrs, strings, e, b"dur", ctx) {
+    match time_given(attrs, strings, container, b"dur", ctx) {
         Giving::Refused(r) => Moment::Refused(r),
         Giving::Is(d) => {
             if d.has {
-                return add(start, d.time, e.place);
+                return add(start, d.time, container.place);
             }
             Moment::Is(children)
         }
