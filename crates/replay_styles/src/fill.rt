@@ -17,7 +17,7 @@ pub fn fill(line: &[u8], cells: &mut [u32], sizes: &mut [f32], bytes: &mut [u8])
         b'e' => put_numbers(&line[2..], 161802, cells),
         b'f' => put_size(&line[2..], sizes),
         b'z' => {
-            crate::fields::unhex(&line[2..], bytes);
+            replaying::unhex(&line[2..], bytes);
         }
         _ => {}
     }

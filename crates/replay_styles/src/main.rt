@@ -100,8 +100,8 @@ fn agrees(line: &[u8], cells: &[u32], times: &[i64], sizes: &[f32], bytes: &[u8]
     }
     let mut given = [0u8; 2048];
     let mut told = [0u8; 2048];
-    let n = fields::unhex(&line[2..gap], &mut given);
-    let m = fields::unhex(&line[gap + 1..], &mut told);
+    let n = replaying::unhex(&line[2..gap], &mut given);
+    let m = replaying::unhex(&line[gap + 1..], &mut told);
     tells(line[0], &given[..n], &told[..m], cells, times, sizes, bytes)
 }
 

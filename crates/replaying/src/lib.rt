@@ -97,7 +97,7 @@ fn no_line() -> Line
 }
 
 // The bytes that a field of hexadecimal digits spells, as many as fit.
-fn unhex(field: &[u8], out: &mut [u8]) -> usize
+pub fn unhex(field: &[u8], out: &mut [u8]) -> usize
     ensures { λ r. ⌜ r ≤ length (now (out .entry)) ⌝ }
 {
     let mut n = 0;
