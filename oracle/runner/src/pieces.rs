@@ -172,8 +172,8 @@ const SHORT_CUES: &[&str] = &[
 
 /// Ends that are not UTF-8 (3), each beside the nearest that is.
 const NOT_UTF8: &[&[u8]] = &[
-    b"\xC3", b"<>\xFF", b"\x80", b"\xC1\xBF", b"\xC2\x80", b"\xE2\x82", b"\xE2\x82\xAC", b"\xED\xA0\x80", b"\xED\x9F\xBF",
-    b"\xF4\x90\x80\x80", b"\xF4\x8F\xBF\xBF",
+    b"\xC3", b"<>\xFF", b"\x80", b"\xC1\xBF", b"\xC2\x80", b"\xE2\x82", b"\xE2\x82\xAC", b"\xED\xA0\x80",
+    b"\xED\x9F\xBF", b"\xF4\x90\x80\x80", b"\xF4\x8F\xBF\xBF",
 ];
 
 /// A film of as many cues as its written text has room for.
