@@ -1,6 +1,4 @@
 // What was met: a number and its place; without a number 0, and how many bytes were written.
-ghost use Prim.Native.Nat.{_+_, _≤_, _<_};
-ghost use lib.ListN.{length};
 use tree::Refusal;
 
 pub fn of_read(answer: promised::Answer) -> Refusal {

@@ -15,7 +15,6 @@ mod sums;
 mod text;
 
 ghost use Prim.Native.Nat.{_+_, _^_, _≤_, _<_};
-ghost use lib.ListN.{length};
 use replaying::Tally;
 
 fn main() {
@@ -33,12 +32,20 @@ fn replay(list: &[u8], text: &mut [u8]) -> Tally {
     while pos < list.len() {
         let end = scan::find_byte(list, pos, b'\n');
         laid = text::lay_line(&list[pos..end], text, laid);
-        if !text::is_part(&list[pos..end]) {
-            let agrees = question::agrees(&list[pos..end], &text[..laid]);
-            tally = replaying::counted(tally, &list[pos..end], agrees);
-            laid = 0;
-        }
+        tally = counted(tally, &list[pos..end], &text[..laid]);
+        laid = text::carried(&list[pos..end], laid);
         pos = end + 1;
     }
     tally
+}
+
+// A question asked and counted; pieces of the next one's text do not count.
+fn counted(tally: Tally, line: &[u8], text: &[u8]) -> Tally
+    requires { ⌜ tally .agree + tally .differ < 2 ^ 63 ⌝ }
+    ensures { λ r. ⌜ r .agree + r .differ ≤ tally .agree + tally .differ + 1 ⌝ }
+{
+    if text::is_part(line) {
+        return tally;
+    }
+    replaying::counted(tally, line, question::agrees(line, text))
 }

@@ -1,6 +1,4 @@
 // A question asked, and its answer held to what is told. The tables are filled before they are lent.
-ghost use Prim.Native.Nat.{_≤_};
-ghost use lib.ListN.{length};
 use crate::answer;
 use crate::sums;
 

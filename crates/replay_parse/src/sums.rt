@@ -4,6 +4,7 @@ ghost use Prim.Native.Nat.{_^_, _<_};
 
 // a prime below 2^32
 const MODULUS: u64 = 4294967291;
+
 const FACTOR: u64 = 16777619;
 
 fn add(sum: u32, value: u64) -> u32 {

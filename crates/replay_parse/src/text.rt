@@ -1,5 +1,5 @@
 // The text of a question.
-ghost use Prim.Native.Nat.{_+_, _≤_, _<_};
+ghost use Prim.Native.Nat.{_≤_};
 ghost use lib.ListN.{length};
 
 // Do further pieces of the same text follow?
@@ -8,6 +8,13 @@ pub fn is_part(line: &[u8]) -> bool {
         return false;
     }
     line[0] == b'+'
+}
+
+// How many bytes of the text the next line goes on with.
+pub fn carried(line: &[u8], laid: usize) -> usize
+    ensures { λ r. ⌜ r ≤ laid ⌝ }
+{
+    if is_part(line) { laid } else { 0 }
 }
 
 // The line's bytes, after so many of the text: how many it has then.

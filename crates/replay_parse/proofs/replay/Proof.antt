@@ -1,7 +1,9 @@
 -- `replay` is safe and ends. No more lines are counted than bytes are passed. The measure is what is left of the list.
 use Prim.Native.Nat.{_+_, _-_, _≤_}
-use mathlib.Core.Path.{_≡_}
+use mathlib.Core.Path.{_≡_, sym}
+use native.Mathlib.Omega.{arith}
 use lib.ListN.{length}
+use lib.Seq.{length-take-le}
 use borrow.Author.Needs.{needs}
 use Rattle.replay_parse.proofs.replay.Statement.{statement}
 use Rattle.replay_parse.proofs.replay.Tie as tie
@@ -34,36 +36,6 @@ part-lay-line-end c = search needs
 lay-line-requires : tie.Need-lay-line-requires Inv-loop μ-loop
 lay-line-requires c κs = search needs
 
-sub-is-part : tie.Need-sub-is-part Inv-loop μ-loop
-sub-is-part c = search needs
-
-part-is-part-start : tie.Need-part-is-part-start Inv-loop μ-loop
-part-is-part-start c = search needs
-
-part-is-part-end : tie.Need-part-is-part-end Inv-loop μ-loop
-part-is-part-end c = search needs
-
-is-part-requires : tie.Need-is-part-requires Inv-loop μ-loop
-is-part-requires c κs = search needs
-
-sub-agrees : tie.Need-sub-agrees Inv-loop μ-loop
-sub-agrees c = search needs
-
-part-agrees-start : tie.Need-part-agrees-start Inv-loop μ-loop
-part-agrees-start c = search needs
-
-part-agrees-end : tie.Need-part-agrees-end Inv-loop μ-loop
-part-agrees-end c = search needs
-
-slice-reshare-prefix-agrees : tie.Need-slice-reshare-prefix-agrees Inv-loop μ-loop
-slice-reshare-prefix-agrees c = search needs
-
-slice-aggregate-agrees : tie.Need-slice-aggregate-agrees Inv-loop μ-loop
-slice-aggregate-agrees c = search needs
-
-agrees-requires : tie.Need-agrees-requires Inv-loop μ-loop
-agrees-requires c κs = search needs
-
 sub-counted : tie.Need-sub-counted Inv-loop μ-loop
 sub-counted c = search needs
 
@@ -73,8 +45,26 @@ part-counted-start c = search needs
 part-counted-end : tie.Need-part-counted-end Inv-loop μ-loop
 part-counted-end c = search needs
 
+slice-reshare-prefix-counted : tie.Need-slice-reshare-prefix-counted Inv-loop μ-loop
+slice-reshare-prefix-counted c = search needs
+
+slice-aggregate-counted : tie.Need-slice-aggregate-counted Inv-loop μ-loop
+slice-aggregate-counted c = sym (length-take-le _ _ (omega arith))
+
 counted-requires : tie.Need-counted-requires Inv-loop μ-loop
 counted-requires c κs = search needs
+
+sub-carried : tie.Need-sub-carried Inv-loop μ-loop
+sub-carried c = search needs
+
+part-carried-start : tie.Need-part-carried-start Inv-loop μ-loop
+part-carried-start c = search needs
+
+part-carried-end : tie.Need-part-carried-end Inv-loop μ-loop
+part-carried-end c = search needs
+
+carried-requires : tie.Need-carried-requires Inv-loop μ-loop
+carried-requires c κs = search needs
 
 add-pos : tie.Need-add-pos Inv-loop μ-loop
 add-pos c = search needs
@@ -104,20 +94,16 @@ replay-spec =
     part-lay-line-start
     part-lay-line-end
     lay-line-requires
-    sub-is-part
-    part-is-part-start
-    part-is-part-end
-    is-part-requires
-    sub-agrees
-    part-agrees-start
-    part-agrees-end
-    slice-reshare-prefix-agrees
-    slice-aggregate-agrees
-    agrees-requires
     sub-counted
     part-counted-start
     part-counted-end
+    slice-reshare-prefix-counted
+    slice-aggregate-counted
     counted-requires
+    sub-carried
+    part-carried-start
+    part-carried-end
+    carried-requires
     add-pos
     loop-less
     loop-again

@@ -1,5 +1,5 @@
 -- `lay_often` stays within the text and ends. The measure is how often the piece is still to be laid.
-use Prim.Native.Nat.{_+_, _-_, _≤_}
+use Prim.Native.Nat.{_≤_}
 use mathlib.Core.Path.{_≡_}
 use lib.ListN.{length}
 use borrow.Author.Needs.{needs}

@@ -1,5 +1,5 @@
 -- `lay_pieces` stays within the text and ends. The measure is what is left of the pieces.
-use Prim.Native.Nat.{_+_, _-_, _≤_}
+use Prim.Native.Nat.{_-_, _≤_}
 use mathlib.Core.Path.{_≡_}
 use lib.ListN.{length}
 use borrow.Author.Needs.{needs}
