@@ -45,7 +45,7 @@ pub fn tracks() -> Vec<Vec<Piece>> {
     texts.extend(NOT_UTF8.iter().map(|end| vec![(1, b"<tt><body><p>a".to_vec()), (1, end.to_vec())]));
     texts.push(whole(EVERYTHING));
     texts.extend(documents().iter().map(|text| whole(text)));
-    texts.push(many(LONG[0], 380, LONG[1], LONG[2]));
+    texts.push(many(LONG[0], 425, LONG[1], LONG[2]));
     for past in [0, 1] {
         // 2
         texts.push(many("<!--", BYTES - 12 + past, "-", "--><tt/>"));
