@@ -73,6 +73,36 @@ pub fn short_film() -> String {
     .to_string()
 }
 
+/// A film with everything in it: prolog, parameters, chains of styles, regions, extras, both kinds of containers, each form of a time, timed
+/// spans, every wrapper, kept and joined white space, entities, sections, comments, elements that no reader knows.
+pub const EVERYTHING: &str = r##"<?xml version="1.0" encoding="UTF-8"?>
+<!DOCTYPE tt><!-- all of it -->
+<tt xmlns="http://www.w3.org/ns/ttml" xml:lang="en-GB" xml:space="default" ttp:frameRate="25" ttp:tickRate="10000000" ttp:cellResolution="32 15" ittp:activeArea="10% 10% 80% 80%">
+<head><metadata><ttm:title>Quay &amp; ferry</ttm:title></metadata>
+<styling>
+<style xml:id="base" tts:color="white" tts:fontFamily="Arial, &quot;Noto&quot;" tts:fontSize="80%" tts:textAlign="center" tts:opacity="0.9"/>
+<style xml:id="loud" style=" base " tts:fontWeight="bold" tts:backgroundColor="rgb(16, 32,48)" tts:lineHeight="125%"/>
+<style id="far" style="loud base gone" tts:fontStyle="oblique" tts:textDecoration="underline line-through" tts:color="#12345678"/>
+<style xml:id="far" tts:textAlign="right" itts:fillLineGap="true"/><style tts:color="red"/>
+</styling>
+<layout>
+<region xml:id="low" style="base" tts:origin="10% 80%" tts:extent="80% 15%" tts:displayAlign="after" tts:color="#ff0"/>
+<region xml:id="high" tts:origin="10% 5%" tts:zIndex="2" tts:fontSize="1.50px" tts:textDecoration="lineThrough"/><region tts:origin="0"/>
+</layout></head>
+<body begin="10s" timeContainer="seq" region="low">
+<div begin="00:00:05" dur="20s" style="base">
+<p begin="-1.5s" end="00:00:02:10" region="high" style="far loud">The ferry <span tts:fontWeight="bold"> leaves </span> at
+ dawn,<br/>and <span tts:fontStyle="italic">nobody</span> on the <x>quay <!-- pause -->wall</x> has slept.</p>
+<p begin="50f" dur="1500ms" tts:origin="5% 5%" tts:color="lime" tts:fontFamily="Courier">&lt;thunder&gt; &#x2013; &#233;t&#xE9; &nbsp;&AMP;&#xD800;&apos;&quot;</p>
+</div>
+<div timeContainer="par"><p begin="30000000t" end="0.1h">a</p><p begin="0.5m" dur="9s"/><p begin="never" end="5">b</p></div>
+<p dur="4s" xml:space="preserve">  kept  <span begin="1s">one <span begin="500ms" tts:color="aqua">two</span></span>
+	<![CDATA[<b> & ]] > c]]> </p>
+<p begin="1s" end="3s"><span tts:fontWeight="bold" tts:fontStyle="italic" tts:textDecoration="underline strike" tts:color="#0a0B0c" tts:fontFamily="Mono" tts:fontSize="-0.25em">all</span><br/><span tts:fontSize="12.5px"> size</span><span tts:fontFamily="">&#32;</span></p>
+<p begin="2s" dur="1s" tts:zIndex="3" tts:border="1px solid" itts:forcedDisplay="true">港の灯り 🚀<!-- the tag closes the body --></p><p>last</p>
+</body></tt><!-- end -->
+"##;
+
 /// Documents of several makers, to be damaged.
 pub fn documents() -> Vec<String> {
     let mut documents = vec![short_film(), film(2_600)];

@@ -19,6 +19,7 @@ mod judge;
 mod layers;
 mod lend;
 mod lending;
+mod pieces;
 mod placed;
 mod plain;
 mod query;

@@ -24,7 +24,7 @@ pub struct Recording {
 pub struct Lines {
     /// How many are asked for.
     pub count: usize,
-    made: usize,
+    pub made: usize,
     text: String,
 }
 
