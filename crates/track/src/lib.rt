@@ -18,6 +18,7 @@ pub use parts::span_at;
 pub use segments::Font;
 pub use segments::Rgb;
 pub use segments::Segment;
+pub use segments::TIMESTAMP;
 pub use segments::segment_at;
 pub use strings::Span;
 pub use values::Align;

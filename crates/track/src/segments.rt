@@ -41,7 +41,7 @@ const TEXT: u32 = 1;
 
 const BREAK: u32 = 2;
 
-const TIMESTAMP: u32 = 3;
+pub const TIMESTAMP: u32 = 3;
 
 const BOLD: u32 = 4;
 
@@ -123,7 +123,7 @@ pub fn are_segments(
         if end - i < rows {
             return false;
         }
-        if !are_segments(segments, sizes, strings, texts, i + 1, rows - 1, room - 1) {
+        if 1 < rows && !are_segments(segments, sizes, strings, texts, i + 1, rows - 1, room - 1) {
             return false;
         }
         i += rows;

@@ -7,6 +7,8 @@ use mathlib.Core.List.{List, [], _∷_, _++_}
 use mathlib.Core.Option.{Option, none, some}
 use lib.ListN.{length, replicate}
 use lib.Dec.{leb}
+use Rattle.scan.specs.declared.table.Written.the-variants.{Full}
+use Rattle.scan.specs.Posts.{writtenNumber}
 use Rattle.track.specs.Track.{Bytes, Cue, Track}
 use Rattle.track.specs.Tables.{Tables, lengths, LongEnough}
 use Rattle.track.specs.Meaning.{trackIn}
@@ -47,14 +49,14 @@ pub data Outcome : Type 0 where
   gives : Bytes → Outcome
   meets : (number : ℕ) → Outcome
 
--- "18. Output exceeds the lent length or 65,536."
+-- "18. Output exceeds the lent length or 65,536.", the number of what is not written whole
 unfoldable pub fits : ℕ → Bytes → Bool
 fits lent w = leb (length w) lent && leb (length w) 65536
 
 unfoldable pub ofText : ℕ → Option Bytes → Outcome
 unfolding fits
 ofText lent none = meets 17
-ofText lent (some w) = cond (fits lent w) (gives w) (meets 18)
+ofText lent (some w) = cond (fits lent w) (gives w) (meets (writtenNumber Full))
 
 -- of the tables T, where so many bytes are lent: "1. A lent table is shorter than its fixed length.", "17. A handed track has […]", where they
 -- mean none, or else what comes of the text that is asked for; "18 is last"

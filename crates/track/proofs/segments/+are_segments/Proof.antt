@@ -1,6 +1,8 @@
 -- `are_segments` meets its contract. The measure is the room that is left. The loop's invariant: the test of all rows is that of the rows from `i`
 -- on; its measure is how many these are.
 use mathlib.Core.Path.{_≡_, refl, sym, _∙_}
+use mathlib.Core.Bool.{true}
+use mathlib.Core.Logic.{⊎-elim}
 use native.Mathlib.Omega.{arith}
 use borrow.Author.Needs.{needs}
 use Rattle.track.specs.Tables.{cell}
@@ -128,12 +130,13 @@ are-segments-returns-5 : (t : ℕ) → are-segments-lts.Need-returns-5 (claims t
     (are-segments-at t) are-segments.Post are-segments-Inv-loop are-segments-μ-loop
 unfolding cell
 are-segments-returns-5 t c =
-    let a = c .before .before .before .before .before .before .before .before .before .before .before .before .before .before .args in
-    let l = c .before .before .before .before .before .before .before .before .loop in
+    let a = c .before .before .before .before .before .before .before .before .before .before .before .before .before .before .before .args in
+    let l = c .before .before .before .before .before .before .before .before .before .loop in
     let n = a .from + a .n - l .i in
-    let g = c .before .before .before .before .get in
-    let s = holds (c .before .before .before .before .before .before .is-segment .ensures) (c .before .before .before .before .before .if2 .left) in
-    let w = fails (c .before .are-segments .ensures) (c .if5 .taken) in
+    let g = c .before .before .before .before .before .get in
+    let s = holds (c .before .before .before .before .before .before .before .is-segment .ensures)
+    (c .before .before .before .before .before .before .if2 .left) in
+    let w = fails (c .before .are-segments .ensures) (c .if6 .taken) in
     sym (l .inv .2 ∙ are-torn _ _ _ _ (a .room) n (l .i) (g .result) (omega arith) (omega arith) (g .ensures) s (omega arith) (omega arith) w)
 
 are-segments-add-i : (t : ℕ) → are-segments-lts.Need-add-i (claims t) (are-segments-at t) are-segments.Post are-segments-Inv-loop are-segments-μ-loop
@@ -147,14 +150,16 @@ are-segments-loop-again : (t : ℕ) → are-segments-lts.Need-loop-again (claims
     (are-segments-at t) are-segments.Post are-segments-Inv-loop are-segments-μ-loop
 unfolding cell
 are-segments-loop-again t c =
-    let a = c .before .before .before .before .before .before .before .before .before .before .before .before .before .before .args in
-    let l = c .before .before .before .before .before .before .before .before .loop in
+    let a = c .before .before .before .before .before .before .before .before .before .before .before .before .before .args in
+    let l = c .before .before .before .before .before .before .before .loop in
     let n = a .from + a .n - l .i in
-    let g = c .before .before .before .before .get in
-    let s = holds (c .before .before .before .before .before .before .is-segment .ensures) (c .before .before .before .before .before .if2 .left) in
+    let g = c .before .before .before .get in
+    let s = holds (c .before .before .before .before .before .is-segment .ensures) (c .before .before .before .before .if2 .left) in
     let e : a .from + a .n - (l .i + g .result) ≡ n - g .result = omega arith in
-    let w = holds (c .before .are-segments .ensures) (c .if5 .left) in
-    let k = are-on _ _ _ _ (a .room) n (l .i) (g .result) (omega arith) (omega arith) (g .ensures) s (omega arith) (omega arith) w in
+    let inside : areSegments (a .segments .now) (a .sizes .now) (a .strings .now) (a .texts .now) (a .room - 1) (g .result - 1) (l .i + 1) ≡ true =
+    ⊎-elim (λ w. holds (w .1 .ensures) (w .2 .left))
+    (λ w. let k : g .result - 1 ≡ 0 = omega (arith, w .left) in rw k (are-none _ _ _ _ (a .room - 1) (l .i + 1))) (c .if5 .came) in
+    let k = are-on _ _ _ _ (a .room) n (l .i) (g .result) (omega arith) (omega arith) (g .ensures) s (omega arith) (omega arith) inside in
     (omega arith, omega arith, rw e (l .inv .2 ∙ k))
 
 are-segments-returns-6 : (t : ℕ) → are-segments-lts.Need-returns-6 (claims t)
