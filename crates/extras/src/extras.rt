@@ -164,8 +164,8 @@ fn keep_all(
     at: usize,
     end: usize,
 ) -> usize
-    requires { ⌜ RowsFit (now attrs) (now strings) (now rows) × (length (names list) ≤ length (now rows)) × NoneFrom list end (now rows) × (length (now strings) < 2 ^ 32)
-        × ((l : List (Attr Placed)) × FirstRows (now attrs) (now strings) list (now rows) l
+    requires { ⌜ RowsFit (now attrs) (now strings) (now rows) × (length (names list) ≤ length (now rows)) × NoneFrom list end (now rows)
+        × (length (now strings) < 2 ^ 32) × ((l : List (Attr Placed)) × FirstRows (now attrs) (now strings) list (now rows) l
         × ((at + length (extrasOf list l)) * 3 ≤ length (now extras))) ⌝ }
     ensures { λ r. ⌜ ((l : List (Attr Placed)) → FirstRows (now (attrs .entry)) (now (strings .entry)) list (now (rows .entry)) l
         → Collected (extrasOf list l) at (now (extras .entry)) (now (extras .exit)) r) ⌝ }

@@ -42,9 +42,10 @@ returns c =
     let c12 = c7 .before .before .before .before .before in
     let own = c12 .pre .0 in
     let z = c12 .args .strings .now in
-    let mine = lists-from _ (c3 .keep-all .ensures (attrsIn z (own .0)) (c7 .first-rows .ensures .1 .1 (own .0) (own .1))) (c .rows-from .ensures) in (
+    let firsts = c7 .first-rows .ensures .1 .1 in
+    let mine = lists-from _ (c3 .keep-all .ensures (attrsIn z (own .0)) (firsts (own .0) (own .1))) (c .rows-from .ensures) in (
       omega (arith, mine .count, few-extras (c12 .args .list) (own .1)),
-      λ l y. lists-from _ (c3 .keep-all .ensures (attrsIn z l) (c7 .first-rows .ensures .1 .1 l y)) (c .rows-from .ensures),
+      λ l y. lists-from _ (c3 .keep-all .ensures (attrsIn z l) (firsts l y)) (c .rows-from .ensures),
     )
 
 pub collect-spec : {M : Type 1} → statement M
