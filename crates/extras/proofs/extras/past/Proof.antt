@@ -9,7 +9,10 @@ enum-known-number : tie.Need-enum-known-number
 enum-known-number c = search needs
 
 returns : tie.Need-returns
-returns c = rw (c .before .before .number .given .1, lt-ltb _ _ (c .if1 .taken))
+returns c =
+    let g = c .before .before .number .given in
+    let a = c .before .before .before .before .args in
+    rw (g .1, lt-ltb (g .0 .0) (a .end) (omega arith))
 
 add-result : tie.Need-add-result
 add-result c = let h = rw (c .before .before .number .given .1) at (c .before .before .before .before .pre) in omega (arith, h)
@@ -18,7 +21,10 @@ enum-told : tie.Need-enum-told
 enum-told c = search needs
 
 returns-2 : tie.Need-returns-2
-returns-2 c = rw (c .before .before .number .given .1, le-ltb _ _ (c .if1 .left))
+returns-2 c =
+    let g = c .before .before .number .given in
+    let a = c .before .before .before .before .args in
+    rw (g .1, le-ltb (g .0 .0) (a .end) (omega arith))
 
 returns-3 : tie.Need-returns-3
 returns-3 c = search needs
