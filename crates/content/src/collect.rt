@@ -22,7 +22,6 @@ use styling::Wrapping;
 use styling::WsMode;
 use times::Sum;
 use times::TimingCtx;
-use track::Segment;
 use track::Span;
 use tree::Refusal;
 
@@ -120,8 +119,8 @@ fn collect_text(
             boundary: c.boundary,
         });
     }
-    let text = Segment::Text(Span { place, len: c.len });
-    let a = records::add_segment(segments, reveal, sizes, run.rows, 1, text);
+    let text = Span { place, len: c.len };
+    let a = records::add_text(segments, reveal, sizes, run.rows, text);
     added(a, c.boundary, node_place(nodes, k))
 }
 
@@ -155,7 +154,7 @@ fn collect_break(
         (three (now (segments .exit)) (now (reveal .exit)) (now (sizes .exit))) (now (texts .exit)) r ⌝ }
 {
     end_siblings(segments, texts, ws, first, rows);
-    let a = records::add_segment(segments, reveal, sizes, rows, 1, Segment::Break);
+    let a = records::add_break(segments, reveal, sizes, rows);
     added(a, true, place)
 }
 

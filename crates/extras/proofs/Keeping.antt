@@ -1,7 +1,7 @@
 -- Extras, one name after the other. Assumes nothing.
 --     entry-none, entry-kept, entry-extra, is-align, no-align     the extra of one name
---     Kept, kept-start, kept-on, kept-all     one turn of `keep_all`
---     few-extras, kept-room, few-names, room-for, long-after    no more of them than attributes, so that each row is in the table
+--     Kept, kept-start, kept-on, kept-all     one turn of `keep_all`; no entries, no extras
+--     few-extras, kept-room, room-for, long-after    no more of them than attributes, so that each row is in the table
 --     lists-from                              where they stand
 use Prim.Native.Nat.{ℕ, zero, suc, _+_, _-_, _*_, _≤_, _<_, _^_}
 use mathlib.Core.Path.{_≡_, refl, sym, ap, _∙_}
@@ -39,6 +39,7 @@ use Rattle.styling.specs.Posts.{HeldAt, valueIn}
 use Rattle.extras.specs.Kept.{wantedBy, extrasOf, keptIn, FoundFits, keptCells, keptCount, RoomFor, placedCells, Collected, rowsFrom, Lists}
 use Rattle.extras.specs.Kept.{noted, FirstRows, entryExtra}
 use Rattle.extras.proofs.Few.{extras-fit}
+use Rattle.extras.proofs.Noting.{few-names}
 
 -- ---- one name
 abbrev pub extraOf : Listed → (i : ℕ) → List (Attr Placed) → List (Extra Placed)
@@ -96,6 +97,18 @@ count-kept z i (Found.At h) = refl
 count-kept z i Found.Nothing = refl
 
 -- ---- name after name
+-- where there are no entries from the i-th name on, there are no extras
+no-more : (u z rows : List ℕ) (list : Listed) (l : List (Attr Placed)) → FirstRows u z list rows l → (m i : ℕ) → i + m ≡ length (names list)
+    → ((j : ℕ) → i ≤ j → getD rows j 0 ≡ 0) → extrasFrom withPlaces (wantedBy list) i (drop i (names list)) l ≡ []
+unfolding extrasFrom
+no-more u z rows list l w zero i e o =
+    let h : length (names list) ≤ i = omega arith in
+    rw (drop-of-length-le (names list) h)
+no-more u z rows list l w (suc m) i e o =
+    let h : i < length (names list) = omega arith in
+    rw (drop-cons (names list) i [] h, entry-extra u z rows list l i w h (entry-none u z list i (getD rows i 0) (o i (omega arith))))
+    (no-more u z rows list l w m (suc i) (omega arith) (λ j g. o j (omega arith)))
+
 -- the extras of the names before the i-th stand in n rows from row k on
 pub record Kept (list : Listed) (l : List (Attr Placed)) (i n k : ℕ) (t t′ : List ℕ) : Type 0 where
   pub done : List (Extra Placed)
@@ -129,10 +142,10 @@ module _ {list : Listed} {l : List (Attr Placed)} {i n k : ℕ} {t t′ : List �
             (sets-append (placedCells (x .done)) (placedCells (keptIn z i f)) t (k * 3));
       }
 
-  pub kept-all : length (names list) ≤ i → Collected (extrasOf list l) k t t′ n
-  unfolding extrasFrom
-  kept-all h =
-      let e : extrasOf list l ≡ x .done = x .is ∙ rw (drop-of-length-le (names list) h) (append-nil (x .done)) in
+  pub kept-all : (u z rows : List ℕ) → FirstRows u z list rows l → i ≤ length (names list) → ((j : ℕ) → i ≤ j → getD rows j 0 ≡ 0)
+      → Collected (extrasOf list l) k t t′ n
+  kept-all u z rows w h o =
+      let e : extrasOf list l ≡ x .done = x .is ∙ rw (no-more u z rows list l w (length (names list) - i) i (omega arith) o) (append-nil (x .done)) in
       record { count = ap length e ∙ x .count; laid = rw e (x .laid) }
 
 -- ---- no more of them than attributes
@@ -161,13 +174,6 @@ kept-room {list = list} {l} {i} x h z f e =
     let w = ap length (rw e at (next x h)) in
     let a = length-append (x .done ++ keptIn z i f) rest in
     omega (arith, w, x .count, count-kept z i f, a, length-append (x .done) (keptIn z i f))
-
-pub few-names : (list : Listed) → length (names list) ≤ 53
-few-names Listed.StyleExtra = leb-true _ _ refl
-few-names Listed.InlineExtra = leb-true _ _ refl
-few-names Listed.RegionAttr = leb-true _ _ refl
-few-names Listed.InlineModelled = leb-true _ _ refl
-few-names Listed.Imsc1Extension = leb-true _ _ refl
 
 pub room-for : (list : Listed) (z t : List ℕ) (at many n i : ℕ) (f : Found) → FoundFits z f → length z < 2 ^ 32 → i < length (names list)
     → (at + many) * 3 ≤ length t → n + keptCount f ≤ many → RoomFor t (at + n) i f

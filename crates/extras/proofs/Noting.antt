@@ -1,16 +1,17 @@
 -- The first attribute of each name, by the name's number. Assumes nothing.
 --     Noted, noted-start, noted-on, noted-all    one turn of `first_rows`
 --     fits-on, number-fits, all-zero             its entries stand in the tables
+--     few-names, number-below, number-under, none-on   and end where it says
 use Prim.Native.Nat.{ℕ, _+_, _-_, _*_, _≤_, _<_}
 use mathlib.Core.Path.{_≡_, refl, sym, ap, _∙_}
 use mathlib.Core.Bool.{Bool, true, false, cond, true≢false}
 use mathlib.Core.List.{List, [], _∷_}
 use mathlib.Core.Option.{Option, none, some}
 use native.Mathlib.Omega.{arith}
-use lib.Dec.{eqb}
+use lib.Dec.{eqb, ltb}
 use lib.ListN.{length, getD, set, length-set}
 use lib.Seq.{getD-set-same, getD-set-other}
-use borrow.Author.Tests.{eqb-true, ne-eqb, eqb-false}
+use borrow.Author.Tests.{leb-true, eqb-true, ne-eqb, eqb-false, ltb-true, ltb-false}
 use Rattle.scan.specs.Names.{sameFolded}
 use Rattle.scan.specs.Part.{stringAt}
 use Rattle.unicode.proofs.Utf8Laws.{by-test}
@@ -27,7 +28,7 @@ use Rattle.xml.specs.Reading.{Placed}
 use Rattle.meaning.specs.Nodes.{attribute, valued}
 use Rattle.meaning.specs.Kinds.{withPlaces, attrsIn}
 use Rattle.styling.specs.Posts.{nameAt}
-use Rattle.extras.specs.Kept.{valueAt, noted, RowFits, RowsFit, FirstRows, withNote, NumberFits}
+use Rattle.extras.specs.Kept.{valueAt, noted, RowFits, RowsFit, FirstRows, withNote, NumberFits, NumberBelow, pastNumber, NoneFrom}
 use Rattle.styling.proofs.Attributes.{Head, Rest, rest-start, rest-first, rest-on}
 
 abbrev pub still : List Attr → ℕ
@@ -146,3 +147,38 @@ number-fits list s rows h (Number.At i) e = omega (arith, number-name list s i (
 pub long-note : (rows : List ℕ) (number : Number) (r : ℕ) → length (withNote rows number r) ≡ length rows
 long-note rows (Number.At i) r = by-test (eqb (getD rows i 0) 0) (λ e. rw e (length-set rows i r)) (λ e. rw e)
 long-note rows Number.Nothing r = refl
+
+-- ---- where numbers end
+pub few-names : (list : Listed) → length (names list) ≤ 53
+few-names Listed.StyleExtra = leb-true _ _ refl
+few-names Listed.InlineExtra = leb-true _ _ refl
+few-names Listed.RegionAttr = leb-true _ _ refl
+few-names Listed.InlineModelled = leb-true _ _ refl
+few-names Listed.Imsc1Extension = leb-true _ _ refl
+
+pub number-below : (list : Listed) (s : List ℕ) (number : Number) → number ≡ numberOf list s → NumberBelow (length (names list)) number
+number-below list s Number.Nothing e = tt
+number-below list s (Number.At i) e = number-name list s i (sym e) .0
+
+pub number-under : (list : Listed) (s : List ℕ) (number : Number) → number ≡ numberOf list s → NumberBelow 53 number
+number-under list s Number.Nothing e = tt
+number-under list s (Number.At i) e = omega (arith, number-name list s i (sym e) .0, few-names list)
+
+pub none-on : (list : Listed) (rows : List ℕ) (e : ℕ) → NoneFrom list e rows → (number : Number) → NumberBelow (length (names list)) number
+    → (r : ℕ) (e′ : ℕ) → e′ ≡ pastNumber number e → (rows′ : List ℕ) → rows′ ≡ withNote rows number r → NoneFrom list e′ rows′
+none-on list rows e w Number.Nothing b r e′ q rows′ v = rw (q, v) w
+none-on list rows e w (Number.At j) b r e′ q rows′ v = (rw q within, λ i h. rw v (by-test (eqb (getD rows j 0) 0)
+    (λ t. rw (t, getD-set-other rows j i r 0 (apart i h)) (w .1 i (old i h)))
+    (λ t. rw t (w .1 i (old i h)))))
+  where
+    within : cond (ltb j e) e (j + 1) ≤ length (names list)
+    within = by-test (ltb j e) (λ t. rw t (w .0)) (λ t. rw t (omega arith))
+
+    past-both : (e ≤ cond (ltb j e) e (j + 1)) × (j < cond (ltb j e) e (j + 1))
+    past-both = by-test (ltb j e) (λ t. rw t (omega arith, ltb-true j e t)) (λ t. rw t (omega (arith, ltb-false j e t), omega arith))
+
+    old : (i : ℕ) → e′ ≤ i → e ≤ i
+    old i h = omega (arith, past-both .0, q)
+
+    apart : (i : ℕ) → e′ ≤ i → i ≡ j → ⊥
+    apart i h g = omega (arith, past-both .1, q)

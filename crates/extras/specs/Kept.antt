@@ -4,7 +4,7 @@ use mathlib.Core.Path.{_≡_}
 use mathlib.Core.Bool.{Bool, cond}
 use mathlib.Core.List.{List, [], _∷_}
 use mathlib.Core.Option.{Option, none, some}
-use lib.Dec.{eqb}
+use lib.Dec.{eqb, ltb}
 use lib.ListN.{length, getD, set}
 use lib.Seq.{sets}
 use Rattle.scan.specs.Part.{stringAt}
@@ -60,6 +60,19 @@ withNote rows Number.Nothing r = rows
 abbrev pub NumberFits : List ℕ → Number → Type 0
 NumberFits rows (Number.At i) = i < length rows
 NumberFits rows Number.Nothing = Unit {0}
+
+abbrev pub NumberBelow : ℕ → Number → Type 0
+NumberBelow m (Number.At i) = i < m
+NumberBelow m Number.Nothing = Unit {0}
+
+-- where numbers end that end at e without this one
+abbrev pub pastNumber : Number → (e : ℕ) → ℕ
+pastNumber (Number.At i) e = cond (ltb i e) e (i + 1)
+pastNumber Number.Nothing e = e
+
+-- from number e on there is no entry
+abbrev pub NoneFrom : Listed → (e : ℕ) (rows : List ℕ) → Type 0
+NoneFrom list e rows = (e ≤ length (names list)) × ((i : ℕ) → e ≤ i → getD rows i 0 ≡ 0)
 
 -- ---- the extra of the list's i-th name
 

@@ -12,7 +12,7 @@ ghost use Rattle.meaning.specs.Kinds.{withPlaces};
 ghost use Rattle.meaning.specs.Styling.{extraOfStyle, everyExtra, extrasFrom, inlineExtras};
 ghost use Rattle.styling.specs.Posts.{HasRows, OfRows, NameFits, nameAt};
 ghost use Rattle.extras.specs.Kept.{wantedBy, extrasOf, keptIn, FoundFits, keptCells, keptCount, RoomFor, Collected, rowsFrom, Lists};
-ghost use Rattle.extras.specs.Kept.{RowFits, RowsFit, FirstRows, withNote, NumberFits, entryExtra};
+ghost use Rattle.extras.specs.Kept.{RowFits, RowsFit, FirstRows, withNote, NumberFits, NumberBelow, pastNumber, NoneFrom, entryExtra};
 use names::Listed;
 use names::Number;
 use styling::Found;
@@ -73,7 +73,23 @@ fn note(rows: &mut [usize], number: Number, entry: usize)
     }
 }
 
-// The first attribute of each name, by the name's number.
+// The end of numbers, where it was `end` before this one.
+fn past(number: Number, end: usize) -> usize
+    requires { ⌜ NumberBelow 53 number ⌝ }
+    ensures { λ r. ⌜ r ≡ pastNumber number end ⌝ }
+{
+    match number {
+        Number::At(i) => {
+            if i < end {
+                return end;
+            }
+            i + 1
+        }
+        Number::Nothing => end,
+    }
+}
+
+// The first attribute of each name, by the name's number; and where the numbers end that have one.
 fn first_rows(
     attrs: &[u32],
     strings: &[u8],
@@ -81,20 +97,24 @@ fn first_rows(
     many: usize,
     list: Listed,
     rows: &mut [usize],
-)
+) -> usize
     requires { ⌜ HasRows (now attrs) (now strings) first many × (length (names list) ≤ length (now rows))
         × ((i : ℕ) → getD (now rows) i 0 ≡ 0) ⌝ }
+    ensures { λ r. ⌜ NoneFrom list r (now (rows .exit)) ⌝ }
     ensures { λ _. ⌜ RowsFit (now (attrs .entry)) (now (strings .entry)) (now (rows .exit)) ⌝ }
     ensures { λ _. ⌜ OfRows (now (attrs .entry)) (now (strings .entry)) first many (λ l.
         FirstRows (now (attrs .entry)) (now (strings .entry)) list (now (rows .exit)) l) ⌝ }
 {
     let end = first + many;
+    let mut last = 0;
     let mut k = first;
     while k < end {
         let number = number_at(attrs, strings, k, list);
+        last = past(number, last);
         note(rows, number, k + 1);
         k += 1;
     }
+    last
 }
 
 // The attribute that an entry says, if the list's i-th name is kept with its value.
@@ -134,7 +154,7 @@ fn keep(found: Found, i: usize, extras: &mut [u32], k: usize) -> usize
     }
 }
 
-// What the entries say in the order of numbers, from row `at` on; how many rows that makes.
+// What the entries say in the order of numbers, from row `at` on; how many rows that makes. From number `end` on there are none.
 fn keep_all(
     attrs: &[u32],
     strings: &[u8],
@@ -142,14 +162,14 @@ fn keep_all(
     rows: &[usize],
     extras: &mut [u32],
     at: usize,
+    end: usize,
 ) -> usize
-    requires { ⌜ RowsFit (now attrs) (now strings) (now rows) × (length (names list) ≤ length (now rows)) × (length (now strings) < 2 ^ 32)
-        × ((l : List (Attr Placed)) × FirstRows (now attrs) (now strings) list (now rows) l
+    requires { ⌜ RowsFit (now attrs) (now strings) (now rows) × (length (names list) ≤ length (now rows)) × NoneFrom list end (now rows)
+        × (length (now strings) < 2 ^ 32) × ((l : List (Attr Placed)) × FirstRows (now attrs) (now strings) list (now rows) l
         × ((at + length (extrasOf list l)) * 3 ≤ length (now extras))) ⌝ }
     ensures { λ r. ⌜ ((l : List (Attr Placed)) → FirstRows (now (attrs .entry)) (now (strings .entry)) list (now (rows .entry)) l
         → Collected (extrasOf list l) at (now (extras .entry)) (now (extras .exit)) r) ⌝ }
 {
-    let end = names::count(list);
     let mut n = 0;
     let mut i = 0;
     while i < end {
@@ -188,8 +208,8 @@ fn collect(
         Lists (extrasOf list l) at (now (extras .entry)) (now (extras .exit)) r) ⌝ }
 {
     let mut rows = [0usize; 53];
-    first_rows(attrs, strings, first, many, list, &mut rows);
-    let n = keep_all(attrs, strings, list, &rows, extras, at);
+    let end = first_rows(attrs, strings, first, many, list, &mut rows);
+    let n = keep_all(attrs, strings, list, &rows, extras, at, end);
     rows_from(at, n)
 }
 

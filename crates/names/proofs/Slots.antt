@@ -3,6 +3,7 @@
 --     slot-entry                a listed name's slot has its number
 --     slot-within               and no slot has a number past the list
 --     slot-none, slot-hit, slot-miss   what the entry in a name's slot says of its number
+--     initial-last, begin-empty, initial-none   a name that begins as none listed does has no number
 use Prim.Native.Nat.{ℕ, zero, suc, _+_, _-_, _*_, _%_, _≤_, _<_}
 use mathlib.Core.Path.{_≡_, refl, sym, ap, _∙_}
 use mathlib.Core.Bool.{Bool, true, false, cond, _&&_, true≢false}
@@ -10,7 +11,7 @@ use mathlib.Core.List.{List, [], _∷_, map}
 use native.Mathlib.Omega.{arith}
 use lib.Dec.{eqb, ltb}
 use lib.ListN.{length, getD, length-map, List·getD-map}
-use borrow.Author.Tests.{eqb-true, ltb-true, ltb-false, lt-ltb, le-ltb}
+use borrow.Author.Tests.{eqb-true, ne-eqb, ltb-true, ltb-false, lt-ltb, le-ltb}
 use Rattle.scan.specs.Names.{lower, sameFolded}
 use Rattle.scan.proofs.Naming.{folded-map, lower-capital, lower-below, lower-above}
 use Rattle.names.specs.declared.tables.Listed.{Listed}
@@ -18,7 +19,7 @@ use Rattle.names.specs.declared.tables.Listed.the-variants.{StyleExtra, 
 use Rattle.names.specs.declared.lookup.Number.{Number}
 use Rattle.names.specs.Lists.{names, nameOf}
 use Rattle.names.specs.Numbers.{numberOf}
-use Rattle.names.specs.Steps.{slotOf, slots}
+use Rattle.names.specs.Steps.{slotOf, slots, isInitial, canBegin}
 use Rattle.names.proofs.Entries.{both, every, every-at, at-eq}
 use Rattle.names.proofs.NameLaws.{number-name, folded-number}
 
@@ -41,6 +42,22 @@ slot-lower s = rw (length-map s lower, fold-mod s 4, fold-mod s (length s - 4))
 
 slot-folded : (s n : List ℕ) → sameFolded s n ≡ true → slotOf s ≡ slotOf n
 slot-folded s n e = sym (slot-lower s) ∙ (ap slotOf (folded-map s n e) ∙ slot-lower n)
+
+begin-lower : (s : List ℕ) → canBegin (map lower s) ≡ canBegin s
+unfolding canBegin
+begin-lower s = rw (fold-mod s 0)
+
+begin-folded : (s n : List ℕ) → sameFolded s n ≡ true → canBegin s ≡ canBegin n
+begin-folded s n e = sym (begin-lower s) ∙ (ap canBegin (folded-map s n e) ∙ begin-lower n)
+
+pub initial-last : (x : ℕ) → (x ≡ 20 → ⊥) → (x ≡ 9 → ⊥) → (x ≡ 19 → ⊥) → (x ≡ 1 → ⊥) → eqb x 16 ≡ isInitial x
+unfolding isInitial
+initial-last x a b c d = rw (ne-eqb x 20 a, ne-eqb x 9 b, ne-eqb x 19 c, ne-eqb x 1 d)
+
+pub begin-empty : (s : List ℕ) → length s ≡ 0 → canBegin s ≡ false
+unfolding canBegin
+begin-empty [] e = refl
+begin-empty (b ∷ s) e = absurd (omega arith)
 
 pub slot-below : (s : List ℕ) → slotOf s < 129
 unfolding slotOf
@@ -78,6 +95,14 @@ within-tested RegionAttr = refl
 within-tested InlineModelled = refl
 within-tested Imsc1Extension = refl
 
+begins-tested : (list : Listed) → every canBegin (names list) ≡ true
+unfolding canBegin
+begins-tested StyleExtra = refl
+begins-tested InlineExtra = refl
+begins-tested RegionAttr = refl
+begins-tested InlineModelled = refl
+begins-tested Imsc1Extension = refl
+
 slots-long : (list : Listed) → length (slots list) ≡ 129
 slots-long StyleExtra = refl
 slots-long InlineExtra = refl
@@ -109,6 +134,12 @@ module _ (list : Listed) (s : List ℕ) where
       by : (n : Number) → numberOf list s ≡ n → numberOf list s ≡ Number.Nothing
       by (Number.At i) e = absurd (f i e)
       by Number.Nothing e = e
+
+  pub initial-none : canBegin s ≡ false → numberOf list s ≡ Number.Nothing
+  initial-none f = nothing (λ i e.
+      let w = number-name list s i e in
+      let g : canBegin (nameOf list i) ≡ true = every-at canBegin (names list) [] (begins-tested list) i (w .0) in
+      true≢false (sym g ∙ (sym (begin-folded s (nameOf list i) (w .1)) ∙ f)))
 
   module _ (x : ℕ) (w : x ≡ getD (slots list) (slotOf s) 0) where
     pub slot-none : x < 35 → numberOf list s ≡ Number.Nothing

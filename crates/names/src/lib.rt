@@ -9,5 +9,4 @@ pub use lookup::is_name;
 pub use lookup::number_of;
 pub use tables::Listed;
 pub use tables::Name;
-pub use tables::count;
 pub use tables::name_at;

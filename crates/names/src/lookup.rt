@@ -6,7 +6,7 @@ ghost use Rattle.scan.specs.Names.{sameBytes, sameFolded};
 ghost use Rattle.scan.specs.Posts.{Wrote};
 ghost use Rattle.names.specs.Lists.{names, nameOf};
 ghost use Rattle.names.specs.Numbers.{numberOf, containsName};
-ghost use Rattle.names.specs.Steps.{slotOf, slots};
+ghost use Rattle.names.specs.Steps.{slotOf, slots, isInitial, canBegin};
 use crate::tables::Listed;
 
 // A name's number in a list, from 0 on, or it is not listed.
@@ -83,7 +83,7 @@ fn in_slot(list: Listed, slot: usize) -> u8
 
 // The number of the entry that the name is, letters in any case. A name that is not listed is compared with
 // one entry at most, and no table of names is made for one whose slot is empty.
-pub fn number_of(list: Listed, name: &[u8]) -> Number
+fn number_in_slot(list: Listed, name: &[u8]) -> Number
     ensures { λ r. ⌜ r ≡ numberOf list (now (name .entry)) ⌝ }
 {
     let entry = in_slot(list, slot(name));
@@ -93,6 +93,45 @@ pub fn number_of(list: Listed, name: &[u8]) -> Number
     let i = (entry - b'#') as usize;
     if is_name(list, i, name) {
         return Number::At(i);
+    }
+    Number::Nothing
+}
+
+// Does a listed name begin with this letter, counted from `@` or from a backquote?
+fn is_initial(letter: u8) -> bool
+    ensures { λ r. ⌜ r ≡ isInitial letter ⌝ }
+{
+    if letter == 20 {
+        return true;
+    }
+    if letter == 9 {
+        return true;
+    }
+    if letter == 19 {
+        return true;
+    }
+    if letter == 1 {
+        return true;
+    }
+    letter == 16
+}
+
+// Does a listed name begin as this one does?
+fn can_begin(name: &[u8]) -> bool
+    ensures { λ r. ⌜ r ≡ canBegin (now (name .entry)) ⌝ }
+{
+    if name.len() == 0 {
+        return false;
+    }
+    is_initial(name[0] % 32)
+}
+
+// The number of the entry that the name is, letters in any case. The first letter tells most names that are not listed.
+pub fn number_of(list: Listed, name: &[u8]) -> Number
+    ensures { λ r. ⌜ r ≡ numberOf list (now (name .entry)) ⌝ }
+{
+    if can_begin(name) {
+        return number_in_slot(list, name);
     }
     Number::Nothing
 }

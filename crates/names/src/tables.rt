@@ -270,19 +270,6 @@ fn imsc1_extension(i: usize) -> Name
     cut(row)
 }
 
-// How many names a list has.
-pub fn count(list: Listed) -> usize
-    ensures { λ r. ⌜ r ≡ length (names list) ⌝ }
-{
-    match list {
-        Listed::StyleExtra => 46,
-        Listed::InlineExtra => 47,
-        Listed::RegionAttr => 53,
-        Listed::InlineModelled => 6,
-        Listed::Imsc1Extension => 3,
-    }
-}
-
 // A list's i-th name, from 0 on.
 pub fn name_at(list: Listed, i: usize) -> Name
     requires { ⌜ i < length (names list) ⌝ }

@@ -215,7 +215,7 @@ module _ (pre rest t t′ : List ℕ) (f : Segments Span) (at n : ℕ) (e : t �
       (wrap-all rowCells 8 (λ y. segment-wide (y .segment) (y .rows)) pre rest t t′ t″ l f at n (rw (laid-cells (preorder f)) e) p m k e′
       (rw (laid-cells (wrapperRows l (segmentRows f))) e″))
 
-  -- `add_segment` of one that has one row
+  -- a segment more that has one row
   pub add-cells : (h : Segments Span) (x : Sized) → preorder h ≡ x ∷ [] → 8 ≤ length rest → t′ ≡ sets t (n * 8) (rowCells x)
       → t′ ≡ pre ++ (cellsOf (preorder (joined f h)) ++ drop 8 rest)
   add-cells h x o k e′ =

@@ -114,25 +114,42 @@ pub fn put_segment(
     sizes[i] = size_of(s);
 }
 
-// A segment more, where there are n.
-pub fn add_segment(
+// A text more, where there are n segments: a row of its own, written without a look at its kind.
+pub fn add_text(
     segments: &mut [u32],
     reveal: &mut [i64],
     sizes: &mut [f32],
     n: usize,
-    rows: usize,
-    s: Segment,
+    x: Span,
 ) -> Added
-    requires { ⌜ (131072 ≤ length (now segments)) × (16384 ≤ length (now reveal)) × (16384 ≤ length (now sizes)) × (rows < 2 ^ 32)
-        × SmallSegment s ⌝ }
-    ensures { λ r. ⌜ AddPost 16384 8 (segmentCells s rows) (now (segments .entry)) (now (segments .exit)) n r ⌝ }
-    ensures { λ r. ⌜ TimePost n (segmentTime s) (now (reveal .entry)) (now (reveal .exit)) r ⌝ }
-    ensures { λ r. ⌜ ValuePost n (segmentSize s) (now (sizes .entry)) (now (sizes .exit)) r ⌝ }
+    requires { ⌜ (131072 ≤ length (now segments)) × (16384 ≤ length (now reveal)) × (16384 ≤ length (now sizes)) × SmallSpan x ⌝ }
+    ensures { λ r. ⌜ AddPost 16384 8 (segmentCells (Segment.Text x) 1) (now (segments .entry)) (now (segments .exit)) n r ⌝ }
+    ensures { λ r. ⌜ TimePost n (segmentTime (Segment.Text x)) (now (reveal .entry)) (now (reveal .exit)) r ⌝ }
+    ensures { λ r. ⌜ ValuePost n (segmentSize (Segment.Text x)) (now (sizes .entry)) (now (sizes .exit)) r ⌝ }
 {
     if SEGMENTS <= n {
         return Added::Full;
     }
-    put_segment(segments, reveal, sizes, n, rows, s);
+    put_kind(segments, n * 8, 1, 1);
+    crate::cells::put_span(segments, n * 8 + 2, x);
+    reveal[n] = 0;
+    sizes[n] = 0.0;
+    Added::Next(n + 1)
+}
+
+// A break more.
+pub fn add_break(segments: &mut [u32], reveal: &mut [i64], sizes: &mut [f32], n: usize) -> Added
+    requires { ⌜ (131072 ≤ length (now segments)) × (16384 ≤ length (now reveal)) × (16384 ≤ length (now sizes)) ⌝ }
+    ensures { λ r. ⌜ AddPost 16384 8 (segmentCells Segment.Break 1) (now (segments .entry)) (now (segments .exit)) n r ⌝ }
+    ensures { λ r. ⌜ TimePost n (segmentTime Segment.Break) (now (reveal .entry)) (now (reveal .exit)) r ⌝ }
+    ensures { λ r. ⌜ ValuePost n (segmentSize Segment.Break) (now (sizes .entry)) (now (sizes .exit)) r ⌝ }
+{
+    if SEGMENTS <= n {
+        return Added::Full;
+    }
+    put_kind(segments, n * 8, 2, 1);
+    reveal[n] = 0;
+    sizes[n] = 0.0;
     Added::Next(n + 1)
 }
 

@@ -10,8 +10,8 @@ use Rattle.content.proofs.collect.collect_break.Tie as tie
 end-siblings-requires : tie.Need-end-siblings-requires
 end-siblings-requires c κs = search needs
 
-add-segment-requires : tie.Need-add-segment-requires
-add-segment-requires c κs = search needs
+add-break-requires : tie.Need-add-break-requires
+add-break-requires c κs = search needs
 
 added-requires : tie.Need-added-requires
 added-requires c κs = search needs
@@ -36,21 +36,21 @@ returns c =
     λ hi.
     let a = c20 .args in
     let p = c20 .pre in
-    let v = c6 .add-segment .last in
+    let v = c6 .add-break .last in
     let t = c14 .end-siblings .last .0 in
     let wide : 131072 ≤ length t = search needs in
     rw (c .added .ensures)
     (break-given (a .ws) (a .place) hi (a .first) (a .rows) (a .segments .now) t (a .reveal .now) (a .sizes .now)
     (three (v .0) (v .1 .0) (v .1 .1 .0)) (a .texts .now) (c14 .end-siblings .last .1 .0) (c14 .end-siblings .ensures)
-    (record { in-cells = wide; in-times = p .0 .in-times; in-floats = p .0 .in-floats }) (c6 .add-segment .result) (c6 .add-segment .ensures .0)
-    (c6 .add-segment .ensures .1 .0) (c6 .add-segment .ensures .1 .1))
+    (record { in-cells = wide; in-times = p .0 .in-times; in-floats = p .0 .in-floats }) (c6 .add-break .result) (c6 .add-break .ensures .0)
+    (c6 .add-break .ensures .1 .0) (c6 .add-break .ensures .1 .1))
 
 pub collect-break-spec : {M : Type 1} → statement M
 collect-break-spec =
     tie.close
     (tie.spec
     end-siblings-requires
-    add-segment-requires
+    add-break-requires
     added-requires
     same-length
     same-length-2

@@ -54,8 +54,8 @@ returns c =
     (omega (arith, p .3, p .0 .texts)) (omega (arith, l)) (rw (c7 .get .ensures, c6 .get2 .ensures) at (c4 .write-text .ensures before e))
     (p .1) (c .if1 .taken)
 
-add-segment-requires : tie.Need-add-segment-requires
-add-segment-requires c κs =
+add-text-requires : tie.Need-add-text-requires
+add-text-requires c κs =
     let c7 = c .before .before .before .before .before .before .before in
     let c9 = c7 .before .before in
     let c10 = c9 .before in
@@ -68,7 +68,6 @@ add-segment-requires c κs =
       p .0 .wide .in-cells,
       p .0 .wide .in-times,
       p .0 .wide .in-floats,
-      omega arith,
       (omega (arith, c10 .get .ensures, p .3, p .0 .small), omega (arith, w, l, c9 .get2 .ensures, p .3, p .0 .small)),
     )
 
@@ -105,14 +104,14 @@ returns-2 c =
     let at = getD (a .nodes .now) (a .k * 6 + 2) 0 in
     let len = getD (a .nodes .now) (a .k * 6 + 3) 0 in
     let l = string-long z at len (p .3) in
-    let v = c7 .add-segment .last in
-    let g = rw (c18 .get .ensures) at (c7 .add-segment .ensures) in
+    let v = c7 .add-text .last in
+    let g = rw (c18 .get .ensures) at (c7 .add-text .ensures) in
     rw (c .added .ensures, c .before .node-place .ensures)
     (text-some (spaceIn (a .ws)) before at len (stringAt z at len) (placeOf (a .nodes .now) (a .k)) first (a .run .rows) hi
     (three (a .segments .now) (a .reveal .now) (a .sizes .now)) (a .texts .now) (c15 .write-text .last .1 .0) (c15 .write-text .result) low
     (omega (arith, p .3, p .0 .texts)) (omega (arith, l)) (rw (c18 .get .ensures, c17 .get2 .ensures) at (c15 .write-text .ensures before e))
     (c11 .if1 .left)
-    (three (v .0) (v .1 .0) (v .1 .1 .0)) (p .0 .wide) (c7 .add-segment .result) (g .0) (g .1 .0) (g .1 .1))
+    (three (v .0) (v .1 .0) (v .1 .1 .0)) (p .0 .wide) (c7 .add-text .result) (g .0) (g .1 .0) (g .1 .1))
 
 pub collect-text-spec : {M : Type 1} → statement M
 collect-text-spec =
@@ -127,7 +126,7 @@ collect-text-spec =
     write-text-requires
     same-length
     returns
-    add-segment-requires
+    add-text-requires
     node-place-requires
     added-requires
     same-length-2
