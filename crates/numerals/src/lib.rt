@@ -27,7 +27,7 @@ pub enum Unsigned {
 }
 
 // A digit's value: the letters, capital or small, are 10 to 35. Any other byte answers 36.
-fn digit(b: u8) -> u64
+pub fn digit(b: u8) -> u64
     ensures { λ r. ⌜ r ≡ digitOf b ⌝ }
 {
     match b {
