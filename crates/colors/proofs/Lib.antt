@@ -4,4 +4,5 @@ pub mod Answers
 pub mod Reading
 pub mod Writing
 pub mod Back
+pub mod Digits
 pub mod Examples

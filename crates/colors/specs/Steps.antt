@@ -11,7 +11,7 @@ use Rattle.colors.specs.declared.read.Rgba.{Rgba}
 use Rattle.colors.specs.declared.read.Color.{Color}
 use Rattle.colors.specs.declared.read.Channel.{Channel}
 use Rattle.colors.specs.Named.{rgba}
-use Rattle.colors.specs.Colors.{hexChannel, once, twice, colorOf}
+use Rattle.colors.specs.Colors.{hexChannel, once, twice, colorOf, full}
 
 -- ---- names
 -- what stands before the first blank of a row
@@ -44,3 +44,7 @@ channelAt s at width = hexChannel s at (at + width) (copies width)
 
 abbrev pub hexChannels : List ℕ → ℕ → Channel → Color
 hexChannels s width alpha = colorOf (channelAt s 0 width) (channelAt s width width) (channelAt s (2 * width) width) alpha
+
+-- the alpha of a text of eight bytes; any other is opaque
+abbrev pub alphaAt : List ℕ → Channel
+alphaAt s = cond (eqb (length s) 8) (channelAt s 6 2) full

@@ -1,11 +1,13 @@
 // A colour read from its text.
 ghost use mathlib.Core.Path.{_≡_};
-ghost use Prim.Native.Nat.{_+_, _≤_};
+ghost use Prim.Native.Nat.{_+_, _≤_, _<_};
 ghost use lib.ListN.{length};
+ghost use mathlib.Core.Bool.{true};
+ghost use Rattle.numerals.specs.Numerals.{digitOf, digitsOnly};
 ghost use Rattle.scan.specs.Split.{splitAt};
 ghost use Rattle.colors.specs.Colors as colors;
 ghost use Rattle.colors.specs.Colors.{channelOf, colorOf, hexColor, decimalChannel, rgbParts, colorIn, opaque, ReadsColor};
-ghost use Rattle.colors.specs.Steps.{Small, Channels, channelAt, hexChannels};
+ghost use Rattle.colors.specs.Steps.{Small, Channels, channelAt, hexChannels, alphaAt};
 use numerals::Numeral;
 
 pub struct Rgba {
@@ -99,16 +101,79 @@ fn hex_channels(text: &[u8], width: usize, alpha: Channel) -> Color
     color_of(red, green, blue, alpha)
 }
 
-// What follows a `#`: three digits, or two for each of three or four channels.
+// Three channels of the width, and an alpha where the text has one.
+fn any_color(text: &[u8], width: usize) -> Color
+    requires { ⌜ Channels (now text) width ⌝ }
+    ensures { λ r. ⌜ r ≡ hexChannels (now (text .entry)) width (alphaAt (now (text .entry))) ⌝ }
+{
+    let mut alpha = Channel::Is(255);
+    if text.len() == 8 {
+        alpha = hex_channel(text, 6, 2);
+    }
+    hex_channels(text, width, alpha)
+}
+
+// Are all bytes hexadecimal digits?
+fn is_hex(text: &[u8]) -> bool
+    ensures { λ r. ⌜ r ≡ digitsOnly 16 (now (text .entry)) ⌝ }
+{
+    let mut i = 0;
+    while i < text.len() {
+        if 16 <= numerals::digit(text[i]) {
+            return false;
+        }
+        i += 1;
+    }
+    true
+}
+
+// The value of a byte that is a hexadecimal digit, without a branch.
+fn hex_digit(b: u8) -> u8
+    requires { ⌜ digitOf b < 16 ⌝ }
+    ensures { λ r. ⌜ r ≡ digitOf b ⌝ }
+{
+    b % 16 + b / 64 * 9
+}
+
+// The channel from the place, where all bytes are digits.
+fn digit_channel(text: &[u8], at: usize, width: usize) -> u8
+    requires { ⌜ (1 ≤ width) × (width ≤ 2) × (at + width ≤ length (now text)) × (digitsOnly 16 (now text) ≡ true) ⌝ }
+    ensures { λ r. ⌜ Channel.Is r ≡ channelAt (now (text .entry)) at width ⌝ }
+{
+    hex_digit(text[at]) * 16 + hex_digit(text[at + width - 1])
+}
+
+// The same colour, where all bytes are digits.
+fn digit_color(text: &[u8], width: usize) -> Color
+    requires { ⌜ Channels (now text) width × (digitsOnly 16 (now text) ≡ true) ⌝ }
+    ensures { λ s. ⌜ s ≡ hexChannels (now (text .entry)) width (alphaAt (now (text .entry))) ⌝ }
+{
+    let mut a = 255;
+    if text.len() == 8 {
+        a = digit_channel(text, 6, 2);
+    }
+    let r = digit_channel(text, 0, width);
+    let g = digit_channel(text, width, width);
+    let b = digit_channel(text, 2 * width, width);
+    Color::Is(Rgba { r, g, b, a })
+}
+
+// What follows a `#`: three digits, or two for each of three or four channels. Anything but digits is
+// given a part of the text of its own, so that this one stays in registers.
 fn hex_color(text: &[u8]) -> Color
     ensures { λ r. ⌜ r ≡ hexColor (now (text .entry)) ⌝ }
 {
-    match text.len() {
-        3 => hex_channels(text, 1, Channel::Is(255)),
-        6 => hex_channels(text, 2, Channel::Is(255)),
-        8 => hex_channels(text, 2, hex_channel(text, 6, 2)),
-        _ => Color::Nothing,
+    let len = text.len();
+    let mut width = 2;
+    if len == 3 {
+        width = 1;
+    } else if len != 6 && len != 8 {
+        return Color::Nothing;
     }
+    if is_hex(text) {
+        return digit_color(text, width);
+    }
+    any_color(&text[0..], width)
 }
 
 // A decimal channel, white space around it passed over.
@@ -167,7 +232,7 @@ fn trimmed_color(text: &[u8]) -> Color
 pub fn parse_ttml_color_rgba(text: &[u8]) -> Color
     ensures { λ r. ⌜ ReadsColor (colorIn (now (text .entry))) r ⌝ }
 {
-    let span = unicode::trim(text);
+    let span = unicode::trim(&text[0..]);
     let start = span.start;
     let end = span.end;
     trimmed_color(&text[start..end])

@@ -6,7 +6,7 @@
 --     shape-point, shape-bare        a text's digits, by the places that the program finds
 --     shape-empty, shape-rest, shape-whole, shape-digital           what they spell
 --     limited-far, limited-long, limited-is                         what keeps the limits
---     decimal-none, decimal-minus, decimal-plus, decimal-bare       the sign
+--     decimal-none, decimal-minus, decimal-bare, decimal-signed     the sign
 --     value-limit, decimal-limits    a decimal is within the limits that it was read by
 use Prim.Native.Nat.{ℕ, suc, _+_, _-_, _*_, _≤_, _<_, _^_}
 use mathlib.Core.Path.{_≡_, refl, ap, _∙_}
@@ -23,14 +23,15 @@ use Rattle.scan.specs.Bytes.{digitByte, runLength, runEnd}
 use Rattle.scan.specs.Names.{sameFolded}
 use Rattle.scan.specs.Part.{part}
 use Rattle.scan.proofs.Runs.{run-length, run-all, run-high}
+use Rattle.unicode.proofs.Trimming.{whole-part}
 use Rattle.numerals.specs.Numerals.{valueFrom, digitOf}
-use Rattle.numerals.proofs.Numerals.{digit-byte}
+use Rattle.numerals.proofs.Numerals.{digit-byte, after-sign}
 use Rattle.decimals.proofs.Counting.{digit-bounds}
 use Rattle.decimals.specs.declared.read.Count.{Count}
 use Rattle.decimals.specs.declared.read.Digits.{Digits}
 use Rattle.decimals.specs.declared.read.Decimal.the-variants.{Is, Nothing, Beyond}
 use Rattle.decimals.specs.Decimal.{onlyDigits, isExponent, isWord, unsigned, negative, fraction, afterFraction, allDigits, restOf, scaleOf}
-use Rattle.decimals.specs.Decimal.{digitsAt, afterDigits, significant, limited, unsignedDecimal, decimalOf}
+use Rattle.decimals.specs.Decimal.{isSign, digitsAt, afterDigits, significant, limited, unsignedDecimal, decimalOf}
 use Rattle.decimals.specs.Steps.{Counted, Further, Digital, PointAt, Room}
 
 -- ---- only digits
@@ -267,16 +268,23 @@ module _ (digits decimals : ℕ) where
   decimal-minus [] h e = absurd (omega arith)
   decimal-minus (b ∷ s) h e = rw (ne-eqb b 43 (λ w. omega arith), eq-eqb b 45 e)
 
-  pub decimal-plus : (s : List ℕ) → 1 ≤ length s → getD s 0 0 ≡ 43 → decimalOf s digits decimals ≡ unsignedDecimal false (drop 1 s) digits decimals
-  unfolding decimalOf
-  decimal-plus [] h e = absurd (omega arith)
-  decimal-plus (b ∷ s) h e = rw (eq-eqb b 43 e, ne-eqb b 45 (λ w. omega arith))
-
   pub decimal-bare : (s : List ℕ) → 1 ≤ length s → (getD s 0 0 ≡ 43 → ⊥) → (getD s 0 0 ≡ 45 → ⊥)
       → decimalOf s digits decimals ≡ unsignedDecimal false s digits decimals
   unfolding decimalOf
   decimal-bare [] h m n = absurd (omega arith)
   decimal-bare (b ∷ s) h m n = rw (ne-eqb b 43 m, ne-eqb b 45 n)
+
+  -- a sign of the width k, or none, and what follows it
+  pub decimal-signed : (s : List ℕ) (k : ℕ) → 1 ≤ length s → k ≡ cond (isSign (getD s 0 0)) 1 0
+      → unsignedDecimal (eqb (getD s 0 0) 45) (take (length s - k) (drop k s)) digits decimals ≡ decimalOf s digits decimals
+  unfolding decimalOf
+  decimal-signed [] k h e = absurd (omega arith)
+  decimal-signed (b ∷ s) k h e = by (isSign b) refl
+    where
+      by : (t : Bool) → isSign b ≡ t
+          → unsignedDecimal (eqb b 45) (take (length (b ∷ s) - k) (drop k (b ∷ s))) digits decimals ≡ decimalOf (b ∷ s) digits decimals
+      by true t = let o : k ≡ 1 = rw t at e in rw (o, after-sign (b ∷ s), t)
+      by false t = let o : k ≡ 0 = rw t at e in rw (o, whole-part (b ∷ s), t)
 
 -- ---- a decimal is within its limits
 -- all bytes are digits

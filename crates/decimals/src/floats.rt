@@ -54,7 +54,7 @@ pub fn to_f64(d: Digits) -> f64
     ensures { λ r. ⌜ r ≡ valueIn binary64 (d .negative) (d .digits) (d .scale) ⌝ }
 {
     let scale = d.scale as usize;
-    let size = std::num::nearest_u64_to_f64(d.digits) / POWERS_OF_TEN[scale];
+    let size = d.digits as f64 / POWERS_OF_TEN[scale];
     if d.negative { -size } else { size }
 }
 

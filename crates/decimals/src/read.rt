@@ -1,9 +1,12 @@
 // Reading a decimal: its sign, its digits as a whole number, and how many stand behind the point.
 ghost use mathlib.Core.Path.{_≡_};
+ghost use mathlib.Core.Bool.{cond};
 ghost use mathlib.Core.List.{_++_};
 ghost use Prim.Native.Nat.{_-_, _≤_, _<_, _^_};
 ghost use lib.ListN.{length, take, drop};
-ghost use Rattle.decimals.specs.Decimal.{onlyDigits, isExponent, isWord, limited, unsignedDecimal, Reads};
+ghost use Rattle.scan.specs.Bytes.{digitByte};
+ghost use Rattle.scan.specs.Posts.{Ends};
+ghost use Rattle.decimals.specs.Decimal.{isSign, onlyDigits, isExponent, isWord, limited, unsignedDecimal, Reads};
 ghost use Rattle.decimals.specs.Steps.{OneMore, Room, Further, Digital, PointAt};
 use scan::Class;
 
@@ -64,6 +67,21 @@ fn count_digits(text: &[u8], from: usize, to: usize, before: Count) -> Count
     count
 }
 
+// Where the digits from the place on end.
+fn digits_end(text: &[u8], from: usize) -> usize
+    requires { ⌜ from ≤ length (now text) ⌝ }
+    ensures { λ r. ⌜ Ends digitByte (now (text .entry)) from r ⌝ }
+{
+    let mut i = from;
+    while i < text.len() {
+        if !scan::is_of(Class::Digit, text[i]) {
+            return i;
+        }
+        i += 1;
+    }
+    i
+}
+
 // One digit or more, from the place to the end, and nothing else?
 fn only_digits(text: &[u8], from: usize) -> bool
     requires { ⌜ from ≤ length (now text) ⌝ }
@@ -72,7 +90,7 @@ fn only_digits(text: &[u8], from: usize) -> bool
     if text.len() <= from {
         return false;
     }
-    scan::over(text, from, Class::Digit) == text.len()
+    digits_end(text, from) == text.len()
 }
 
 fn is_exponent(text: &[u8], from: usize) -> bool
@@ -151,14 +169,14 @@ fn read_unsigned(text: &[u8], negative: bool, digits: usize, decimals: usize) ->
     requires { ⌜ (digits ≤ 18) × (decimals < 2 ^ 32) ⌝ }
     ensures { λ r. ⌜ r ≡ unsignedDecimal negative (now (text .entry)) digits decimals ⌝ }
 {
-    let whole = scan::over(text, 0, Class::Digit);
+    let whole = digits_end(text, 0);
     let from = fraction_start(text, whole);
     let mut end = whole;
     if whole < from {
-        end = scan::over(text, from, Class::Digit);
+        end = digits_end(text, from);
     }
     if whole == 0 && end == from {
-        if is_word(text) {
+        if is_word(&text[0..]) {
             return Decimal::Beyond;
         }
         return Decimal::Nothing;
@@ -172,6 +190,16 @@ fn read_unsigned(text: &[u8], negative: bool, digits: usize, decimals: usize) ->
     limit(text, negative, whole, from, digits, decimals)
 }
 
+// How many bytes a sign has that begins with the byte.
+fn sign_width(b: u8) -> usize
+    ensures { λ r. ⌜ (r ≡ cond (isSign b) 1 0) × (r ≤ 1) ⌝ }
+{
+    match b {
+        b'+' | b'-' => 1,
+        _ => 0,
+    }
+}
+
 // The decimal that the whole text spells, with at most so many digits after leading zeros and so
 // many behind the point.
 pub fn read_decimal(text: &[u8], digits: usize, decimals: usize) -> Decimal
@@ -182,9 +210,6 @@ pub fn read_decimal(text: &[u8], digits: usize, decimals: usize) -> Decimal
         return Decimal::Nothing;
     }
     let sign = text[0];
-    match sign {
-        b'-' => read_unsigned(&text[1..], true, digits, decimals),
-        b'+' => read_unsigned(&text[1..], false, digits, decimals),
-        _ => read_unsigned(text, false, digits, decimals),
-    }
+    let from = sign_width(sign);
+    read_unsigned(&text[from..], sign == b'-', digits, decimals)
 }

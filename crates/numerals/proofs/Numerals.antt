@@ -1,7 +1,7 @@
 -- Laws of digits, of the value of a row of digits and of whole numbers. Assumes nothing.
 use Prim.Native.Nat.{ℕ, _+_, _-_, _*_, _/_, _≤_, _<_}
 use mathlib.Core.Path.{_≡_, refl, sym, ap, _∙_}
-use mathlib.Core.Bool.{Bool, true, false, _&&_, and-assoc, and-false}
+use mathlib.Core.Bool.{Bool, true, false, cond, _&&_, and-assoc, and-false}
 use mathlib.Core.List.{List, [], _∷_, _++_}
 use native.Mathlib.Omega.{arith}
 use native.Mathlib.Nat.{le-mul-of-pos-right, le-div-iff-mul-le, div-lt-iff-lt-mul}
@@ -9,7 +9,7 @@ use native.Mathlib.Numerals.{add-one}
 use lib.Dec.{eqb, leb, ltb}
 use lib.ListN.{length, getD, take, drop, length-drop, drop-of-length-le}
 use lib.Seq.{take-all, drop-cons}
-use borrow.Author.Tests.{ltb-true, ltb-false, leb-true, eqb-true, lt-ltb, le-ltb, le-leb, lt-leb, eq-eqb, ne-eqb}
+use borrow.Author.Tests.{ltb-true, ltb-false, leb-true, leb-false, eqb-true, lt-ltb, le-ltb, le-leb, lt-leb, eq-eqb, ne-eqb}
 use Rattle.scan.proofs.Every.{both, every}
 use Rattle.numerals.specs.declared.Whole.{Whole}
 use Rattle.numerals.specs.declared.Numeral.{Numeral}
@@ -105,6 +105,22 @@ module _ (radix most v : ℕ) (r : 1 ≤ radix) where
 
   pub shift-over : most / radix < v → most < v * radix
   shift-over h = div-lt-iff-lt-mul r .0 h
+
+-- one digit more, by the answer: within the largest, or past it
+module _ (n most : ℕ) where
+  pub up-to-is : (m : ℕ) → Unsigned.Is m ≡ cond (leb n most) (Unsigned.Is n) Unsigned.Nothing → (m ≡ n) × (n ≤ most)
+  up-to-is m e = by (leb n most) refl e
+    where
+      by : (t : Bool) → leb n most ≡ t → Unsigned.Is m ≡ cond t (Unsigned.Is n) Unsigned.Nothing → (m ≡ n) × (n ≤ most)
+      by true t w = (cc, leb-true n most t)
+      by false t w = let z : _≡_ {A = ℕ} 0 1 = cc in absurd (omega arith)
+
+  pub up-to-none : Unsigned.Nothing ≡ cond (leb n most) (Unsigned.Is n) Unsigned.Nothing → most < n
+  up-to-none e = by (leb n most) refl e
+    where
+      by : (t : Bool) → leb n most ≡ t → Unsigned.Nothing ≡ cond t (Unsigned.Is n) Unsigned.Nothing → most < n
+      by true t w = let z : _≡_ {A = ℕ} 0 1 = cc in absurd (omega arith)
+      by false t w = omega (arith, leb-false n most t)
 
 -- The reader of digits at i, with the value of those before: what is left decides what the whole text spells.
 pub record Going (radix most : ℕ) (s : List ℕ) (v i : ℕ) : Type 0 where

@@ -6,7 +6,9 @@ mod write;
 pub use write::decimal_width;
 pub use write::put_digits;
 ghost use mathlib.Core.Path.{_≡_};
-ghost use Prim.Native.Nat.{_≤_, _<_, _^_};
+ghost use mathlib.Core.Bool.{cond};
+ghost use Prim.Native.Nat.{_+_, _*_, _≤_, _<_, _^_};
+ghost use lib.Dec.{leb};
 ghost use lib.ListN.{length};
 ghost use Rattle.numerals.specs.Numerals.{digitOf, unsignedOf, signedBy, numeralOf};
 
@@ -27,7 +29,7 @@ pub enum Unsigned {
 }
 
 // A digit's value: the letters, capital or small, are 10 to 35. Any other byte answers 36.
-fn digit(b: u8) -> u64
+pub fn digit(b: u8) -> u64
     ensures { λ r. ⌜ r ≡ digitOf b ⌝ }
 {
     match b {
@@ -36,6 +38,29 @@ fn digit(b: u8) -> u64
         b'a'..=b'z' => (b - 87) as u64,
         _ => 36,
     }
+}
+
+// The value of one digit more, up to the largest.
+fn one_more(value: u64, radix: u64, d: u64, most: u64) -> Unsigned
+    requires { ⌜ (2 ≤ radix) × (radix ≤ 36) × (d < radix) ⌝ }
+    ensures { λ r. ⌜ r ≡ cond (leb (value * radix + d) most) (Unsigned.Is (value * radix + d)) Unsigned.Nothing ⌝ }
+{
+    // below 2^58 no product passes 64 bits, and there is nothing to divide
+    if value < 288230376151711744 {
+        let next = value * radix + d;
+        if most < next {
+            return Unsigned::Nothing;
+        }
+        return Unsigned::Is(next);
+    }
+    if most / radix < value {
+        return Unsigned::Nothing;
+    }
+    let shifted = value * radix;
+    if most - shifted < d {
+        return Unsigned::Nothing;
+    }
+    Unsigned::Is(shifted + d)
 }
 
 // The value of digits alone, up to the largest.
@@ -53,14 +78,10 @@ pub fn read_unsigned(digits: &[u8], radix: u64, most: u64) -> Unsigned
         if radix <= d {
             return Unsigned::Nothing;
         }
-        if most / radix < value {
+        let Unsigned::Is(next) = one_more(value, radix, d, most) else {
             return Unsigned::Nothing;
-        }
-        let shifted = value * radix;
-        if most - shifted < d {
-            return Unsigned::Nothing;
-        }
-        value = shifted + d;
+        };
+        value = next;
         i += 1;
     }
     Unsigned::Is(value)

@@ -222,7 +222,7 @@ fn expression(text: &[u8], ctx: TimingCtx) -> Time
 pub fn parse_ttml_time(text: &[u8], ctx: TimingCtx) -> Time
     ensures { λ r. ⌜ ReadsTime (timeIn (now (text .entry)) ctx) r ⌝ }
 {
-    let span = unicode::trim(text);
+    let span = unicode::trim(&text[0..]);
     let start = span.start;
     let end = span.end;
     if end <= start {

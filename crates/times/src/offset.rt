@@ -31,7 +31,7 @@ pub enum Time {
 pub fn read_count(text: &[u8]) -> Decimal
     ensures { λ r. ⌜ r ≡ timeDecimal (trimmed (now (text .entry))) ⌝ }
 {
-    let span = unicode::trim(text);
+    let span = unicode::trim(&text[0..]);
     let start = span.start;
     let end = span.end;
     decimals::read_decimal(&text[start..end], 15, 22)

@@ -455,3 +455,11 @@ module _ (s : List ℕ) (a e : ℕ) (w : WhiteEnd s 0 a) (z : e ≡ whiteStart s
         let x : a - a ≡ 0 = omega arith in
         rw x (trims-none s (rw (← (w .is), ← z) h));
   }
+
+-- a text that begins and ends in a visible ASCII character has none to trim
+pub trimmed-tight : (s : List ℕ) → 0 < length s → whiteAt s 0 ≡ 0 → whiteBefore s (length s) ≡ 0 → Trimmed s 0 (length s)
+unfolding whiteStart
+trimmed-tight s h a b =
+    trimmed-some s 0 (length s)
+    (record { is = sym (whiteEnd-here s 0 h a); after = omega arith; within-text = omega arith; stops = λ l. a })
+    (sym (whiteBack-here s (length s) b)) (omega arith)

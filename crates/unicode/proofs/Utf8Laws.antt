@@ -452,6 +452,19 @@ module _ (s : List ℕ) (p i a b width low high : ℕ) where
       sequenced s p r (omega arith)
       (w ∙ sym (at-row s p i (a to b) (low to high ∷ tails (width - 2)) e f g h (in-range (getD s p 0) a b k m) ∙ rw l))
 
+-- the two commonest rows, by their bytes
+module _ (s : List ℕ) (p : ℕ) where
+  pub sequence-two : p + 1 < length s → 0xC2 ≤ getD s p 0 → getD s p 0 ≤ 0xDF → 0x80 ≤ getD s (p + 1) 0 → getD s (p + 1) 0 ≤ 0xBF → Sequence s p 2
+  sequence-two h a b c d =
+      sequence-row s p 1 0xC2 0xDF 2 0x80 0xBF refl refl refl refl (omega arith) a b 2
+      (sym (followed-in s p 2 0x80 0xBF h c d ∙ rest-out s p 2 2 (omega arith)))
+
+  pub sequence-three : p + 2 < length s → 0xE1 ≤ getD s p 0 → getD s p 0 ≤ 0xEC → 0x80 ≤ getD s (p + 1) 0 → getD s (p + 1) 0 ≤ 0xBF
+      → 0x80 ≤ getD s (p + 2) 0 → getD s (p + 2) 0 ≤ 0xBF → Sequence s p 3
+  sequence-three h a b c d e f =
+      sequence-row s p 3 0xE1 0xEC 3 0x80 0xBF refl refl refl refl (omega arith) a b 3
+      (sym (followed-in s p 3 0x80 0xBF (omega arith) c d ∙ (rest-in s p 3 2 (omega arith) h e f ∙ rest-out s p 3 3 (omega arith))))
+
 pub sequence-ascii : (s : List ℕ) (p : ℕ) → p < length s → getD s p 0 ≤ 0x7F → Sequence s p 1
 sequence-ascii s p h g =
     sequenced s p 1 (omega arith)

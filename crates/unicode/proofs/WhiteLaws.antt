@@ -74,6 +74,12 @@ pub whiteAt-visible : (s : List ℕ) (p : ℕ) → p < length s → 0x20 < getD 
 unfolding charAt
 whiteAt-visible s p h l g = whiteAt-other s p 1 (sequence-ascii s p h (omega arith) .is) (isWhite-visible (getD s p 0) l g)
 
+-- a space is one
+pub whiteAt-space : (s : List ℕ) (p : ℕ) → p < length s → getD s p 0 ≡ 0x20 → whiteAt s p ≡ 1
+unfolding charAt isWhite isAmong
+whiteAt-space s p h e =
+    whiteAt-white s p 1 (sequence-ascii s p h (omega arith) .is) (λ z. omega arith) (rw e)
+
 -- it lies within the text
 pub whiteAt-within : (s : List ℕ) (p : ℕ) → p ≤ length s → p + whiteAt s p ≤ length s
 unfolding whiteAt

@@ -54,15 +54,37 @@ pub fn sequence_at(src: &[u8], pos: usize) -> usize
     }
 }
 
-// A bound of the 16 bytes from the place on: the largest of them. Its loop has no early way out, so
-// the compiler takes the 16 at once.
+// The same, by a look at the two commonest rows first; the others are given a part of the text of
+// their own, so that this one stays in registers.
+fn next_sequence(src: &[u8], pos: usize) -> usize
+    requires { ⌜ pos < length (now src) ⌝ }
+    ensures { λ r. ⌜ Sequence (now (src .entry)) pos r ⌝ }
+{
+    if 3 <= src.len() - pos {
+        let lead = src[pos];
+        let second = src[pos + 1];
+        let third = src[pos + 2];
+        if 0x80 <= second && second <= 0xBF {
+            if 0xC2 <= lead && lead <= 0xDF {
+                return 2;
+            }
+            if 0xE1 <= lead && lead <= 0xEC && 0x80 <= third && third <= 0xBF {
+                return 3;
+            }
+        }
+    }
+    sequence_at(&src[0..], pos)
+}
+
+// A bound of the 64 bytes from the place on: the largest of them. Its loop has no early way out, so
+// the compiler takes many at once.
 fn largest(src: &[u8], pos: usize) -> u8
-    requires { ⌜ pos + 16 ≤ length (now src) ⌝ }
-    ensures { λ r. ⌜ Bounded (now (src .entry)) pos (pos + 16) r ⌝ }
+    requires { ⌜ pos + 64 ≤ length (now src) ⌝ }
+    ensures { λ r. ⌜ Bounded (now (src .entry)) pos (pos + 64) r ⌝ }
 {
     let mut most = 0;
     let mut i = 0;
-    while i < 16 {
+    while i < 64 {
         let b = src[pos + i];
         if most < b {
             most = b;
@@ -72,36 +94,34 @@ fn largest(src: &[u8], pos: usize) -> u8
     most
 }
 
-// Where the blocks of 16 ASCII bytes from the place on end.
+// Where the blocks of 64 ASCII bytes from the place on end.
 fn ascii_blocks(src: &[u8], pos: usize) -> usize
     requires { ⌜ pos ≤ length (now src) ⌝ }
     ensures { λ r. ⌜ AsciiTo (now (src .entry)) pos r ⌝ }
 {
     let mut i = pos;
-    while 16 <= src.len() - i {
+    while 64 <= src.len() - i {
         if 0x7F < largest(src, i) {
             return i;
         }
-        i += 16;
+        i += 64;
     }
     i
 }
 
-// Where the ASCII bytes from the place on end.
+// A place up to which the bytes from the place on are ASCII: where they end, or after blocks, which
+// are looked at once 16 bytes have been passed. Short runs are the rule between other characters.
 fn ascii_end(src: &[u8], pos: usize) -> usize
     requires { ⌜ pos ≤ length (now src) ⌝ }
     ensures { λ r. ⌜ AsciiTo (now (src .entry)) pos r ⌝ }
 {
-    // a text in another script than Latin has few: look at one byte before a block
-    if pos < src.len() {
-        if 0x7F < src[pos] {
-            return pos;
-        }
-    }
-    let mut i = ascii_blocks(src, pos);
+    let mut i = pos;
     while i < src.len() {
         if 0x7F < src[i] {
             return i;
+        }
+        if 16 <= i - pos {
+            return ascii_blocks(src, i);
         }
         i += 1;
     }
@@ -112,13 +132,17 @@ fn ascii_end(src: &[u8], pos: usize) -> usize
 pub fn utf8_end(src: &[u8]) -> usize
     ensures { λ r. ⌜ LongestValid (now (src .entry)) r ⌝ }
 {
-    let mut i = ascii_end(src, 0);
+    let mut i = 0;
     while i < src.len() {
-        let width = sequence_at(src, i);
-        if width == 0 {
-            return i;
+        if src[i] < 0x80 {
+            i = ascii_end(src, i + 1);
+        } else {
+            let width = next_sequence(src, i);
+            if width == 0 {
+                return i;
+            }
+            i += width;
         }
-        i = ascii_end(src, i + width);
     }
     i
 }

@@ -61,15 +61,10 @@ fn is_white(c: u32) -> bool
 }
 
 // How many bytes the white-space character at the place has; 0 where none stands there.
-pub fn white_at(src: &[u8], pos: usize) -> usize
+fn any_white_at(src: &[u8], pos: usize) -> usize
     requires { ⌜ pos < length (now src) ⌝ }
     ensures { λ r. ⌜ WhiteAt (now (src .entry)) pos r ⌝ }
 {
-    // the visible ASCII characters, which are by far the commonest, are answered from their byte
-    let lead = src[pos];
-    if 0x20 < lead && lead < 0x80 {
-        return 0;
-    }
     let width = crate::utf8::sequence_at(src, pos);
     if width == 0 {
         return 0;
@@ -79,6 +74,23 @@ pub fn white_at(src: &[u8], pos: usize) -> usize
     } else {
         0
     }
+}
+
+// The same. The visible ASCII characters, which are by far the commonest, and the space are answered
+// from their byte; the others are given a part of the text of their own, so that this one stays in
+// registers.
+pub fn white_at(src: &[u8], pos: usize) -> usize
+    requires { ⌜ pos < length (now src) ⌝ }
+    ensures { λ r. ⌜ WhiteAt (now (src .entry)) pos r ⌝ }
+{
+    let lead = src[pos];
+    if 0x20 < lead && lead < 0x80 {
+        return 0;
+    }
+    if lead == 0x20 {
+        return 1;
+    }
+    any_white_at(&src[0..], pos)
 }
 
 // How many bytes the white-space character that ends at the place has; 0 where none ends there.
@@ -92,13 +104,16 @@ fn white_before(src: &[u8], end: usize) -> usize
         if 0x20 < last && last < 0x80 {
             return 0;
         }
+        if last == 0x20 {
+            return 1;
+        }
     }
     let mut k = 1;
     while k < 5 {
         if end < k {
             return 0;
         }
-        if white_at(src, end - k) == k {
+        if any_white_at(&src[0..], end - k) == k {
             return k;
         }
         k += 1;
@@ -138,7 +153,7 @@ fn white_start(src: &[u8]) -> usize
 }
 
 // The text without the white space at its two ends.
-pub fn trim(src: &[u8]) -> Span
+fn trim_white(src: &[u8]) -> Span
     ensures { λ r. ⌜ Trimmed (now (src .entry)) (r .start) (r .end) ⌝ }
 {
     let start = white_end(src, 0);
@@ -147,6 +162,21 @@ pub fn trim(src: &[u8]) -> Span
         return Span { start, end: start };
     }
     Span { start, end }
+}
+
+// The same. Most texts have a visible ASCII character at both ends.
+pub fn trim(src: &[u8]) -> Span
+    ensures { λ r. ⌜ Trimmed (now (src .entry)) (r .start) (r .end) ⌝ }
+{
+    let end = src.len();
+    if 0 < end {
+        let first = src[0];
+        let last = src[end - 1];
+        if 0x20 < first && first < 0x80 && 0x20 < last && last < 0x80 {
+            return Span { start: 0, end };
+        }
+    }
+    trim_white(src)
 }
 
 // Where the word at the place ends: before the next white space.

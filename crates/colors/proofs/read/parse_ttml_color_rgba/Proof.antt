@@ -1,10 +1,20 @@
 -- `parse_ttml_color_rgba` answers the colour that is left when white space is trimmed.
 use mathlib.Core.Path.{ap, _∙_}
+use Rattle.unicode.proofs.Trimming.{whole-part}
 use Rattle.colors.specs.Colors.{color, colorIn}
 use borrow.Author.Needs.{needs}
 use Rattle.colors.proofs.Answers.{reads-color}
 use Rattle.colors.proofs.read.parse_ttml_color_rgba.Statement.{statement}
 use Rattle.colors.proofs.read.parse_ttml_color_rgba.Tie as tie
+
+sub-trim : tie.Need-sub-trim
+sub-trim c = search needs
+
+part-trim-start : tie.Need-part-trim-start
+part-trim-start c = search needs
+
+part-trim-end : tie.Need-part-trim-end
+part-trim-end c = search needs
 
 trim-requires : tie.Need-trim-requires
 trim-requires c κs = search needs
@@ -23,12 +33,18 @@ trimmed-color-requires c κs = search needs
 
 returns : tie.Need-returns
 unfolding colorIn
-returns c = reads-color (c .trimmed-color .ensures ∙ ap color (c .before .before .trim .ensures .is))
+returns c =
+    let s = c .before .before .before .before .before .args .text .now in
+    let spans = rw (whole-part s) at (c .before .before .trim .ensures) in
+    reads-color (c .trimmed-color .ensures ∙ ap color (spans .is))
 
 pub parse-ttml-color-rgba-spec : {M : Type 1} → statement M
 parse-ttml-color-rgba-spec =
     tie.close
     (tie.spec
+    sub-trim
+    part-trim-start
+    part-trim-end
     trim-requires
     sub-trimmed-color
     part-trimmed-color-start

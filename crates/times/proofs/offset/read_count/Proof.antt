@@ -1,9 +1,19 @@
 -- The decimal of a count without the white space around it.
 use mathlib.Core.Path.{ap, _∙_}
 use borrow.Author.Needs.{needs}
+use Rattle.unicode.proofs.Trimming.{whole-part}
 use Rattle.times.specs.Expressions.{timeDecimal}
 use Rattle.times.proofs.offset.read_count.Statement.{statement}
 use Rattle.times.proofs.offset.read_count.Tie as tie
+
+sub-trim : tie.Need-sub-trim
+sub-trim c = search needs
+
+part-trim-start : tie.Need-part-trim-start
+part-trim-start c = search needs
+
+part-trim-end : tie.Need-part-trim-end
+part-trim-end c = search needs
 
 trim-requires : tie.Need-trim-requires
 trim-requires c κs = search needs
@@ -21,12 +31,18 @@ read-decimal-requires : tie.Need-read-decimal-requires
 read-decimal-requires c κs = search needs
 
 returns : tie.Need-returns
-returns c = c .read-decimal .ensures .is ∙ ap timeDecimal (c .before .before .trim .ensures .is)
+returns c =
+    let s = c .before .before .before .before .before .args .text .now in
+    let spans = rw (whole-part s) at (c .before .before .trim .ensures) in
+    c .read-decimal .ensures .is ∙ ap timeDecimal (spans .is)
 
 pub read-count-spec : {M : Type 1} → statement M
 read-count-spec =
     tie.close
     (tie.spec
+    sub-trim
+    part-trim-start
+    part-trim-end
     trim-requires
     sub-read-decimal
     part-read-decimal-start

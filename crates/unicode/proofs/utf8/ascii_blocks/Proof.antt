@@ -38,7 +38,7 @@ loop-again c =
     record {
       after = omega arith;
       within-text = omega arith;
-      ascii = bounded-join (a .before .before .args .src .now) _ (a .loop .i + 16) (a .loop .i) 0x7F (a .loop .inv .ascii) (bounded-up
+      ascii = bounded-join (a .before .before .args .src .now) _ (a .loop .i + 64) (a .loop .i) 0x7F (a .loop .inv .ascii) (bounded-up
           (a .before .before .args .src .now) (a .loop .i) _ _ _ (c .if1 .left) (c .before .largest .ensures));
     }
 

@@ -4,7 +4,7 @@ use mathlib.Core.Path.{refl}
 use native.Mathlib.Omega.{arith}
 use lib.ListN.{length}
 use Rattle.unicode.specs.Steps.{AsciiTo}
-use Rattle.unicode.proofs.Utf8Laws.{bounded-more}
+use Rattle.unicode.proofs.Utf8Laws.{bounded-more, bounded-join}
 use Rattle.unicode.proofs.utf8.ascii_end.Statement.{statement}
 use Rattle.unicode.proofs.utf8.ascii_end.Tie as tie
 
@@ -14,23 +14,30 @@ Inv-loop src pos i₀ i = AsciiTo src pos i
 abbrev μ-loop : tie.MeasureT-loop
 μ-loop src pos i₀ i = length src - i
 
-shared-slice-read-if2 : tie.Need-shared-slice-read-if2 Inv-loop μ-loop
-shared-slice-read-if2 c = omega arith
+loop-holds : tie.Need-loop-holds Inv-loop μ-loop
+loop-holds c = record { after = omega arith; within-text = omega arith; ascii = λ k l h. absurd (omega arith) }
+
+shared-slice-read-if1 : tie.Need-shared-slice-read-if1 Inv-loop μ-loop
+shared-slice-read-if1 c = omega arith
 
 returns : tie.Need-returns Inv-loop μ-loop
-returns c = record { after = omega arith; within-text = omega arith; ascii = λ k l h. absurd (omega arith) }
+returns c = c .before .before .before .loop .inv
+
+sub-if2 : tie.Need-sub-if2 Inv-loop μ-loop
+sub-if2 c = omega arith
 
 ascii-blocks-requires : tie.Need-ascii-blocks-requires Inv-loop μ-loop
 ascii-blocks-requires c κs = omega arith
 
-loop-holds : tie.Need-loop-holds Inv-loop μ-loop
-loop-holds c = c .ascii-blocks .ensures
-
-shared-slice-read-if3 : tie.Need-shared-slice-read-if3 Inv-loop μ-loop
-shared-slice-read-if3 c = omega arith
-
 returns-2 : tie.Need-returns-2 Inv-loop μ-loop
-returns-2 c = c .before .before .before .loop .inv
+returns-2 c =
+    let blocks = c .ascii-blocks .ensures in
+    let run = c .before .before .before .before .before .loop .inv in
+    record {
+      after = omega (arith, blocks .after, run .after);
+      within-text = blocks .within-text;
+      ascii = bounded-join (c .before .before .before .before .before .before .before .args .src .now) _ _ _ _ (run .ascii) (blocks .ascii);
+    }
 
 add-i : tie.Need-add-i Inv-loop μ-loop
 add-i c = omega arith
@@ -40,11 +47,11 @@ loop-less c = omega arith
 
 loop-again : tie.Need-loop-again Inv-loop μ-loop
 loop-again c =
-    let a = c .before .before .before in
+    let a = c .before .before .before .before in
     record {
       after = omega arith;
       within-text = omega arith;
-      ascii = bounded-more (a .before .before .before .before .args .src .now) _ (a .loop .i) _ _ refl (a .loop .inv .ascii) (c .if3 .left);
+      ascii = bounded-more (a .before .before .args .src .now) _ (a .loop .i) _ _ refl (a .loop .inv .ascii) (c .before .if1 .left);
     }
 
 returns-3 : tie.Need-returns-3 Inv-loop μ-loop
@@ -56,11 +63,11 @@ ascii-end-spec =
     (tie.spec
     Inv-loop
     μ-loop
-    shared-slice-read-if2
-    returns
-    ascii-blocks-requires
     loop-holds
-    shared-slice-read-if3
+    shared-slice-read-if1
+    returns
+    sub-if2
+    ascii-blocks-requires
     returns-2
     add-i
     loop-less

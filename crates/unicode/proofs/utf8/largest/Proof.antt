@@ -10,10 +10,10 @@ use Rattle.unicode.proofs.utf8.largest.Statement.{statement}
 use Rattle.unicode.proofs.utf8.largest.Tie as tie
 
 abbrev Inv-loop : tie.InvT-loop
-Inv-loop src pos most₀ i₀ most i = (i ≤ 16) × Bounded src pos (pos + i) most
+Inv-loop src pos most₀ i₀ most i = (i ≤ 64) × Bounded src pos (pos + i) most
 
 abbrev μ-loop : tie.MeasureT-loop
-μ-loop src pos most₀ i₀ most i = 16 - i
+μ-loop src pos most₀ i₀ most i = 64 - i
 
 loop-holds : tie.Need-loop-holds Inv-loop μ-loop
 loop-holds c = (omega arith, λ k l h. absurd (omega arith))

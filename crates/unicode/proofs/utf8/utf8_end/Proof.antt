@@ -4,7 +4,7 @@ use mathlib.Core.Path.{_≡_, sym, _∙_}
 use native.Mathlib.Omega.{arith}
 use lib.ListN.{length}
 use Rattle.unicode.specs.Utf8.{utf8End}
-use Rattle.unicode.proofs.Utf8Laws.{endFrom, end-start, end-here, end-on, end-out, end-run, longest-valid}
+use Rattle.unicode.proofs.Utf8Laws.{endFrom, end-start, end-here, end-on, end-out, end-run, longest-valid, sequence-ascii}
 use Rattle.unicode.proofs.utf8.utf8_end.Statement.{statement}
 use Rattle.unicode.proofs.utf8.utf8_end.Tie as tie
 
@@ -14,28 +14,17 @@ Inv-loop src i₀ i = (i ≤ length src) × (utf8End src ≡ endFrom src i)
 abbrev μ-loop : tie.MeasureT-loop
 μ-loop src i₀ i = length src - i
 
-ascii-end-requires : tie.Need-ascii-end-requires Inv-loop μ-loop
-ascii-end-requires c κs = omega arith
-
 loop-holds : tie.Need-loop-holds Inv-loop μ-loop
-loop-holds c = (c .ascii-end .ensures .within-text, end-start _ ∙ end-run (c .before .before .args .src .now) 0 _ (c .ascii-end .ensures))
+loop-holds c = (omega arith, end-start _)
 
-sequence-at-requires : tie.Need-sequence-at-requires Inv-loop μ-loop
-sequence-at-requires c κs = c .loop-test .taken
-
-returns : tie.Need-returns Inv-loop μ-loop
-returns c =
-    let c3 = c .before .before .before in
-    let a = c3 in
-    let s = a .before .before .before .args .src .now in
-    longest-valid s _ (sym (a .loop .inv .1 ∙ end-here s _ (c .before .before .loop-test .taken) (sym (c .before .sequence-at .ensures .is)
-    ∙ c .if1 .taken)))
+shared-slice-read-if1 : tie.Need-shared-slice-read-if1 Inv-loop μ-loop
+shared-slice-read-if1 c = omega arith
 
 add-ascii-end : tie.Need-add-ascii-end Inv-loop μ-loop
 add-ascii-end c = omega arith
 
-ascii-end-requires-2 : tie.Need-ascii-end-requires-2 Inv-loop μ-loop
-ascii-end-requires-2 c κs = c .before .sequence-at .ensures .within-text
+ascii-end-requires : tie.Need-ascii-end-requires Inv-loop μ-loop
+ascii-end-requires c κs = omega arith
 
 loop-less : tie.Need-loop-less Inv-loop μ-loop
 loop-less c = omega arith
@@ -43,16 +32,42 @@ loop-less c = omega arith
 loop-again : tie.Need-loop-again Inv-loop μ-loop
 loop-again c =
     let a = c .before .before .before .before in
-    let s = a .before .before .before .args .src .now in (
-      c .ascii-end2 .ensures .within-text,
+    let s = c .before .before .before .before .before .before .args .src .now in
+    let one = sequence-ascii s (a .loop .i) (c .before .before .before .loop-test .taken) (omega arith) in (
+      c .ascii-end .ensures .within-text,
       a .loop .inv .1
-          ∙ end-on s _ _ (c .before .before .before .loop-test .taken) (sym (c .before .before .sequence-at .ensures .is)) (omega arith)
-          ∙ end-run s _ _ (c .ascii-end2 .ensures),
+          ∙ end-on s _ _ (c .before .before .before .loop-test .taken) (sym (one .is)) (omega arith)
+          ∙ end-run s _ _ (c .ascii-end .ensures),
+    )
+
+next-sequence-requires : tie.Need-next-sequence-requires Inv-loop μ-loop
+next-sequence-requires c κs = omega arith
+
+returns : tie.Need-returns Inv-loop μ-loop
+returns c =
+    let a = c .before .before .before .before .before in
+    let s = c .before .before .before .before .before .before .before .args .src .now in
+    let stops = sym (c .before .next-sequence .ensures .is) ∙ c .if2 .taken in
+    longest-valid s _ (sym (a .loop .inv .1 ∙ end-here s _ (c .before .before .before .before .loop-test .taken) stops))
+
+add-i : tie.Need-add-i Inv-loop μ-loop
+add-i c = omega arith
+
+loop-less-2 : tie.Need-loop-less-2 Inv-loop μ-loop
+loop-less-2 c = omega arith
+
+loop-again-2 : tie.Need-loop-again-2 Inv-loop μ-loop
+loop-again-2 c =
+    let a = c .before .before .before .before .before in
+    let s = c .before .before .before .before .before .before .before .args .src .now in (
+      c .before .next-sequence .ensures .within-text,
+      a .loop .inv .1
+          ∙ end-on s _ _ (c .before .before .before .before .loop-test .taken) (sym (c .before .next-sequence .ensures .is)) (omega arith),
     )
 
 returns-2 : tie.Need-returns-2 Inv-loop μ-loop
 returns-2 c =
-    let s = c .before .before .before .before .args .src .now in
+    let s = c .before .before .before .args .src .now in
     longest-valid s _ (sym (c .before .loop .inv .1 ∙ end-out s _ (c .loop-test .left)))
 
 pub utf8-end-spec : {M : Type 1} → statement M
@@ -61,12 +76,15 @@ utf8-end-spec =
     (tie.spec
     Inv-loop
     μ-loop
-    ascii-end-requires
     loop-holds
-    sequence-at-requires
-    returns
+    shared-slice-read-if1
     add-ascii-end
-    ascii-end-requires-2
+    ascii-end-requires
     loop-less
     loop-again
+    next-sequence-requires
+    returns
+    add-i
+    loop-less-2
+    loop-again-2
     returns-2)

@@ -1,25 +1,40 @@
--- `trim` answers the part that is left when white space is trimmed, which is empty where the two ends meet.
+-- `trim` answers the whole text where visible ASCII stands at its two ends, and elsewhere what `trim_white` answers.
 use native.Mathlib.Omega.{arith}
-use Rattle.unicode.proofs.Trimming.{trimmed-some, trimmed-empty}
 use borrow.Author.Needs.{needs}
+use Rattle.unicode.proofs.WhiteLaws.{whiteAt-visible}
+use Rattle.unicode.proofs.Trimming.{before-visible, trimmed-tight}
 use Rattle.unicode.proofs.white.trim.Statement.{statement}
 use Rattle.unicode.proofs.white.trim.Tie as tie
 
-white-end-requires : tie.Need-white-end-requires
-white-end-requires c κs = search needs
+shared-slice-read-first : tie.Need-shared-slice-read-first
+shared-slice-read-first c = search needs
 
-white-start-requires : tie.Need-white-start-requires
-white-start-requires c κs = search needs
+sub-last : tie.Need-sub-last
+sub-last c = search needs
+
+shared-slice-read-last : tie.Need-shared-slice-read-last
+shared-slice-read-last c = search needs
 
 returns : tie.Need-returns
 returns c =
-    let c4 = c .before .before .before .before in
-    trimmed-empty (c4 .args .src .now) _ _ (c .before .before .white-end .ensures) (c .before .white-start .ensures .0) (omega arith)
+    let s = c .before .before .before .before .before .before .before .before .args .src .now in
+    let some = c .before .before .before .before .before .before .if1 .taken in
+    trimmed-tight s some (whiteAt-visible s 0 some (search needs) (search needs))
+    (before-visible s _ some (omega arith) (search needs) (search needs))
+
+trim-white-requires : tie.Need-trim-white-requires
+trim-white-requires c κs = search needs
 
 returns-2 : tie.Need-returns-2
-returns-2 c =
-    let c4 = c .before .before .before .before in
-    trimmed-some (c4 .args .src .now) _ _ (c .before .before .white-end .ensures) (c .before .white-start .ensures .0) (omega arith)
+returns-2 c = c .trim-white .ensures
 
 pub trim-spec : {M : Type 1} → statement M
-trim-spec = tie.close (tie.spec white-end-requires white-start-requires returns returns-2)
+trim-spec =
+    tie.close
+    (tie.spec
+    shared-slice-read-first
+    sub-last
+    shared-slice-read-last
+    returns
+    trim-white-requires
+    returns-2)

@@ -1,7 +1,7 @@
--- `white_at` answers the width of the white-space character at the place, from the sequence there and its code point; a visible ASCII byte is none.
-use mathlib.Core.Path.{sym, ap, _∙_}
-use Rattle.unicode.specs.WhiteSpace.{isWhite}
-use Rattle.unicode.proofs.WhiteLaws.{whiteAt-none, whiteAt-other, whiteAt-white, whiteAt-visible}
+-- `white_at` answers the width of the white-space character at the place: from the byte where that is visible ASCII or the space.
+use mathlib.Core.Path.{sym}
+use Rattle.unicode.proofs.WhiteLaws.{whiteAt-visible, whiteAt-space}
+use Rattle.unicode.proofs.Trimming.{whole-part}
 use borrow.Author.Needs.{needs}
 use Rattle.unicode.proofs.white.white_at.Statement.{statement}
 use Rattle.unicode.proofs.white.white_at.Tie as tie
@@ -14,36 +14,26 @@ returns c =
     let a = c .before .before .before .before in
     record { is = sym (whiteAt-visible (a .args .src .now) (a .args .pos) (a .pre) (search needs) (search needs)); within-text = search needs }
 
-sequence-at-requires : tie.Need-sequence-at-requires
-sequence-at-requires c κs = search needs
-
 returns-2 : tie.Need-returns-2
 returns-2 c =
-    let a = c .before .before .before .before .before in
-    record { is = sym (whiteAt-none (a .args .src .now) _ _ (c .before .sequence-at .ensures .is) (c .if3 .taken)); within-text = search needs }
+    let a = c .before .before .before .before in
+    record { is = sym (whiteAt-space (a .args .src .now) (a .args .pos) (a .pre) (c .if3 .taken)); within-text = search needs }
 
-char-at-requires : tie.Need-char-at-requires
-char-at-requires c κs = search needs
+sub-any-white-at : tie.Need-sub-any-white-at
+sub-any-white-at c = search needs
 
-is-white-requires : tie.Need-is-white-requires
-is-white-requires c κs = search needs
+part-any-white-at-start : tie.Need-part-any-white-at-start
+part-any-white-at-start c = search needs
+
+part-any-white-at-end : tie.Need-part-any-white-at-end
+part-any-white-at-end c = search needs
+
+any-white-at-requires : tie.Need-any-white-at-requires
+any-white-at-requires c κs = search needs
 
 returns-3 : tie.Need-returns-3
 returns-3 c =
-    let b = c .before .before .before .before in
-    let a = b .before .before .before .before in
-    let white = ap isWhite (sym (c .before .before .char-at .ensures)) ∙ (sym (c .before .is-white .ensures) ∙ c .if4 .taken) in
-    record {
-      is = sym (whiteAt-white (a .args .src .now) _ _ (b .sequence-at .ensures .is) (c .before .before .before .if3 .left) white);
-      within-text = search needs;
-    }
-
-returns-4 : tie.Need-returns-4
-returns-4 c =
-    let b = c .before .before .before .before in
-    let a = b .before .before .before .before in
-    let other = ap isWhite (sym (c .before .before .char-at .ensures)) ∙ (sym (c .before .is-white .ensures) ∙ c .if4 .left) in
-    record { is = sym (whiteAt-other (a .args .src .now) _ _ (b .sequence-at .ensures .is) other); within-text = search needs }
+    rw (whole-part (c .before .before .before .before .before .before .args .src .now)) at (c .any-white-at .ensures)
 
 pub white-at-spec : {M : Type 1} → statement M
 white-at-spec =
@@ -51,9 +41,9 @@ white-at-spec =
     (tie.spec
     shared-slice-read-lead
     returns
-    sequence-at-requires
     returns-2
-    char-at-requires
-    is-white-requires
-    returns-3
-    returns-4)
+    sub-any-white-at
+    part-any-white-at-start
+    part-any-white-at-end
+    any-white-at-requires
+    returns-3)
