@@ -6,9 +6,9 @@
 --     run-ind                        what each byte that passes keeps holds where the run ends
 --     runTurn, run-loop              a run as a loop
 --     run-low, run-high, run-stops, run-all   what follows for every run
---     passes-more, run-over, skips-more   bytes that all pass are passed over at once
+--     passes-more, run-over, skips-one, skips-more   bytes that all pass are passed over at once
 --     run-length                     a run as the length of a beginning
---     ends-here, ends-out            what a loop over bytes ensures where it ends
+--     ends-here, ends-out, ends-skipped, ends-on   what a loop over bytes ensures where it ends
 use Prim.Native.Nat.{ℕ, zero, suc, _+_, _-_, _≤_, _<_}
 use mathlib.Core.Path.{_≡_, refl, sym, subst⁻¹, _∙_}
 use mathlib.Core.Bool.{Bool, true, false, cond}
@@ -185,6 +185,9 @@ run-over t s zero i e w h b = let z : e ≡ i = omega arith in rw z
 run-over t s (suc n) i e w h b =
     run-on t s i (omega arith) (b i (omega arith) (omega arith)) ∙ run-over t s n (i + 1) e (omega arith) h (λ k l q. b k (omega arith) q)
 
+pub skips-one : (t : ℕ → Bool) (s : List ℕ) (p i e : ℕ) → e ≡ i + 1 → i < length s → Skips t s p i → t (getD s i 0) ≡ true → Skips t s p e
+skips-one t s p i e w h k g = record { after = omega (arith, k .after); within = omega arith; same = k .same ∙ rw w (run-on t s i h g) }
+
 pub skips-more : (t : ℕ → Bool) (s : List ℕ) (p i e : ℕ) → i ≤ e → e ≤ length s → Skips t s p i → Passes t s i e → Skips t s p e
 skips-more t s p i e l h k b = record { after = omega (arith, k .after); within = h; same = k .same ∙ run-over t s (e - i) i e (omega arith) h b }
 
@@ -195,3 +198,10 @@ module _ (t : ℕ → Bool) (s : List ℕ) (p i : ℕ) (l : p ≤ i) (w : runEnd
 
   pub ends-out : i ≤ length s → length s ≤ i → Ends t s p i
   ends-out g h = record { is = sym (w ∙ run-out t s i h); after = l; within = g; stops = λ k. absurd (omega arith) }
+
+module _ (t : ℕ → Bool) (s : List ℕ) (p i : ℕ) (k : Skips t s p i) where
+  pub ends-skipped : i < length s → t (getD s i 0) ≡ false → Ends t s p i
+  ends-skipped = ends-here t s p i (k .after) (k .same)
+
+  pub ends-on : (r : ℕ) → Ends t s i r → Ends t s p r
+  ends-on r e = record { is = e .is ∙ sym (k .same); after = omega (arith, k .after, e .after); within = e .within; stops = e .stops }

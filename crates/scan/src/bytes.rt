@@ -96,8 +96,32 @@ fn over_each(src: &[u8], pos: usize, class: Class) -> usize
     i
 }
 
-// The first place of the byte, or the length.
+// The first place of the byte, or the length. Four tests to a turn: a value ends within two or three turns as a rule.
 pub fn find_byte(src: &[u8], pos: usize, b: u8) -> usize
+    requires { ⌜ pos ≤ length (now src) ⌝ }
+    ensures { λ r. ⌜ Ends (other b) (now (src .entry)) pos r ⌝ }
+{
+    let mut i = pos;
+    while 4 <= src.len() - i {
+        if src[i] == b {
+            return i;
+        }
+        if src[i + 1] == b {
+            return i + 1;
+        }
+        if src[i + 2] == b {
+            return i + 2;
+        }
+        if src[i + 3] == b {
+            return i + 3;
+        }
+        i += 4;
+    }
+    find_each(src, i, b)
+}
+
+// The same byte by byte: for the end of the text.
+fn find_each(src: &[u8], pos: usize, b: u8) -> usize
     requires { ⌜ pos ≤ length (now src) ⌝ }
     ensures { λ r. ⌜ Ends (other b) (now (src .entry)) pos r ⌝ }
 {

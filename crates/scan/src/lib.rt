@@ -9,6 +9,7 @@ mod table;
 
 pub use bytes::Class;
 pub use bytes::find_byte;
+pub use bytes::find_far;
 pub use bytes::is_of;
 pub use bytes::over;
 pub use marks::find_past;
