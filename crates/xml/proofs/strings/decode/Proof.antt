@@ -1,4 +1,5 @@
 -- `decode` meets its contract: a part without `&` is as it is with its entities read.
+use native.Mathlib.Omega.{arith}
 use Rattle.xml.proofs.PassLaws.{decoded-part}
 use borrow.Author.Needs.{needs}
 use Rattle.xml.proofs.strings.decode.Statement.{statement}
@@ -21,11 +22,9 @@ same-length c = search needs
 
 returns : tie.Need-returns
 returns c =
-    let c5 = c .before .before .before .before .before in
-    let c7 = c5 .before .before in
-    let c11 = c7 .before .before .before .before in
-    rw (decoded-part (c11 .args .src .now) (c11 .args .p .from) (c11 .args .p .end) (c11 .args .start) (c11 .args .stop) (c11 .pre .3)
-    (c7 .if1 .taken) (c5 .if2 .taken) (c11 .pre .1)) (c .before .before .copy .ensures)
+    let d = c .before .before .before .before .before .before .before .before .before .before .before in
+    rw (decoded-part (d .args .src .now) (d .args .p .from) (d .args .p .end) (d .args .start) (d .args .stop) (d .pre .3) (omega arith) (omega arith)
+    (d .pre .1)) (c .before .before .copy .ensures)
 
 sub-decode-entities : tie.Need-sub-decode-entities
 sub-decode-entities c = search needs
