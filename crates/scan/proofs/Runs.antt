@@ -1,27 +1,28 @@
 -- Laws of classes of bytes and of runs of them. Assumes nothing.
 --     blank-not, name-yes, attr-name-yes, digit-yes, digit-below, digit-above, either   what the tests of a byte show of its class
+--     between, blank-space, text-high, name-high, attr-name-high, digit-within   what a range shows of it
 --     length-out, length-stop, length-on, length-within   how many bytes a text begins with
 --     run-here, run-on, run-out      where a run ends, by the byte at its place
 --     upward                         from the places past a length down
 --     run-ind                        what each byte that passes keeps holds where the run ends
 --     runTurn, run-loop              a run as a loop
 --     run-low, run-high, run-stops, run-all   what follows for every run
---     passes-more, run-over, skips-more   bytes that all pass are passed over at once
+--     passes-as, passes-more, run-over, skips-one, skips-more   bytes that all pass are passed over at once
 --     run-length                     a run as the length of a beginning
---     ends-here, ends-out            what a loop over bytes ensures where it ends
+--     ends-here, ends-out, ends-skipped, ends-on   what a loop over bytes ensures where it ends
 use Prim.Native.Nat.{ℕ, zero, suc, _+_, _-_, _≤_, _<_}
 use mathlib.Core.Path.{_≡_, refl, sym, subst⁻¹, _∙_}
-use mathlib.Core.Bool.{Bool, true, false, cond}
+use mathlib.Core.Bool.{Bool, true, false, cond, _&&_, true≢false}
 use mathlib.Core.List.{List, [], _∷_}
 use mathlib.Core.Logic.{_⊎_, inl, inr}
 use native.Mathlib.Omega.{arith}
 use native.Mathlib.Numerals.{add-one}
 use lib.ListN.{length, getD, drop, drop-of-length-le}
 use lib.Seq.{drop-cons}
-use lib.Dec.{eqb, ltb}
-use borrow.Author.Tests.{eqb-true, eqb-false, ne-eqb, le-leb, lt-leb, ltb-true, ltb-false}
+use lib.Dec.{eqb, ltb, leb}
+use borrow.Author.Tests.{eqb-true, eqb-false, ne-eqb, le-leb, lt-leb, leb-true, ltb-true, ltb-false}
 use Rattle.scan.specs.Loop.{Next, halt, more, loop}
-use Rattle.scan.specs.Bytes.{blank, nameByte, attrNameByte, digitByte, runEnd, runLength}
+use Rattle.scan.specs.Bytes.{blank, textByte, nameByte, attrNameByte, digitByte, runEnd, runLength}
 use Rattle.scan.specs.Posts.{Ends, Passes, Skips}
 use Rattle.scan.proofs.Loop.{loop-out, loop-halt, loop-more}
 
@@ -57,6 +58,40 @@ either b k h l = by (eqb b k) refl
     by : (t : Bool) → eqb b k ≡ t → (b ≡ k) ⊎ (b ≡ k + 1)
     by true e = inl (eqb-true b k e)
     by false e = let n : b ≡ k → ⊥ = eqb-false b k e in inr (omega arith)
+
+-- what a range shows
+pub between : (l h b : ℕ) → leb l b && leb b h ≡ true → (l ≤ b) × (b ≤ h)
+between l h b e = by (leb l b) refl (leb b h) refl
+  where
+    by : (x : Bool) → leb l b ≡ x → (y : Bool) → leb b h ≡ y → (l ≤ b) × (b ≤ h)
+    by true f true g = (leb-true l b f, leb-true b h g)
+    by true f false g = absurd (true≢false (sym e ∙ rw (f, g)))
+    by false f y g = absurd (true≢false (sym e ∙ rw f))
+
+pub blank-space : (b : ℕ) → leb 32 b && leb b 32 ≡ true → blank b ≡ true
+unfolding blank
+blank-space b e = let w = between 32 32 b e in let z : b ≡ 32 = omega (arith, w .0, w .1) in rw z
+
+module _ (b : ℕ) (e : leb 63 b && leb b 255 ≡ true) where
+  high : 63 ≤ b
+  high = between 63 255 b e .0
+
+  blank-high : blank b ≡ false
+  blank-high = blank-not b (λ z. omega (arith, high)) (λ z. omega (arith, high)) (λ z. omega (arith, high)) (λ z. omega (arith, high))
+
+  pub text-high : textByte b ≡ true
+  unfolding textByte
+  text-high = rw (ne-eqb b 60 (λ z. omega (arith, high)))
+
+  pub name-high : nameByte b ≡ true
+  name-high = name-yes b blank-high (λ z. omega (arith, high)) (λ z. omega (arith, high))
+
+  pub attr-name-high : attrNameByte b ≡ true
+  attr-name-high = attr-name-yes b blank-high (λ z. omega (arith, high)) (λ z. omega (arith, high)) (λ z. omega (arith, high))
+
+pub digit-within : (b : ℕ) → leb 48 b && leb b 57 ≡ true → digitByte b ≡ true
+unfolding digitByte
+digit-within b e = e
 
 -- ---- the bytes that a text begins with
 module _ (t : ℕ → Bool) (s : List ℕ) (i : ℕ) where
@@ -173,6 +208,9 @@ unfolding runEnd
 run-length t s p l = refl
 
 -- ---- blocks of bytes that pass
+pub passes-as : (t u : ℕ → Bool) (s : List ℕ) (p e : ℕ) → ((b : ℕ) → t b ≡ true → u b ≡ true) → Passes t s p e → Passes u s p e
+passes-as t u s p e f w k l h = f (getD s k 0) (w k l h)
+
 pub passes-more : (t : ℕ → Bool) (s : List ℕ) (p e e′ : ℕ) → e′ ≡ e + 1 → Passes t s p e → t (getD s e 0) ≡ true → Passes t s p e′
 passes-more t s p e e′ w b g k l h = by (eqb k e) refl
   where
@@ -185,6 +223,9 @@ run-over t s zero i e w h b = let z : e ≡ i = omega arith in rw z
 run-over t s (suc n) i e w h b =
     run-on t s i (omega arith) (b i (omega arith) (omega arith)) ∙ run-over t s n (i + 1) e (omega arith) h (λ k l q. b k (omega arith) q)
 
+pub skips-one : (t : ℕ → Bool) (s : List ℕ) (p i e : ℕ) → e ≡ i + 1 → i < length s → Skips t s p i → t (getD s i 0) ≡ true → Skips t s p e
+skips-one t s p i e w h k g = record { after = omega (arith, k .after); within = omega arith; same = k .same ∙ rw w (run-on t s i h g) }
+
 pub skips-more : (t : ℕ → Bool) (s : List ℕ) (p i e : ℕ) → i ≤ e → e ≤ length s → Skips t s p i → Passes t s i e → Skips t s p e
 skips-more t s p i e l h k b = record { after = omega (arith, k .after); within = h; same = k .same ∙ run-over t s (e - i) i e (omega arith) h b }
 
@@ -195,3 +236,10 @@ module _ (t : ℕ → Bool) (s : List ℕ) (p i : ℕ) (l : p ≤ i) (w : runEnd
 
   pub ends-out : i ≤ length s → length s ≤ i → Ends t s p i
   ends-out g h = record { is = sym (w ∙ run-out t s i h); after = l; within = g; stops = λ k. absurd (omega arith) }
+
+module _ (t : ℕ → Bool) (s : List ℕ) (p i : ℕ) (k : Skips t s p i) where
+  pub ends-skipped : i < length s → t (getD s i 0) ≡ false → Ends t s p i
+  ends-skipped = ends-here t s p i (k .after) (k .same)
+
+  pub ends-on : (r : ℕ) → Ends t s i r → Ends t s p r
+  ends-on r e = record { is = e .is ∙ sym (k .same); after = omega (arith, k .after, e .after); within = e .within; stops = e .stops }

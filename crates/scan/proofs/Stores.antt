@@ -1,21 +1,23 @@
 -- Laws of lent tables. Assumes nothing.
 --     sets-append, set-sets, sets-before, sets-on      runs of stores, one after the other and one before the other
+--     sets-over, sets-halves                           runs that overlap
+--     sets-none, sets-one, sets-two, sets-three        runs of up to three cells
 --     sets-part, sets-other                            a run read back
 --     Cleared, cleared-none, cleared-more, cleared-all a loop that clears
 --     Copied, copied-none, copied-more, copied-all     a loop that copies
 --     appended-kept, appended-on                       pieces written one after the other
 --     wrote-number   the number and the values of the answer
 --     begun-kept, begun-on, begun-first, begun-none, in-part, wrote-on, wrote-full   the same where there was no room for all
-use Prim.Native.Nat.{ℕ, zero, suc, _+_, _≤_, _<_}
+use Prim.Native.Nat.{ℕ, zero, suc, _+_, _-_, _≤_, _<_}
 use mathlib.Core.Path.{_≡_, refl, sym, ap, _∙_}
 use mathlib.Core.List.{List, [], _∷_, _++_, append-nil, append-assoc}
 use mathlib.Core.Logic.{_⊎_, inl, inr, _↔_}
 use native.Mathlib.Omega.{arith}
 use native.Mathlib.Nat.{add-zero, add-suc, suc-add}
-use native.Mathlib.Numerals.{add-one}
-use lib.ListN.{length, getD, set, take, drop, replicate, length-set, length-append, drop-of-length-le}
+use native.Mathlib.Numerals.{add-one, add-two}
+use lib.ListN.{length, getD, set, take, drop, replicate, length-set, length-append, length-drop, take-append-drop, drop-of-length-le}
 use lib.Seq.{sets, set-comm, sets-eq, length-sets, length-take-le, take-suc, take-length, take-append-seam, take-append-le, take-append-add, drop-at}
-use lib.Seq.{getD-set-other}
+use lib.Seq.{getD-set-other, set-set}
 use Rattle.scan.specs.declared.table.Written.{Written}
 use Rattle.scan.specs.declared.table.Written.the-variants.{At, Full}
 use Rattle.scan.specs.Posts.{writtenNumber, writtenValues, Appended, Wrote, Begun, WroteInPart}
@@ -40,6 +42,61 @@ sets-before (x ∷ a) b t i =
 -- the same, of lists that are known by equations
 pub sets-on : (a b t t′ t″ : List ℕ) (i j : ℕ) → t′ ≡ sets t i a → t″ ≡ sets t′ j b → j ≡ i + length a → t″ ≡ sets t i (a ++ b)
 sets-on a b t t′ t″ i j e f w = f ∙ rw (w, e) (sets-append a b t i)
+
+-- a run over a shorter one
+pub sets-over : (a b t : List ℕ) (i : ℕ) → length a ≤ length b → sets (sets t i a) i b ≡ sets t i b
+sets-over [] b t i h = refl
+sets-over (x ∷ a) [] t i h = absurd (omega arith)
+sets-over (x ∷ a) (y ∷ b) t i h =
+    ap (λ (l : List ℕ). sets l (suc i) b) (set-sets a (set t i x) i (suc i) y (omega arith) ∙ rw (set-set t i x y))
+    ∙ sets-over a b (set t i y) (suc i) (omega arith)
+
+-- a run after one whose end it covers
+sets-lap : (a b t : List ℕ) (i k : ℕ) → k ≤ length b → sets (sets t i (a ++ take k b)) (i + length a) b ≡ sets t i (a ++ b)
+sets-lap a b t i k h =
+    let l : length (take k b) ≤ length b = omega (arith, length-take-le k b h) in
+    ap (λ (v : List ℕ). sets v (i + length a) b) (sym (sets-append a (take k b) t i))
+    ∙ sets-over (take k b) b (sets t i a) (i + length a) l
+    ∙ sets-append a b t i
+
+-- the first h cells of a run and its last h, which are all of it
+pub sets-halves : (w t t′ t″ : List ℕ) (i h r : ℕ) → h ≤ length w → length w ≤ h + h → r ≡ length w - h
+    → t′ ≡ sets t i (take h w) → t″ ≡ sets t′ (i + r) (take (length w - r) (drop r w)) → t″ ≡ sets t i w
+sets-halves w t t′ t″ i h r l m q f g =
+    let n : length (take r w) ≡ r = length-take-le r w (omega arith) in
+    let j : h ≡ length (take r w) + (h - r) = omega (arith, n) in
+    let e : take h w ≡ take r w ++ take (h - r) (drop r w) =
+        ap (λ (v : List ℕ). take h v) (sym (take-append-drop r w)) ∙ ap (λ (k : ℕ). take k (take r w ++ drop r w)) j
+        ∙ take-append-add (take r w) (drop r w) (h - r) in
+    g ∙ ap (λ (v : List ℕ). sets t′ (i + r) v) (ap (λ (k : ℕ). take k (drop r w)) (sym (length-drop r w)) ∙ take-length (drop r w))
+    ∙ ap (λ (v : List ℕ). sets v (i + r) (drop r w)) (f ∙ ap (λ (v : List ℕ). sets t i v) e)
+    ∙ ap (λ (k : ℕ). sets (sets t i (take r w ++ take (h - r) (drop r w))) (i + k) (drop r w)) (sym n)
+    ∙ sets-lap (take r w) (drop r w) t i (h - r) (omega (arith, length-drop r w))
+    ∙ ap (λ (v : List ℕ). sets t i v) (take-append-drop r w)
+
+-- ---- runs of up to three cells
+module _ (t : List ℕ) (a : ℕ) where
+  pub sets-none : (w : List ℕ) → length w ≡ 0 → t ≡ sets t a w
+  sets-none [] e = refl
+  sets-none (x ∷ w) e = absurd (omega arith)
+
+  pub sets-one : (w : List ℕ) → length w ≡ 1 → set t a (getD w 0 0) ≡ sets t a w
+  sets-one [] e = absurd (omega arith)
+  sets-one (x ∷ []) e = refl
+  sets-one (x ∷ y ∷ w) e = absurd (omega arith)
+
+  pub sets-two : (w : List ℕ) → length w ≡ 2 → set (set t a (getD w 0 0)) (a + 1) (getD w 1 0) ≡ sets t a w
+  sets-two [] e = absurd (omega arith)
+  sets-two (x ∷ []) e = absurd (omega arith)
+  sets-two (x ∷ y ∷ []) e = rw (add-one a)
+  sets-two (x ∷ y ∷ z ∷ w) e = absurd (omega arith)
+
+  pub sets-three : (w : List ℕ) → length w ≡ 3 → set (set (set t a (getD w 0 0)) (a + 1) (getD w 1 0)) (a + 2) (getD w 2 0) ≡ sets t a w
+  sets-three [] e = absurd (omega arith)
+  sets-three (x ∷ []) e = absurd (omega arith)
+  sets-three (x ∷ y ∷ []) e = absurd (omega arith)
+  sets-three (x ∷ y ∷ z ∷ []) e = rw (add-one a, add-two a)
+  sets-three (x ∷ y ∷ z ∷ v ∷ w) e = absurd (omega arith)
 
 -- ---- a run read back
 -- what was stored

@@ -9,8 +9,11 @@ mod table;
 
 pub use bytes::Class;
 pub use bytes::find_byte;
+pub use bytes::find_far;
 pub use bytes::is_of;
 pub use bytes::over;
+pub use bytes::over_far;
+pub use bytes::over_long;
 pub use marks::find_past;
 pub use marks::find_seq;
 pub use marks::starts_with;

@@ -73,7 +73,80 @@ pub fn get(cells: &[u32], at: usize) -> usize
     cells[at] as usize
 }
 
-// The piece written at a place, if it fits.
+// The piece written at a place, byte by byte.
+fn copy_each(piece: &[u8], out: &mut [u8], at: usize)
+    requires { ⌜ at + length (now piece) ≤ length (now out) ⌝ }
+    ensures { λ _. ⌜ now (out .exit) ≡ sets (now (out .entry)) at (now (piece .entry)) ⌝ }
+{
+    let mut i = 0;
+    while i < piece.len() {
+        out[at + i] = piece[i];
+        i += 1;
+    }
+}
+
+// The same of up to three bytes.
+fn copy_few(piece: &[u8], out: &mut [u8], at: usize)
+    requires { ⌜ (at + length (now piece) ≤ length (now out)) × (length (now piece) < 4) ⌝ }
+    ensures { λ _. ⌜ now (out .exit) ≡ sets (now (out .entry)) at (now (piece .entry)) ⌝ }
+{
+    let n = piece.len();
+    if n == 0 {
+        return;
+    }
+    out[at] = piece[0];
+    if n == 1 {
+        return;
+    }
+    out[at + 1] = piece[1];
+    if n == 2 {
+        return;
+    }
+    out[at + 2] = piece[2];
+}
+
+// The same of `half` bytes to twice as many: the first `half` and the last, which may overlap. The compiler copies a part of a known
+// length at once.
+fn copy_halves(piece: &[u8], half: usize, out: &mut [u8], at: usize)
+    requires { ⌜ (half ≤ length (now piece)) × (length (now piece) ≤ half + half) × (at + length (now piece) ≤ length (now out)) ⌝ }
+    ensures { λ _. ⌜ now (out .exit) ≡ sets (now (out .entry)) at (now (piece .entry)) ⌝ }
+{
+    let rest = piece.len() - half;
+    copy_each(&piece[..half], out, at);
+    copy_each(&piece[rest..], out, at + rest);
+}
+
+// The same of any piece. It is short as a rule: a loop, or a call of one, would cost more than what it copies.
+fn store(piece: &[u8], out: &mut [u8], at: usize)
+    requires { ⌜ at + length (now piece) ≤ length (now out) ⌝ }
+    ensures { λ _. ⌜ now (out .exit) ≡ sets (now (out .entry)) at (now (piece .entry)) ⌝ }
+{
+    let n = piece.len();
+    if n < 4 {
+        copy_few(piece, out, at);
+        return;
+    }
+    if n <= 8 {
+        copy_halves(piece, 4, out, at);
+        return;
+    }
+    if n <= 16 {
+        copy_halves(piece, 8, out, at);
+        return;
+    }
+    copy_each(piece, out, at);
+}
+
+// The piece written at a place where it fits; the answer is the place after it.
+pub fn copy(piece: &[u8], out: &mut [u8], at: usize) -> usize
+    requires { ⌜ at + length (now piece) ≤ length (now out) ⌝ }
+    ensures { λ r. ⌜ Appended (now (piece .entry)) at (now (out .entry)) (now (out .exit)) r ⌝ }
+{
+    store(piece, out, at);
+    at + piece.len()
+}
+
+// The same, if it fits.
 pub fn append(out: &mut [u8], at: usize, piece: &[u8]) -> Written
     requires { ⌜ at ≤ length (now out) ⌝ }
     ensures { λ r. ⌜ Wrote (now (piece .entry)) at (now (out .entry)) (now (out .exit)) r ⌝ }
@@ -81,21 +154,5 @@ pub fn append(out: &mut [u8], at: usize, piece: &[u8]) -> Written
     if out.len() - at < piece.len() {
         return Written::Full;
     }
-    let mut i = 0;
-    while i < piece.len() {
-        out[at + i] = piece[i];
-        i += 1;
-    }
-    Written::At(at + i)
-}
-
-// The same where it fits.
-pub fn copy(piece: &[u8], out: &mut [u8], at: usize) -> usize
-    requires { ⌜ at + length (now piece) ≤ length (now out) ⌝ }
-    ensures { λ r. ⌜ Appended (now (piece .entry)) at (now (out .entry)) (now (out .exit)) r ⌝ }
-{
-    match append(out, at, piece) {
-        Written::At(next) => next,
-        Written::Full => at,
-    }
+    Written::At(copy(piece, out, at))
 }

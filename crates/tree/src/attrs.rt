@@ -137,6 +137,6 @@ pub fn parse_start(src: &[u8], attrs: &mut [u32], pos: usize, e: usize, count: u
             place: pos,
         });
     }
-    let from = scan::over(src, e, Class::Blank);
+    let from = scan::over_long(src, e, Class::Blank);
     parse_tag(src, attrs, from, count)
 }

@@ -154,7 +154,7 @@ fn parse_element(
         });
     }
     let start = pos + 1;
-    let e = scan::over(src, start, Class::Name);
+    let e = scan::over_long(src, start, Class::Name);
     match crate::attrs::parse_start(src, attrs, pos, e, a) {
         Tag::Refused(r) => Step::Refused(r),
         Tag::Shut(t) => {

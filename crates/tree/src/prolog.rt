@@ -12,7 +12,7 @@ pub fn over_blanks(src: &[u8], pos: usize) -> usize
     requires { ⌜ pos ≤ length (now src) ⌝ }
     ensures { λ r. ⌜ Ends blank (now (src .entry)) pos r ⌝ }
 {
-    scan::over(src, pos, Class::Blank)
+    scan::over_far(src, pos, Class::Blank)
 }
 
 // The place after the prolog at a position, where no blank stands.

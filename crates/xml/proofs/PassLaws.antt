@@ -1,29 +1,57 @@
 -- Laws of the two passes over the rows. Assumes nothing.
---     place-element, place-other, wrote-text, wrote-other   a node's row, as the program reads it
+--     place-element, place-other, wrote-text, wrote-other, node-within   a node's row, as the program reads it
+--     ends-passes, decoded-part                             a part of the text without `&`
 --     string-short, node-short, value-short                 what is written is no longer than what stands in the text
 --     nodes-room, node-strings-room, nodes-after, nodes-ready, nodes-next, node-strings-next           the pass over nodes
 --     value-long, attr-wrote, attrs-room, attr-strings-room, attrs-after, attrs-ready, attrs-next, attr-strings-next           the pass over
 -- attributes
-use Prim.Native.Nat.{ℕ, zero, suc, _+_, _-_, _*_, _≤_}
-use mathlib.Core.Path.{_≡_, refl, ap, _∙_}
-use mathlib.Core.Bool.{Bool, true, false}
+use Prim.Native.Nat.{ℕ, zero, suc, _+_, _-_, _*_, _≤_, _<_}
+use mathlib.Core.Path.{_≡_, refl, sym, ap, _∙_}
+use mathlib.Core.Bool.{Bool, true, false, cond}
 use mathlib.Core.List.{List, [], _∷_}
 use native.Mathlib.Omega.{arith}
-use lib.ListN.{length, getD, take, drop, length-take}
-use lib.Seq.{sets, length-sets}
+use lib.ListN.{length, getD, take, drop, length-take, length-drop}
+use lib.Seq.{sets, length-sets, length-take-le, getD-take, getD-drop}
 use lib.Dec.{eqb}
-use borrow.Author.Tests.{ne-eqb}
+use borrow.Author.Tests.{ne-eqb, eqb-false, not-true}
 use mathlib.Core.Logic.{inr}
 use native.Mathlib.Numerals.{add-one}
-use Rattle.scan.specs.Posts.{Appended}
+use Rattle.scan.specs.Bytes.{other}
+use Rattle.scan.specs.Posts.{Appended, Ends, Passes}
+use Rattle.scan.proofs.Runs.{run-all}
 use Rattle.scan.proofs.Stores.{sets-other}
 use Rattle.entities.specs.Decode.{decoded}
-use Rattle.entities.proofs.Decoding.{decoded-short}
-use Rattle.scan.specs.Part.{stringAt}
+use Rattle.entities.proofs.Decoding.{decoded-short, decoded-plain}
+use Rattle.scan.specs.Part.{part, stringAt}
 use Rattle.xml.specs.Steps.{nodePlace, nodeBytes, nodesRead, nodeStringsRead, NodeReady, valueBytes, attrsRead, attrWritten}
 use Rattle.xml.specs.Steps.{attrStringsRead, AttrReady}
 
+-- ---- a part without `&`
+pub ends-passes : (t : ℕ → Bool) (s : List ℕ) (p r : ℕ) → Ends t s p r → Passes t s p r
+ends-passes t s p r e k l h = run-all t s p k l (omega (arith, h, e .is))
+
+-- what stands in it is as it is with its entities read
+pub decoded-part : (s : List ℕ) (p q a z : ℕ) → Passes (other 38) s p q → p ≤ a → z ≤ q → z ≤ length s → decoded (part a z s) ≡ part a z s
+decoded-part s p q a z w l m h = decoded-plain (part a z s) plain
+  where
+    plain : (k : ℕ) → k < length (part a z s) → getD (part a z s) k 0 ≡ 38 → ⊥
+    plain k g x =
+        let n : length (part a z s) ≡ z - a = length-take-le (z - a) (drop a s) (simp length-drop (omega arith)) in
+        let y : getD s (a + k) 0 ≡ 38 = sym (getD-take (z - a) (drop a s) k 0 (omega arith) ∙ getD-drop a s k 0) ∙ x in
+        eqb-false (getD s (a + k) 0) 38 (not-true _ (w (a + k) (omega arith) (omega arith))) y
+
 -- ---- one row
+place-low : (t : List ℕ) (k : ℕ) → getD t (k * 6 + 2) 0 ≤ nodePlace t k
+unfolding nodePlace
+place-low t k = by (eqb (getD t (k * 6) 0) 2)
+  where
+    by : (b : Bool) → getD t (k * 6 + 2) 0 ≤ cond b (getD t (k * 6 + 2) 0 + 1) (getD t (k * 6 + 2) 0)
+    by true = omega arith
+    by false = omega arith
+
+pub node-within : (s t z : List ℕ) (k : ℕ) → NodeReady s t z k → getD t (k * 6 + 2) 0 ≤ length s
+node-within s t z k r = omega (arith, r .fits, place-low t k)
+
 module _ (t : List ℕ) (k : ℕ) where
   pub place-element : (a r : ℕ) → getD t (k * 6) 0 ≡ 2 → a ≡ getD t (k * 6 + 2) 0 → r ≡ a + 1 → r ≡ nodePlace t k
   unfolding nodePlace

@@ -21,7 +21,7 @@ use Rattle.tree.proofs.nodes.+parse_children+parse_element+parse_node.L
 use Rattle.tree.proofs.nodes.parse_node.Reads as parse-node
 use Rattle.tree.proofs.nodes.parse_node.Kinds as parse-node-kinds
 use Rattle.tree.proofs.nodes.+parse_children+parse_element+parse_node.Lts-parse_node as parse-node-lts
-use Rattle.scan.proofs.over.Reads as over-reads
+use Rattle.scan.proofs.over_long.Reads as over-long-reads
 use Rattle.scan.proofs.starts_with.Reads as starts-with-reads
 use Rattle.tree.proofs.attrs.parse_start.Reads as parse-start-reads
 use Rattle.tree.proofs.nodes.parse_close.Reads as parse-close-reads
@@ -82,8 +82,8 @@ kids t = (starts-with-reads.Asked, starts-with-reads.Learnt, parse-close-reads.A
 
 abbrev elems : ℕ → parse-element-lts.Claims
 elems t = (
-  over-reads.Asked,
-  over-reads.Learnt,
+  over-long-reads.Asked,
+  over-long-reads.Learnt,
   parse-start-reads.Asked,
   parse-start-reads.Learnt,
   put-node-reads.Asked,
@@ -252,13 +252,13 @@ parse-element-returns-2 t c = el-full _ _ _ _ _ (c .before .if1 .left) (c .if2 .
 parse-element-add-start : (t : ℕ) → parse-element-lts.Need-add-start (elems t) (parse-element-at t) parse-element.Post
 parse-element-add-start t c = search needs
 
-parse-element-over-requires : (t : ℕ) → parse-element-lts.Need-over-requires (elems t) (parse-element-at t) parse-element.Post
-parse-element-over-requires t c κs = search needs
+parse-element-over-long-requires : (t : ℕ) → parse-element-lts.Need-over-long-requires (elems t) (parse-element-at t) parse-element.Post
+parse-element-over-long-requires t c κs = search needs
 
 parse-element-parse-start-requires : (t : ℕ) → parse-element-lts.Need-parse-start-requires (elems t) (parse-element-at t) parse-element.Post
 parse-element-parse-start-requires t c κs =
     let c7 = c .before .before .before .before .before .before .before in
-    (c7 .pre .1 .0 .short, c7 .pre .1 .0 .wide, c7 .pre .1 .1, c .before .over .ensures, c7 .pre .1 .0 .least)
+    (c7 .pre .1 .0 .short, c7 .pre .1 .0 .wide, c7 .pre .1 .1, c .before .over-long .ensures, c7 .pre .1 .0 .least)
 
 parse-element-enum-known-r : (t : ℕ) → parse-element-lts.Need-enum-known-r (elems t) (parse-element-at t) parse-element.Post
 parse-element-enum-known-r t c = search needs
@@ -284,7 +284,7 @@ parse-element-put-node-requires t c κs =
     let c9 = c8 .before in
     let c14 = c9 .before .before .before .before .before in
     let l = rw (c .before .before .t .given .1) at (c6 .parse-start .ensures) in
-    omega (arith, l .most, l .within, l .counted, c8 .over .ensures .within, c9 .if2 .left, c14 .pre .1 .0, c14 .pre .1 .1)
+    omega (arith, l .most, l .within, l .counted, c8 .over-long .ensures .within, c9 .if2 .left, c14 .pre .1 .0, c14 .pre .1 .1)
 
 parse-element-add-t28 : (t : ℕ) → parse-element-lts.Need-add-t28 (elems t) (parse-element-at t) parse-element.Post
 parse-element-add-t28 t c = search needs
@@ -312,7 +312,7 @@ parse-element-parse-children-requires t c κs =
       l .within,
       l .after,
       c7 .parse-start .kept,
-      c9 .over .ensures .after,
+      c9 .over-long .ensures .after,
       c10 .if2 .left,
       c15 .pre .0,
       c15 .pre .1 .0,
@@ -345,7 +345,8 @@ parse-element-put-node-requires-2 t c κs =
     let c24 = c19 .before .before .before .before .before in
     let l = rw (c .before .before .c .given .1) at (c8 .parse-children .ensures) in
     let m = rw (c12 .t2 .given .1) at (c16 .parse-start .ensures) in
-    omega (arith, l .most, m .most, m .counted, c18 .over .ensures .within, c19 .if2 .left, c24 .pre .1 .0, c24 .pre .1 .1, c8 .parse-children .kept)
+    omega (arith, l .most, m .most, m .counted, c18 .over-long .ensures .within, c19 .if2 .left, c24 .pre .1 .0, c24 .pre .1 .1,
+    c8 .parse-children .kept)
 
 parse-element-same-length : (t : ℕ) → parse-element-lts.Need-same-length (elems t) (parse-element-at t) parse-element.Post
 parse-element-same-length t c = search needs
@@ -358,7 +359,7 @@ parse-element-returns-3 t c =
     let c9 = c8 .before in
     let c13 = c9 .before .before .before .before in
     let a = c13 .args in
-    el-tag (a .room) (a .src .now) (a .pos) (a .k) (a .a) (c9 .if1 .left) (c7 .over .result) _ (c8 .if2 .left) (c7 .over .ensures)
+    el-tag (a .room) (a .src .now) (a .pos) (a .k) (a .a) (c9 .if1 .left) (c7 .over-long .result) _ (c8 .if2 .left) (c7 .over-long .ensures)
     (rw (c .before .r .given .1) at (c5 .parse-start .ensures)) ∙ tagged-torn _ _ _ _ _ _
 
 parse-element-same-length-2 : (t : ℕ) → parse-element-lts.Need-same-length-2 (elems t) (parse-element-at t) parse-element.Post
@@ -378,8 +379,10 @@ parse-element-returns-4 t c =
     let a = c17 .args in
     let l = rw (c5 .t .given .1) at (c9 .parse-start .ensures) in
     built-shut _ _ (a .src .now) (a .nodes .now) _ (a .attrs .now) _ (a .pos) _ (a .k) (a .a) (l .list) _
-    (el-tag (a .room) (a .src .now) (a .pos) (a .k) (a .a) (c13 .if1 .left) (c11 .over .result) _ (c12 .if2 .left) (c11 .over .ensures) (l .is))
-    (omega (arith, l .after, c11 .over .ensures .after)) (l .within) (l .counted) (l .most) (c12 .if2 .left) (c .before .before .put-node .ensures)
+    (el-tag (a .room) (a .src .now) (a .pos) (a .k) (a .a) (c13 .if1 .left) (c11 .over-long .result) _ (c12 .if2 .left) (c11 .over-long .ensures)
+    (l .is))
+    (omega (arith, l .after, c11 .over-long .ensures .after)) (l .within) (l .counted) (l .most) (c12 .if2 .left)
+    (c .before .before .put-node .ensures)
     (l .laid)
 
 parse-element-same-length-4 : (t : ℕ) → parse-element-lts.Need-same-length-4 (elems t) (parse-element-at t) parse-element.Post
@@ -399,7 +402,8 @@ parse-element-returns-5 t c =
     let c23 = c19 .before .before .before .before in
     let a = c23 .args in
     let l = rw (c11 .t2 .given .1) at (c15 .parse-start .ensures) in
-    el-tag (a .room) (a .src .now) (a .pos) (a .k) (a .a) (c19 .if1 .left) (c17 .over .result) _ (c18 .if2 .left) (c17 .over .ensures) (l .is)
+    el-tag (a .room) (a .src .now) (a .pos) (a .k) (a .a) (c19 .if1 .left) (c17 .over-long .result) _ (c18 .if2 .left) (c17 .over-long .ensures)
+    (l .is)
     ∙ (tagged-open _ _ _ _ _ _ _ ∙ enclose-bad _ _ _ _ _ _ (rw (c .before .r2 .given .1) at (c7 .parse-children .ensures)))
 
 parse-element-same-length-6 : (t : ℕ) → parse-element-lts.Need-same-length-6 (elems t) (parse-element-at t) parse-element.Post
@@ -421,9 +425,10 @@ parse-element-returns-6 t c =
     let a = c27 .args in
     let l = rw (c15 .t2 .given .1) at (c19 .parse-start .ensures) in
     built-elem _ _ (a .src .now) (a .nodes .now) _ _ (a .attrs .now) _ _ (a .pos) _ (a .k) (a .a) _ _ (l .list) _
-    (el-tag (a .room) (a .src .now) (a .pos) (a .k) (a .a) (c23 .if1 .left) (c21 .over .result) _ (c22 .if2 .left) (c21 .over .ensures) (l .is)
+    (el-tag (a .room) (a .src .now) (a .pos) (a .k) (a .a) (c23 .if1 .left) (c21 .over-long .result) _ (c22 .if2 .left) (c21 .over-long .ensures)
+    (l .is)
     ∙ tagged-open _ _ _ _ _ _ _)
-    (rw (c5 .c .given .1) at (c11 .parse-children .ensures)) (omega (arith, l .after, c21 .over .ensures .after)) (l .counted)
+    (rw (c5 .c .given .1) at (c11 .parse-children .ensures)) (omega (arith, l .after, c21 .over-long .ensures .after)) (l .counted)
     (c .before .before .put-node2 .ensures) (l .laid)
 
 parse-node-skip-comments-requires : (t : ℕ) → parse-node-lts.Need-skip-comments-requires (nods t) (parse-node-at t) parse-node.Post
@@ -603,8 +608,8 @@ pub +parse-children+parse-element+parse-node-spec : {M : Type 1} → statement M
     (parse-children-same-length-8 t)
     (parse-children-returns-4 t))
     (λ t. parse-element-lts.spec (
-      over-reads.Asked,
-      over-reads.Learnt,
+      over-long-reads.Asked,
+      over-long-reads.Learnt,
       parse-start-reads.Asked,
       parse-start-reads.Learnt,
       put-node-reads.Asked,
@@ -617,7 +622,7 @@ pub +parse-children+parse-element+parse-node-spec : {M : Type 1} → statement M
     (parse-element-returns t)
     (parse-element-returns-2 t)
     (parse-element-add-start t)
-    (parse-element-over-requires t)
+    (parse-element-over-long-requires t)
     (parse-element-parse-start-requires t)
     (parse-element-enum-known-r t)
     (parse-element-enum-known-t t)

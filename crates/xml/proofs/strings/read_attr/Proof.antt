@@ -47,17 +47,8 @@ get-requires-4 c κs = search needs
 add-value-end : tie.Need-add-value-end
 add-value-end c = search needs
 
-sub-decode-entities : tie.Need-sub-decode-entities
-sub-decode-entities c = search needs
-
-part-decode-entities-start : tie.Need-part-decode-entities-start
-part-decode-entities-start c = search needs
-
-part-decode-entities-end : tie.Need-part-decode-entities-end
-part-decode-entities-end c = search needs
-
-decode-entities-requires : tie.Need-decode-entities-requires
-decode-entities-requires c κs = search needs
+decode-requires : tie.Need-decode-requires
+decode-requires c κs = search needs
 
 add-put : tie.Need-add-put
 add-put c = search needs
@@ -67,12 +58,13 @@ sub-put c = search needs
 
 put-requires : tie.Need-put-requires
 put-requires c κs =
-    let r = c .before .before .before in
-    let h = r .before .before .before in
-    let g = h .before .before in
-    let d = g .before .before .before .before .before .before .before .before .before .before .before .before .before .before in
-    let e = value-long _ (d .args .attrs .now) (d .args .k) _ _ _ (g .get3 .ensures) (h .get4 .ensures) (r .decode-entities .ensures .next) in
-    (omega (arith, d .pre), omega (arith, d .pre, e, value-short (d .args .src .now) (d .args .attrs .now) (d .args .k)))
+    let c3 = c .before .before .before in
+    let c5 = c3 .before .before in
+    let c7 = c5 .before .before in
+    let c21 = c7 .before .before .before .before .before .before .before .before .before .before .before .before .before .before in
+    let a = c21 in
+    let e = value-long _ (a .args .attrs .now) (a .args .k) _ _ _ (c7 .get3 .ensures) (c5 .get4 .ensures) (c3 .decode .ensures .next) in
+    (omega (arith, a .pre .0), omega (arith, a .pre .0, e, value-short (a .args .src .now) (a .args .attrs .now) (a .args .k)))
 
 same-length : tie.Need-same-length
 same-length c = search needs
@@ -82,19 +74,19 @@ same-length-2 c = search needs
 
 returns : tie.Need-returns
 returns c =
-    let p = c .before .before in
-    let r = p .before .before .before .before in
-    let h = r .before .before .before in
-    let g = h .before .before in
-    let y = g .before .before .before .before in
-    let m = y .before .before .before in
-    let n = m .before .before in
-    let d = n .before .before .before .before .before in
-    let w = r .decode-entities .ensures in
-    let e = value-long (d .args .src .now) (d .args .attrs .now) (d .args .k) _ _ _ (g .get3 .ensures) (h .get4 .ensures) (w .next) in (
-      rw e at (p .put .ensures),
-      attr-wrote _ _ _ _ _ _ _ _ _ _ (n .get .ensures) (m .get2 .ensures) (g .get3 .ensures) (h .get4 .ensures)
-          (y .copy .ensures .laid) (w .laid),
+    let c6 = c .before .before .before .before .before .before in
+    let c8 = c6 .before .before in
+    let c10 = c8 .before .before in
+    let c14 = c10 .before .before .before .before in
+    let c17 = c14 .before .before .before in
+    let c19 = c17 .before .before in
+    let c24 = c19 .before .before .before .before .before in
+    let a = c24 in
+    let w = c6 .decode .ensures in
+    let e = value-long (a .args .src .now) (a .args .attrs .now) (a .args .k) _ _ _ (c10 .get3 .ensures) (c8 .get4 .ensures) (w .next) in (
+      rw e at (c .before .before .put .ensures),
+      attr-wrote _ _ _ _ _ _ _ _ _ _ (c19 .get .ensures) (c17 .get2 .ensures) (c10 .get3 .ensures) (c8 .get4 .ensures)
+    (c14 .copy .ensures .laid) (w .laid),
     )
 
 pub read-attr-spec : {M : Type 1} → statement M
@@ -115,10 +107,7 @@ read-attr-spec =
     add-get-3
     get-requires-4
     add-value-end
-    sub-decode-entities
-    part-decode-entities-start
-    part-decode-entities-end
-    decode-entities-requires
+    decode-requires
     add-put
     sub-put
     put-requires

@@ -13,10 +13,10 @@ use Rattle.xml.proofs.strings.read_node.Statement.{statement}
 use Rattle.xml.proofs.strings.read_node.Tie as tie
 use Rattle.xml.proofs.strings.read_node.Reads as reads
 use Rattle.xml.proofs.strings.read_node.Lts as lts
-use Rattle.entities.proofs.decode_entities.Reads as decode-entities-reads
 use Rattle.scan.proofs.copy.Reads as copy-reads
 use Rattle.scan.proofs.get.Reads as get-reads
 use Rattle.scan.proofs.put.Reads as put-reads
+use Rattle.xml.proofs.strings.decode.Reads as decode-reads
 
 mul-at : tie.Need-mul-at
 mul-at c = search needs
@@ -45,8 +45,8 @@ Joined1 =
     lts.Joined1 (
       get-reads.Asked,
       get-reads.Learnt,
-      decode-entities-reads.Asked,
-      decode-entities-reads.Learnt,
+      decode-reads.Asked,
+      decode-reads.Learnt,
       copy-reads.Asked,
       copy-reads.Learnt,
       put-reads.Asked,
@@ -73,17 +73,11 @@ add-start c =
 add-stop : tie.Need-add-stop
 add-stop c = let w = start-is (c .before) in omega arith
 
-sub-decode-entities : tie.Need-sub-decode-entities
-sub-decode-entities c = search needs
-
-part-decode-entities-start : tie.Need-part-decode-entities-start
-part-decode-entities-start c = search needs
-
-part-decode-entities-end : tie.Need-part-decode-entities-end
-part-decode-entities-end c = let w = start-is (c .before .before) in omega arith
-
-decode-entities-requires : tie.Need-decode-entities-requires
-decode-entities-requires c κs = let w = start-is (c .before .before .before .before) in simp (length-take, length-drop) (omega arith)
+decode-requires : tie.Need-decode-requires
+decode-requires c κs =
+    let w = start-is (c .before .before .before) in
+    let d = c .before .before .before .before .before .before .before .before .before .before .before .before in
+    (omega arith, omega arith, omega arith, d .pre .1)
 
 sub-copy : tie.Need-sub-copy
 sub-copy c = search needs
@@ -103,8 +97,8 @@ Joined2 =
     lts.Joined2 (
       get-reads.Asked,
       get-reads.Learnt,
-      decode-entities-reads.Asked,
-      decode-entities-reads.Learnt,
+      decode-reads.Asked,
+      decode-reads.Learnt,
       copy-reads.Asked,
       copy-reads.Learnt,
       put-reads.Asked,
@@ -118,7 +112,7 @@ laid-is : (c : Joined2)
 laid-is c =
     let p = start-is (c .before .before) in
     let n = c .before .before .before .get2 .ensures in
-    ⊎-elim (λ w. rw (w .6, w .7) (wrote-text _ _ _ _ _ _ _ _ p n (w .0 .taken) (w .3 .ensures)))
+    ⊎-elim (λ w. rw (w .5, w .6) (wrote-text _ _ _ _ _ _ _ _ p n (w .0 .taken) (w .2 .ensures)))
     (λ w. rw (w .6, w .7) (wrote-other _ _ _ _ _ _ _ _ p n (w .0 .left) (w .3 .ensures))) (c .if2 .came)
 
 add-put : tie.Need-add-put
@@ -132,7 +126,7 @@ put-requires c κs =
     let c4 = c .before .before .before .before in
     let c13 = c4 .before .before .before .before .before .before .before .before .before in
     let d = c13 in
-    omega (arith, start-is (c4), laid-is (c .before .before) .next, node-short (d .args .src .now) (d .args .nodes .now) (d .args .k), d .pre)
+    omega (arith, start-is (c4), laid-is (c .before .before) .next, node-short (d .args .src .now) (d .args .nodes .now) (d .args .k), d .pre .0)
 
 same-length : tie.Need-same-length
 same-length c = search needs
@@ -162,10 +156,7 @@ read-node-spec =
     get-requires-2
     add-start
     add-stop
-    sub-decode-entities
-    part-decode-entities-start
-    part-decode-entities-end
-    decode-entities-requires
+    decode-requires
     sub-copy
     part-copy-start
     part-copy-end

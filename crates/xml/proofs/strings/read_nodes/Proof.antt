@@ -3,28 +3,51 @@ use Prim.Native.Nat.{_-_, _≤_}
 use mathlib.Core.Path.{_≡_, refl, ap, _∙_}
 use native.Mathlib.Omega.{arith}
 use lib.ListN.{length}
-use borrow.Author.Needs.{needs}
+use Rattle.scan.specs.Bytes.{other}
+use Rattle.scan.specs.Posts.{Passes}
 use Rattle.xml.specs.Steps.{nodesRead, nodeStringsRead}
-use Rattle.xml.proofs.PassLaws.{nodes-room, node-strings-room, nodes-ready, nodes-next, node-strings-next}
+use Rattle.xml.proofs.PassLaws.{node-within, nodes-room, node-strings-room, nodes-ready, nodes-next, node-strings-next}
+use borrow.Author.Needs.{needs}
 use Rattle.xml.proofs.strings.read_nodes.Statement.{statement}
 use Rattle.xml.proofs.strings.read_nodes.Tie as tie
 
 abbrev Inv-loop : tie.InvT-loop
-Inv-loop src nodes₀ strings₀ count k₀ nodes strings k =
+Inv-loop src nodes₀ strings₀ count p₀ k₀ nodes strings p k =
     (k ≤ count) × (nodes ≡ nodesRead src nodes₀ k) × (strings ≡ nodeStringsRead src nodes₀ strings₀ k)
+    × Passes (other 38) src (p .from) (p .end)
 
 abbrev μ-loop : tie.MeasureT-loop
-μ-loop src nodes₀ strings₀ count k₀ nodes strings k = count - k
+μ-loop src nodes₀ strings₀ count p₀ k₀ nodes strings p k = count - k
 
 loop-holds : tie.Need-loop-holds Inv-loop μ-loop
 unfolding nodesRead nodeStringsRead
-loop-holds c = (omega arith, refl, refl)
+loop-holds c = (omega arith, refl, refl, λ k l h. absurd (omega arith))
+
+mul-get : tie.Need-mul-get Inv-loop μ-loop
+mul-get c = let r = c .before .before .before .before .before .before .pre _ (c .before .loop-test .taken) in omega (arith, r .row)
+
+add-get : tie.Need-add-get Inv-loop μ-loop
+add-get c = let r = c .before .before .before .before .before .before .pre _ (c .before .loop-test .taken) in omega (arith, r .row)
+
+get-requires : tie.Need-get-requires Inv-loop μ-loop
+get-requires c κs =
+    let c6 = c .before .before .before .before .before .before in
+    let r = nodes-ready _ _ _ _ _ _ (c .before .before .loop .inv .1) (c .before .before .loop .inv .2) (c6 .pre _ (c .before .loop-test .taken)) in
+    omega (arith, r .row)
+
+plain-at-requires : tie.Need-plain-at-requires Inv-loop μ-loop
+plain-at-requires c κs =
+    let c3 = c .before .before .before in
+    let c7 = c3 .before .before .before .before in
+    let r = nodes-ready _ _ _ _ _ _ (c3 .loop .inv .1) (c3 .loop .inv .2) (c7 .pre _ (c .before .before .loop-test .taken)) in
+    (omega (arith, c .get .ensures, node-within _ _ _ _ r), c3 .loop .inv .3)
 
 read-node-requires : tie.Need-read-node-requires Inv-loop μ-loop
 read-node-requires c κs =
-    let l = c .before .before .before in
-    let d = l .before .before .before .before in
-    nodes-ready _ _ _ _ _ _ (l .loop .inv .1) (l .loop .inv .2) (d .pre _ (c .before .before .loop-test .taken))
+    let c5 = c .before .before .before .before .before in
+    let c6 = c5 .before in
+    let c10 = c6 .before .before .before .before in
+    (nodes-ready _ _ _ _ _ _ (c6 .loop .inv .1) (c6 .loop .inv .2) (c10 .pre _ (c5 .loop-test .taken)), c .before .before .plain-at .ensures .2)
 
 add-k : tie.Need-add-k Inv-loop μ-loop
 add-k c = search needs
@@ -34,9 +57,12 @@ loop-less c = search needs
 
 loop-again : tie.Need-loop-again Inv-loop μ-loop
 loop-again c =
-    let i = c .before .before .before .before .before .before .before .before .loop .inv in
-    let e = c .before .before .before .before .read-node .ensures in
-    (omega arith, nodes-next _ _ _ _ _ (i .1) (e .0), node-strings-next _ _ _ _ _ _ _ (i .1) (i .2) (e .1))
+    let c4 = c .before .before .before .before in
+    let c7 = c4 .before .before .before in
+    let c11 = c7 .before .before .before .before in
+    let i = c11 .loop .inv in
+    let e = c4 .read-node .ensures in
+    (omega arith, nodes-next _ _ _ _ _ (i .1) (e .0), node-strings-next _ _ _ _ _ _ _ (i .1) (i .2) (e .1), c7 .plain-at .ensures .2)
 
 same-length : tie.Need-same-length Inv-loop μ-loop
 same-length c = ap length (c .before .loop .inv .1) ∙ nodes-room _ _ _
@@ -51,4 +77,20 @@ returns c =
     (i .1 ∙ ap (nodesRead _ _) e, i .2 ∙ ap (nodeStringsRead _ _ _) e)
 
 pub read-nodes-spec : {M : Type 1} → statement M
-read-nodes-spec = tie.close (tie.spec Inv-loop μ-loop loop-holds read-node-requires add-k loop-less loop-again same-length same-length-2 returns)
+read-nodes-spec =
+    tie.close
+    (tie.spec
+    Inv-loop
+    μ-loop
+    loop-holds
+    mul-get
+    add-get
+    get-requires
+    plain-at-requires
+    read-node-requires
+    add-k
+    loop-less
+    loop-again
+    same-length
+    same-length-2
+    returns)
