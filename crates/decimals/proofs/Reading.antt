@@ -23,7 +23,7 @@ use Rattle.scan.specs.Bytes.{digitByte, runLength, runEnd}
 use Rattle.scan.specs.Names.{sameFolded}
 use Rattle.scan.specs.Part.{part}
 use Rattle.scan.proofs.Runs.{run-length, run-all, run-high}
-use Rattle.unicode.proofs.Trimming.{whole-part}
+use Rattle.scan.proofs.Splits.{whole-part}
 use Rattle.numerals.specs.Numerals.{valueFrom, digitOf}
 use Rattle.numerals.proofs.Numerals.{digit-byte, after-sign}
 use Rattle.decimals.proofs.Counting.{digit-bounds}

@@ -1,14 +1,18 @@
 -- Laws of a text taken apart at a byte: its parts by the place where the run of other bytes ends. Assumes nothing.
 --     split-more, split-last     the parts, where the byte occurs and where it does not
 --     once-more, once-none       the two halves at its first place, or none
+--     whole-part                 a text that is handed on as a part of its own
 use Prim.Native.Nat.{ℕ, suc, _+_, _≤_, _<_}
 use mathlib.Core.Path.{_≡_, refl, _∙_}
 use mathlib.Core.Bool.{Bool, true, false}
 use mathlib.Core.List.{List, [], _∷_}
 use native.Mathlib.Omega.{arith}
 use native.Mathlib.Numerals.{add-one}
+use native.Mathlib.Nat.{sub-zero}
 use lib.Dec.{eqb}
 use lib.ListN.{length, take, drop}
+use lib.Seq.{take-length}
+use Rattle.scan.specs.Part.{part}
 use Rattle.scan.specs.Split.{splitAt, halves, no-half, splitOnce}
 use Rattle.scan.specs.Bytes.{other, runEnd, runLength}
 use Rattle.scan.proofs.Runs.{run-length}
@@ -72,3 +76,7 @@ module _ (b : ℕ) where
 
     pub once-none : length s ≤ runEnd (other b) s 0 → splitOnce b s ≡ no-half
     once-none h = whole s (omega (arith, run))
+
+-- what `&s[0..]` has
+pub whole-part : (s : List ℕ) → part 0 (length s) s ≡ s
+whole-part s = rw (sub-zero (length s)) (take-length s)

@@ -128,7 +128,8 @@ fn near_end(src: &[u8], pos: usize) -> usize
     if src.len() - pos < 8 { src.len() } else { pos + 8 }
 }
 
-// Where the run ends: it is short as a rule, and may be long.
+// Where the run ends: it is short as a rule, and may be long. Then the text is handed on as a part of its own, so that it
+// stays in registers until there.
 pub fn over_long(src: &[u8], pos: usize, class: Class) -> usize
     requires { ⌜ pos ≤ length (now src) ⌝ }
     ensures { λ r. ⌜ Ends (member class) (now (src .entry)) pos r ⌝ }
@@ -138,7 +139,7 @@ pub fn over_long(src: &[u8], pos: usize, class: Class) -> usize
     if i < end {
         return i;
     }
-    over_far(src, i, class)
+    over_far(&src[0..], i, class)
 }
 
 // The first place of the byte, or the length. Four tests to a turn: a value ends within two or three turns as a rule.

@@ -146,7 +146,7 @@ pub fn copy(piece: &[u8], out: &mut [u8], at: usize) -> usize
     at + piece.len()
 }
 
-// The same, if it fits.
+// The same, if it fits. It is a fixed byte string as a rule, whose length is known where this is inlined.
 pub fn append(out: &mut [u8], at: usize, piece: &[u8]) -> Written
     requires { ⌜ at ≤ length (now out) ⌝ }
     ensures { λ r. ⌜ Wrote (now (piece .entry)) at (now (out .entry)) (now (out .exit)) r ⌝ }
@@ -154,5 +154,6 @@ pub fn append(out: &mut [u8], at: usize, piece: &[u8]) -> Written
     if out.len() - at < piece.len() {
         return Written::Full;
     }
-    Written::At(copy(piece, out, at))
+    copy_each(piece, out, at);
+    Written::At(at + piece.len())
 }

@@ -16,6 +16,7 @@ use lib.Seq.{getD-append-add}
 use lib.Dec.{eqb, leb, ltb}
 use borrow.Author.Tests.{eqb-true, eqb-false, leb-true, leb-false, ltb-true, ltb-false}
 use Rattle.scan.specs.Part.{part}
+use Rattle.scan.proofs.Splits.{whole-part}
 use Rattle.unicode.specs.Utf8.{sequenceAt, charAt, WellFormed}
 use Rattle.unicode.specs.WhiteSpace.{isWhite, WhiteCharacter, WhiteSpace, nothing, character, Trims}
 use Rattle.unicode.specs.Steps.{WhiteEnd, whiteAt, endsWith, whiteBefore, whiteEnd, whiteBack, whiteStart}
@@ -265,9 +266,6 @@ pub there : (s a w t : List ℕ) (n : ℕ) → s ≡ a ++ (w ++ t) → length a 
 there s a w t n e l f = rw (e, ← l) (white-there a w t f)
 
 module _ (s : List ℕ) where
-  pub whole-part : part 0 (length s) s ≡ s
-  whole-part = rw (sub-zero (length s)) (take-length s)
-
   pub part-long : (a e : ℕ) → a ≤ e → e ≤ length s → length (part a e s) ≡ e - a
   part-long a e h g = length-take-le (e - a) (drop a s) (simp length-drop (omega arith))
 
@@ -285,7 +283,7 @@ module _ (s : List ℕ) where
       let e : ℕ = whiteStart s in
       let g : e ≤ length s = whiteStart-low s in
       let parts : s ≡ part 0 a s ++ (part a e s ++ part e (length s) s) =
-      sym whole-part ∙ part-join s 0 a (length s) (omega arith) (omega arith) ∙ ap (λ x. part 0 a s ++ x) (part-join s a e (length s) h g) in
+      sym (whole-part s) ∙ part-join s 0 a (length s) (omega arith) (omega arith) ∙ ap (λ x. part 0 a s ++ x) (part-join s a e (length s) h g) in
       let front : length (part 0 a s) ≡ a = part-long 0 a (omega arith) (omega arith) ∙ sub-zero a in
       let long : length (part a e s) ≡ e - a = part-long a e h g in
       record {
@@ -316,7 +314,7 @@ module _ (s : List ℕ) where
         before = s;
         after = [];
         whole = sym (append-nil s);
-        white-before = subst WhiteSpace whole-part (path-space s (path-join s first last-path) (omega arith));
+        white-before = subst WhiteSpace (whole-part s) (path-space s (path-join s first last-path) (omega arith));
         white-after = nothing;
         bare-start = λ w r f x. omega (arith, f .formed .some-byte, simp length-append at (ap length x));
         bare-end = λ w r f x. omega (arith, f .formed .some-byte, simp length-append at (ap length x));

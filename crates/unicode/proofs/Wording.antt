@@ -17,7 +17,8 @@ use Rattle.unicode.proofs.Utf8Laws.{by-test}
 use Rattle.unicode.proofs.WhiteLaws.{whiteAt-within, whiteEnd-here, whiteEnd-out, whiteEnd-low, whiteEnd-high, whiteEnd-stops, wordEnd-here}
 use Rattle.unicode.proofs.WhiteLaws.{wordEnd-on, wordEnd-out}
 use Rattle.unicode.proofs.WhiteLaws.{wordEnd-low, wordEnd-high, wordEnd-stops, wordEnd-some, wordsFrom-none, wordsFrom-next, wordsFrom-after}
-use Rattle.unicode.proofs.Trimming.{there, part-long, whole-part, white-part, white-there, Path, end-path, path-end, path-space, space-path}
+use Rattle.scan.proofs.Splits.{whole-part}
+use Rattle.unicode.proofs.Trimming.{there, part-long, white-part, white-there, Path, end-path, path-end, path-space, space-path}
 use Rattle.unicode.proofs.Trimming.{part-join, stops-before}
 
 -- ---- where a word ends

@@ -4,7 +4,7 @@ use mathlib.Core.Logic.{⊎-elim}
 use lib.ListN.{length}
 use borrow.Author.Tests.{not-true, not-false, eqb-true, eqb-false}
 use borrow.Author.Needs.{needs}
-use Rattle.unicode.proofs.Trimming.{whole-part}
+use Rattle.scan.proofs.Splits.{whole-part}
 use Rattle.colors.proofs.Reading.{hex-none}
 use Rattle.colors.proofs.Digits.{HexWidth, hex-once, hex-twice, hex-alpha}
 use Rattle.colors.proofs.read.hex_color.Statement.{statement}

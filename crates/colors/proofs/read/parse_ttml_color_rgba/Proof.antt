@@ -1,6 +1,6 @@
 -- `parse_ttml_color_rgba` answers the colour that is left when white space is trimmed.
 use mathlib.Core.Path.{ap, _∙_}
-use Rattle.unicode.proofs.Trimming.{whole-part}
+use Rattle.scan.proofs.Splits.{whole-part}
 use Rattle.colors.specs.Colors.{color, colorIn}
 use borrow.Author.Needs.{needs}
 use Rattle.colors.proofs.Answers.{reads-color}

@@ -2,7 +2,7 @@
 use mathlib.Core.Path.{_≡_, sym, ap, _∙_}
 use mathlib.Core.Logic.{⊎-elim}
 use borrow.Author.Tests.{eqb-true, eqb-false}
-use Rattle.unicode.proofs.Trimming.{whole-part}
+use Rattle.scan.proofs.Splits.{whole-part}
 use Rattle.decimals.specs.Decimal.{isWord}
 use Rattle.decimals.proofs.Reading.{Shape, shape-bare, shape-point, shape-empty, shape-rest, shape-whole, shape-digital}
 use borrow.Author.Needs.{needs}

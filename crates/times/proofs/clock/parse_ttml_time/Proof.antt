@@ -1,7 +1,7 @@
 -- A time expression without the white space around it; nothing else is no time.
 use mathlib.Core.Path.{sym, _∙_}
 use borrow.Author.Needs.{needs}
-use Rattle.unicode.proofs.Trimming.{whole-part}
+use Rattle.scan.proofs.Splits.{whole-part}
 use Rattle.times.proofs.Answers.{reads-time}
 use Rattle.times.proofs.Parts.{blank-time, some-time}
 use Rattle.times.proofs.clock.parse_ttml_time.Statement.{statement}

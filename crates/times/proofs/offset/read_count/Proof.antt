@@ -1,7 +1,7 @@
 -- The decimal of a count without the white space around it.
 use mathlib.Core.Path.{ap, _∙_}
 use borrow.Author.Needs.{needs}
-use Rattle.unicode.proofs.Trimming.{whole-part}
+use Rattle.scan.proofs.Splits.{whole-part}
 use Rattle.times.specs.Expressions.{timeDecimal}
 use Rattle.times.proofs.offset.read_count.Statement.{statement}
 use Rattle.times.proofs.offset.read_count.Tie as tie

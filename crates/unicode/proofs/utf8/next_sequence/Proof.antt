@@ -3,7 +3,7 @@ use native.Mathlib.Omega.{arith}
 use borrow.Author.Needs.{needs}
 use borrow.Author.Tests.{leb-true}
 use Rattle.unicode.proofs.Utf8Laws.{sequence-two, sequence-three}
-use Rattle.unicode.proofs.Trimming.{whole-part}
+use Rattle.scan.proofs.Splits.{whole-part}
 use Rattle.unicode.proofs.utf8.next_sequence.Statement.{statement}
 use Rattle.unicode.proofs.utf8.next_sequence.Tie as tie
 

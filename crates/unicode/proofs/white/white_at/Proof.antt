@@ -1,7 +1,7 @@
 -- `white_at` answers the width of the white-space character at the place: from the byte where that is visible ASCII or the space.
 use mathlib.Core.Path.{sym}
 use Rattle.unicode.proofs.WhiteLaws.{whiteAt-visible, whiteAt-space}
-use Rattle.unicode.proofs.Trimming.{whole-part}
+use Rattle.scan.proofs.Splits.{whole-part}
 use borrow.Author.Needs.{needs}
 use Rattle.unicode.proofs.white.white_at.Statement.{statement}
 use Rattle.unicode.proofs.white.white_at.Tie as tie

@@ -7,7 +7,8 @@ use native.Mathlib.Omega.{arith}
 use borrow.Author.Needs.{needs}
 use Rattle.unicode.specs.Steps.{whiteAt, endsWith, whiteBefore}
 use Rattle.unicode.proofs.WhiteLaws.{whiteAt-space, endsWith-here, endsWith-on, endsWith-short, endsWith-out}
-use Rattle.unicode.proofs.Trimming.{before-visible, before-is, whole-part}
+use Rattle.scan.proofs.Splits.{whole-part}
+use Rattle.unicode.proofs.Trimming.{before-visible, before-is}
 use Rattle.unicode.proofs.white.white_before.Statement.{statement}
 use Rattle.unicode.proofs.white.white_before.Tie as tie
 
