@@ -9,7 +9,7 @@ use mathlib.Core.Bool.{Bool, true, false, not}
 use mathlib.Core.Logic.{_⊎_, inl, inr}
 use mathlib.Core.List.{List, [], _∷_, _++_}
 use native.Mathlib.Omega.{arith}
-use native.Mathlib.Nat.{add-zero}
+use native.Mathlib.Nat.{add-zero, zero-add}
 use native.Mathlib.Numerals.{add-one}
 use lib.ListN.{length, getD, set, length-set}
 use lib.Seq.{sets, length-sets, getD-set-same, getD-set-other}
@@ -19,8 +19,8 @@ use Rattle.scan.specs.Part.{stringAt}
 use Rattle.scan.proofs.Stores.{sets-other}
 use Rattle.unicode.proofs.Utf8Laws.{by-test}
 use Rattle.track.specs.Track.{Bytes}
-use Rattle.styles.specs.Ids.{sourceOf, idAt, idsIn, RowWithin, hashOf, turn, half, fromOne, met, Tree, Held, Ends, Added, AddPost}
-use Rattle.styles.proofs.Search.{rows-same, ids-last, from-some, met-first, met-next, met-none, met-cases, met-le}
+use Rattle.styles.specs.Ids.{sourceOf, rowAt, rowsIn, idAt, idsIn, RowWithin, hashOf, turn, half, fromOne, met, Tree, Held, Ends, Added, AddPost}
+use Rattle.styles.proofs.Search.{rows-last, rows-same, ids-last, from-some, met-first, met-next, met-none, met-cases, met-le}
 
 pub sets-cell : (w t : List ℕ) (i k : ℕ) → k < length w → i + length w ≤ length t → getD (sets t i w) (i + k) 0 ≡ getD w k 0
 sets-cell [] t i k h l = absurd (omega arith)
@@ -43,7 +43,25 @@ unfolding half
 half-zero true k e = rw e
 half-zero false k e = rw e
 
--- ids of rows
+-- rows and their ids
+row-same : (t t′ : List ℕ) (i : ℕ) → getD t′ (i * 4) 0 ≡ getD t (i * 4) 0 → getD t′ (i * 4 + 1) 0 ≡ getD t (i * 4 + 1) 0
+    → getD t′ (i * 4 + 2) 0 ≡ getD t (i * 4 + 2) 0 → rowAt t′ i ≡ rowAt t i
+unfolding rowAt
+row-same t t′ i a b c = rw (a, b, c)
+
+row-here : (t : List ℕ) (i source place len : ℕ) → getD t (i * 4) 0 ≡ source → getD t (i * 4 + 1) 0 ≡ place → getD t (i * 4 + 2) 0 ≡ len
+    → rowAt t i ≡ record { source = source; place = place; len = len }
+unfolding rowAt
+row-here t i source place len a b c = rw (a, b, c)
+
+rows-are : (t t′ : List ℕ) (n : ℕ) → ((i : ℕ) → i < n → rowAt t′ i ≡ rowAt t i) → rowsIn t′ n ≡ rowsIn t n
+unfolding rowsIn
+rows-are t t′ n h = rows-same (rowAt t′) (rowAt t) n 0 (λ k l. h k (omega arith))
+
+row-last : (t : List ℕ) (n : ℕ) → rowsIn t (suc n) ≡ rowsIn t n ++ (rowAt t n ∷ [])
+unfolding rowsIn
+row-last t n = rw (zero-add n) at (rows-last (rowAt t) n 0)
+
 id-same : (x z t t′ : List ℕ) (i : ℕ) → getD t′ (i * 4) 0 ≡ getD t (i * 4) 0 → getD t′ (i * 4 + 1) 0 ≡ getD t (i * 4 + 1) 0
     → getD t′ (i * 4 + 2) 0 ≡ getD t (i * 4 + 2) 0 → idAt x z t′ i ≡ idAt x z t i
 unfolding idAt
@@ -220,9 +238,12 @@ module _ (t heads : List ℕ) (n source place len : ℕ) (t′ heads′ : List �
       )
 
       pub added : (d : ℕ) × (met t′ heads′ name d ≡ suc n) → n < 65536 → (x z : List ℕ) → Held x z t heads n → source ≤ 1
-          → place + len ≤ length (sourceOf x z source) → name ≡ stringAt (sourceOf x z source) place len → Added x z t heads n name t′ heads′
+          → place + len ≤ length (sourceOf x z source) → name ≡ stringAt (sourceOf x z source) place len
+          → Added x z t heads n (record { source = source; place = place; len = len }) name t′ heads′
       added leads few x z held known fits is = record {
         held = record { tree = tree-more; few = omega arith; within = within-more; found = found-more };
+        rows = rw (add-one n) (row-last t′ n ∙ rw (row-here t′ n source place len (new .source-of) (new .place-of) (new .len-of), rows-are t t′ n
+            (λ i l. row-same t t′ i (first-cell i l) (new .cells i 1 l (omega arith)) (new .cells i 2 l (omega arith)))));
         ids = rw (add-one n) (ids-last x z t′ n ∙ rw (new-id, same-ids));
         behind = new .behind;
       }

@@ -17,25 +17,30 @@ use Rattle.unicode.specs.White.{words}
 use Rattle.names.specs.Numbers.{isIn}
 use Rattle.track.specs.declared.strings.Span.{Span}
 use Rattle.track.specs.Track.{Bytes, Style}
+use Rattle.track.specs.Tables.{span}
 use Rattle.styles.specs.declared.apply.Walk.{Walk}
 use Rattle.styles.specs.Reaches.{parents}
 use Rattle.styles.specs.Resolve.{Walked, meet, own, walk}
 use Rattle.styles.specs.Cells.{Tidy}
-use Rattle.styles.specs.Ids.{sourceOf, idsIn, Held, Added, AddPost}
-use Rattle.styles.specs.Steps.{stylesIn, stateIn, Stands, ChainOf, OwnStyle, Grown, Over, Applies, Overflows}
+use Rattle.styles.specs.Ids.{sourceOf, Row, bytesOf, rowsIn, idsIn, Held, Added, AddPost}
+use Rattle.styles.specs.Places.{row, WalkedAt, meetAt, chainAt, ownAt, isVisited, Walks}
+use Rattle.styles.specs.Steps.{stylesIn, stateIn, stateAt, Stands, ChainOf, OwnStyle, Grown, Over, Visits, again, first, Applies, Overflows}
 use Rattle.styles.proofs.Walks.{own-visited}
 use Rattle.styles.proofs.Equations.{walk-is}
+use Rattle.styles.proofs.Places.{names-in}
 use Rattle.styles.proofs.Along.{walk-none, met-longer, ids-length, grown-none, grown-more, over-kept, over-longer}
 
 module _ (x s : List ℕ) (f : List Float) (z : List ℕ) (n : ℕ) (id : Bytes) (t heads : List ℕ) (w : Walk) (held : Held x z t heads (w .count)) where
   abbrev state : Walked
   state = stateIn x z t w
 
-  pub applied-again : isIn id (idsIn x z t (w .count)) ≡ true → Applies x s f z n (id ∷ []) t t heads w w
-  applied-again h = record {
+  pub applied-again : (a : Row) → bytesOf x z a ≡ id → isIn id (idsIn x z t (w .count)) ≡ true
+      → Applies x s f z n (id ∷ []) t t heads w (Visits x s f z n a) w
+  applied-again a q h = record {
     grown = grown-none x z t heads (w .count) held;
     tidy = λ k. k;
     is = λ e. walk-is (stylesIn s f e z n) .again id [] state h ∙ walk-none (stylesIn s f e z n) state;
+    placed = again (rw (q, names-in x z t (w .count)) h) refl;
   }
 
   module _ (new : isIn id (idsIn x z t (w .count)) ≡ false) where
@@ -62,6 +67,9 @@ module _ (x s : List ℕ) (f : List Float) (z : List ℕ) (n : ℕ) (id : Bytes)
     applied-full (inl h) = record { kept = refl; over = λ e. inr (omega (arith, more-ids e)) }
     applied-full (inr h) = record { kept = refl; over = λ e. inl (omega (arith, more-ids e)) }
 
+pub stands-name : (x z own : List ℕ) (source at len : ℕ) → Stands x z own source at len → bytesOf x z (row source (span at len)) ≡ stringAt own at len
+stands-name x z own source at len h = ap (λ (y : List ℕ). stringAt y at len) (sym (h .is))
+
 -- the id stands where it is said to, was not visited, and has the row after the last
 pub record Entry (x z own : List ℕ) (source at len : ℕ) (t heads t₁ heads₁ : List ℕ) (w : Walk) : Type 0 where
   pub held : Held x z t heads (w .count)
@@ -75,7 +83,13 @@ module _ (x z own : List ℕ) (source at len : ℕ) (t heads t₁ heads₁ : Lis
     abbrev pub entered : Walk
     entered = record { count = w .count + 1; found = w .found; look = w .look }
 
-    added : Added x z t heads (w .count) (stringAt own at len) t₁ heads₁
+    abbrev here : Row
+    here = row source (span at len)
+
+    named : bytesOf x z here ≡ stringAt own at len
+    named = stands-name x z own source at len (entry .stands)
+
+    added : Added x z t heads (w .count) here (stringAt own at len) t₁ heads₁
     added = entry .post x z (entry .held) (entry .stands .known) (rw (entry .stands .is) at (entry .stands .within)) (rw (entry .stands .is))
 
     pub entered-held : Held x z t₁ heads₁ (w .count + 1)
@@ -88,6 +102,13 @@ module _ (x z own : List ℕ) (source at len : ℕ) (t heads t₁ heads₁ : Lis
     unfolding meet
     meets = rw (added .ids)
 
+    meets-at : stateAt t₁ entered ≡ meetAt here (stateAt t w)
+    unfolding meetAt
+    meets-at = rw (added .rows)
+
+    unvisited : (s : List ℕ) (f : List Float) (n : ℕ) → isVisited x s f z n here (stateAt t w) ≡ false
+    unvisited s f n = rw (named, names-in x z t (w .count)) (entry .new)
+
     module _ (s : List ℕ) (f : List Float) (n : ℕ) (chain : Span) (of : ChainOf s z n (stringAt own at len) chain) where
       abbrev walked : List ℕ → Walked
       walked e = walk (stylesIn s f e z n) (words (stringAt z (chain .place) (chain .len))) (stateIn x z t₁ entered)
@@ -97,12 +118,13 @@ module _ (x z own : List ℕ) (source at len : ℕ) (t heads t₁ heads₁ : Lis
       as-walked e = rw (of .is f e, meets)
 
       pub applied-first : (t₂ heads₂ : List ℕ) (v r : Walk) → Grown x z t₁ t₂ heads₂ (w .count + 1) (v .count)
-          → (Tidy (w .look) → Tidy (v .look)) → ((e : List ℕ) → walked e ≡ stateIn x z t₂ v) → OwnStyle s f z n (stringAt own at len) v r
-          → Applies x s f z n (stringAt own at len ∷ []) t t₂ heads₂ w r
-      applied-first t₂ heads₂ v r g d k o = record {
+          → (Tidy (w .look) → Tidy (v .look)) → ((e : List ℕ) → walked e ≡ stateIn x z t₂ v) → Walks x s f z n (row 1 chain) 0 (stateAt t₁ entered) (stateAt t₂ v)
+          → OwnStyle s f z n (stringAt own at len) v r → Applies x s f z n (stringAt own at len ∷ []) t t₂ heads₂ w (Visits x s f z n here) r
+      applied-first t₂ heads₂ v r g d k l o = record {
         grown = rw (o .count) (grown-more x z t t₁ t₂ heads₁ heads₂ (w .count) (w .count + 1) (v .count) entered-grown g);
         tidy = λ h. o .tidy (d h);
         is = λ e. opened x s f z n (stringAt own at len) t heads w (entry .held) (entry .new) e ∙ rw (as-walked e, k e) (sym (o .is e x t₂));
+        placed = first {m = stateAt t₂ v} (unvisited s f n) (rw (named, ← (of .placed), ← meets-at) l) (rw named (o .placed t₂));
       }
 
       pub applied-over : (t₂ heads₂ : List ℕ) → length t₂ ≡ length t₁ → ((e : List ℕ) → Over t₁ (walked e .visited))

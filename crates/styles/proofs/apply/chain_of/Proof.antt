@@ -2,7 +2,7 @@
 use mathlib.Core.Path.{_≡_, sym, _∙_}
 use mathlib.Core.List.{[]}
 use native.Mathlib.Omega.{arith}
-use Rattle.styles.proofs.Lookups.{chain-row-within, chain-row, chain-none}
+use Rattle.styles.proofs.Lookups.{chain-row-within, chain-row, chain-none, chain-at, no-chain-at}
 use borrow.Author.Needs.{needs}
 use Rattle.styles.proofs.apply.chain_of.Statement.{statement}
 use Rattle.styles.proofs.apply.chain_of.Tie as tie
@@ -72,6 +72,7 @@ returns c =
       few = rw (c .before .get .ensures, c .get2 .ensures) (c .before .before .before .before .before .before .before .before .before .pre .few _
           (chain-row-within _ [] [] _ _ _ _ h));
       is = λ f e. rw (c .before .get .ensures, c .get2 .ensures) (chain-row _ f e _ _ _ _ h);
+      placed = chain-at _ _ _ _ _ h _ (c .before .get .ensures) (c .get2 .ensures);
     }
 
 returns-2 : tie.Need-returns-2
@@ -80,6 +81,7 @@ returns-2 c = record {
   few = omega arith;
   is = λ f e. chain-none _ f e _ _ _ (sym (c .before .before .find-chain .ensures) ∙
       c .enum-told .given .1);
+  placed = no-chain-at _ _ _ _ (sym (c .before .before .find-chain .ensures) ∙ c .enum-told .given .1);
 }
 
 pub chain-of-spec : {M : Type 1} → statement M

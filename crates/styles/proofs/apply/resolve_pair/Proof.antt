@@ -61,7 +61,7 @@ returns-2 c =
     let c9 = c5 .before .before .before .before in
     let c14 = c9 .before .before .before .before .before in
     let c17 = c14 .before .before .before in
-    pairs-over _ _ _ _ _ _ _ _ _ refl refl (c17 .blank .ensures) _ _ _ (rw (c9 .a .given .1) at (c14 .apply-refs .ensures)) _ _ (rw
+    pairs-over _ _ _ _ _ _ _ _ _ refl refl (c17 .blank .ensures) _ _ _ _ (rw (c9 .a .given .1) at (c14 .apply-refs .ensures)) _ _ (rw
     (c .enum-told2 .given .1) at (c5 .apply-refs2 .ensures))
 
 same-length-3 : tie.Need-same-length-3
@@ -75,7 +75,7 @@ returns-3 c =
     let c15 = c11 .before .before .before .before in
     let c20 = c15 .before .before .before .before .before in
     let c23 = c20 .before .before .before in
-    pairs _ _ _ _ _ _ _ _ _ refl refl (c23 .blank .ensures) _ _ _ (rw (c15 .a .given .1) at (c20 .apply-refs .ensures)) _ _ _ (rw
+    pairs _ _ _ _ _ _ _ _ _ refl refl (c23 .blank .ensures) _ _ _ _ (rw (c15 .a .given .1) at (c20 .apply-refs .ensures)) _ _ _ _ (rw
     (c6 .b .given .1) at (c11 .apply-refs2 .ensures)) _ (c3 .clear-links .ensures) _ refl refl refl
 
 pub resolve-pair-spec : {M : Type 1} → statement M
