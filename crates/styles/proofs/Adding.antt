@@ -19,7 +19,7 @@ use Rattle.scan.specs.Part.{stringAt}
 use Rattle.scan.proofs.Stores.{sets-other}
 use Rattle.unicode.proofs.Utf8Laws.{by-test}
 use Rattle.track.specs.Track.{Bytes}
-use Rattle.styles.specs.Ids.{sourceOf, rowAt, rowsIn, idAt, idsIn, RowWithin, hashOf, turn, half, fromOne, met, Tree, Held, Ends, Added, AddPost}
+use Rattle.styles.specs.Ids.{sourceOf, bytesOf, rowAt, rowsIn, idAt, idsIn, RowWithin, hashOf, turn, half, fromOne, met, Tree, Held, Ends, Added, AddPost}
 use Rattle.styles.proofs.Search.{rows-last, rows-same, ids-last, from-some, met-first, met-next, met-none, met-cases, met-le}
 
 pub sets-cell : (w t : List ℕ) (i k : ℕ) → k < length w → i + length w ≤ length t → getD (sets t i w) (i + k) 0 ≡ getD w k 0
@@ -65,12 +65,12 @@ row-last t n = rw (zero-add n) at (rows-last (rowAt t) n 0)
 id-same : (x z t t′ : List ℕ) (i : ℕ) → getD t′ (i * 4) 0 ≡ getD t (i * 4) 0 → getD t′ (i * 4 + 1) 0 ≡ getD t (i * 4 + 1) 0
     → getD t′ (i * 4 + 2) 0 ≡ getD t (i * 4 + 2) 0 → idAt x z t′ i ≡ idAt x z t i
 unfolding idAt
-id-same x z t t′ i a b c = rw (a, b, c)
+id-same x z t t′ i a b c = ap (bytesOf x z) (row-same t t′ i a b c)
 
 id-here : (x z t : List ℕ) (i source place len : ℕ) → getD t (i * 4) 0 ≡ source → getD t (i * 4 + 1) 0 ≡ place → getD t (i * 4 + 2) 0 ≡ len
     → idAt x z t i ≡ stringAt (sourceOf x z source) place len
 unfolding idAt
-id-here x z t i source place len a b c = rw (a, b, c)
+id-here x z t i source place len a b c = ap (bytesOf x z) (row-here t i source place len a b c)
 
 ids-same : (x z t t′ : List ℕ) (n : ℕ) → ((i : ℕ) → i < n → idAt x z t′ i ≡ idAt x z t i) → idsIn x z t′ n ≡ idsIn x z t n
 unfolding idsIn

@@ -28,7 +28,7 @@ use Rattle.styles.specs.Places.{within, WalkedAt}
 use Rattle.styles.specs.Steps.{stylesIn, stateIn, stateAt, Grown, Over, Visits, Applies, Overflows}
 use Rattle.styles.proofs.Walks.{Walks, done, again, first, own-visited}
 use Rattle.styles.proofs.Equations.{walk-walks, walk-is}
-use Rattle.styles.proofs.Places.{visits-walks}
+use Rattle.styles.proofs.Places.{rows-length, visits-walks}
 
 -- ---- the walk
 module _ (styles : List (Style Bytes)) where
@@ -55,11 +55,6 @@ module _ (styles : List (Style Bytes)) where
   met-longer a ids w = omega (arith, met-length a w, walk-longer ids (meet a w))
 
 -- ---- rows
-rows-length : {A : Type 0} (f : ℕ → A) (n i : ℕ) → length (rowsFrom f n i) ≡ n
-unfolding rowsFrom
-rows-length f zero i = refl
-rows-length f (suc n) i = ap suc (rows-length f n (i + 1))
-
 pub ids-length : (x z t : List ℕ) (n : ℕ) → length (idsIn x z t n) ≡ n
 unfolding idsIn
 ids-length x z t n = rows-length _ n 0

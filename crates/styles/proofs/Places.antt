@@ -1,12 +1,12 @@
 -- The walk with places. Assumes nothing.
---     names-in                     the names of rows are their ids
+--     names-in, rows-count, distinct-rows      the names of rows are their ids; how many; none twice
 --     visits-walks                 a word, then those after it
 --     walks-only, resolves-only    it has one outcome at most
 --     forgets                      with its places forgotten it is the walk of `Resolve`
 use Prim.Native.Nat.{ℕ, zero, suc, _+_, _-_, _*_, _≤_, _<_}
 use mathlib.Core.Path.{_≡_, refl, sym, ap, _∙_}
 use mathlib.Core.Bool.{Bool, true, false}
-use mathlib.Core.List.{List, [], _∷_, _++_}
+use mathlib.Core.List.{List, [], _∷_, _++_, List·Memᴰ·head, List·Memᴰ·tail}
 use native.Mathlib.Omega.{arith}
 use lib.ListN.{length}
 use lib.Ieee.{Float}
@@ -18,10 +18,16 @@ use Rattle.scan.specs.Part.{part}
 use Rattle.track.specs.declared.values.Look.{Look}
 use Rattle.track.specs.Track.{Bytes}
 use Rattle.track.specs.Tables.{rowsFrom}
+use Rattle.styles.specs.Reaches.{_∈_, Distinct, empty, fresh}
 use Rattle.styles.specs.Ids.{Row, bytesOf, namesOf, rowAt, rowsIn, idAt, idsIn}
 use Rattle.styles.specs.Places.{within, WalkedAt, chainAt, ownAt, meetAt, isVisited, nameOf, Walks, none, again, first, Joined, Resolves}
 use Rattle.styles.specs.Steps as steps
 use Rattle.styles.specs.Steps.{Visits}
+
+pub rows-length : {A : Type 0} (f : ℕ → A) (n i : ℕ) → length (rowsFrom f n i) ≡ n
+unfolding rowsFrom
+rows-length f zero i = refl
+rows-length f (suc n) i = ap suc (rows-length f n (i + 1))
 
 module _ (x z t : List ℕ) where
   names-from : (n i : ℕ) → namesOf x z (rowsFrom (rowAt t) n i) ≡ rowsFrom (idAt x z t) n i
@@ -32,6 +38,22 @@ module _ (x z t : List ℕ) where
   pub names-in : (n : ℕ) → namesOf x z (rowsIn t n) ≡ idsIn x z t n
   unfolding rowsIn idsIn
   names-in n = names-from n 0
+
+pub rows-count : (t : List ℕ) (n : ℕ) → length (rowsIn t n) ≡ n
+unfolding rowsIn
+rows-count t n = rows-length (rowAt t) n 0
+
+-- rows whose names are distinct are
+module _ (x z : List ℕ) where
+  name-member : (a : Row) (l : List Row) → a ∈ l → bytesOf x z a ∈ namesOf x z l
+  unfolding namesOf
+  name-member a (b ∷ l) (List·Memᴰ·head e) = List·Memᴰ·head (ap (bytesOf x z) e)
+  name-member a (b ∷ l) (List·Memᴰ·tail m) = List·Memᴰ·tail (name-member a l m)
+
+  pub distinct-rows : (l : List Row) → Distinct (namesOf x z l) → Distinct l
+  unfolding namesOf
+  distinct-rows [] d = empty
+  distinct-rows (a ∷ l) (fresh h d) = fresh (λ m. h (name-member a l m)) (distinct-rows l d)
 
 -- ---- the next word
 not-some : {A : Type 0} {a : Bytes} {l : List Bytes} → [] ≡ a ∷ l → A
