@@ -23,9 +23,9 @@ use Rattle.styles.specs.Values.{blank, unstyled, laidOver}
 use Rattle.styles.specs.Resolve.{Walked, Resolution, start, walk, answered, resolve}
 use Rattle.styles.specs.Queries.{others, both, styled, withOwn}
 use Rattle.styles.specs.Cells.{overlaid, blankLook, isPlain, Tidy}
-use Rattle.styles.specs.Ids.{Row, rowsIn, idsIn, Held, Unlinked}
+use Rattle.styles.specs.Ids.{Row, bytesOf, namesOf, rowsIn, idsIn, Held, Unlinked}
 use Rattle.styles.specs.Places as places
-use Rattle.styles.specs.Places.{WalkedAt, startAt, laidAt}
+use Rattle.styles.specs.Places.{WalkedAt, forget, startAt, laidAt}
 use Rattle.styles.specs.Steps.{
   stylesIn,
   stateIn,
@@ -43,8 +43,9 @@ use Rattle.styles.specs.Steps.{
   Answered,
   AnswerOver,
 }
-use Rattle.styles.proofs.Clearing.{unlinked-ids, unlinked-rows, unlinked-within}
-use Rattle.styles.proofs.Along.{over-kept, over-longer, walk-none}
+use Rattle.styles.proofs.Clearing.{unlinked-rows, unlinked-within}
+use Rattle.styles.proofs.Along.{over-kept, over-longer}
+use Rattle.styles.proofs.Forgetting.{walk-none, forgets}
 use Rattle.styles.proofs.Lookups.{look-over, no-words}
 use Rattle.styles.proofs.Overlays.{plain-unstyled}
 use Rattle.styles.proofs.Both.{both-ids, both-longer}
@@ -80,13 +81,13 @@ both-nothing styles l = rw (resolve-nothing styles) (append-nil l)
 
 module _ (x s : List ℕ) (f : List Float) (z : List ℕ) (n : ℕ) (first second : Bytes) (t : List ℕ) (w : Walk) (none-yet : w .count ≡ 0)
     (no-style : w .found ≡ false) (plain : w .look ≡ blankLook) (t₁ h₁ : List ℕ) where
-  starts : stateIn x z t w ≡ start
-  unfolding start idsIn rowsFrom lookIn blankLook blank
-  starts = rw (none-yet, no-style, plain)
-
   starts-at : stateAt t w ≡ startAt
   unfolding startAt rowsIn rowsFrom
   starts-at = rw (none-yet, no-style, plain)
+
+  starts : stateIn x z t w ≡ start
+  unfolding start startAt namesOf lookIn blankLook blank
+  starts = ap (forget x z) starts-at
 
   from-start : (e : List ℕ) → walk (stylesIn s f e z n) (words first) (stateIn x z t w) ≡ walk (stylesIn s f e z n) (words first) start
   from-start e = rw starts
@@ -101,9 +102,10 @@ module _ (x s : List ℕ) (f : List Float) (z : List ℕ) (n : ℕ) (first secon
         over-longer t l (l ++ k) (omega (arith, length-append l k)) (rw (from-start e) at (o .over e));
   }
 
-  module _ (one : Row) (a : Walk) (done : Applies x s f z n (words first) t t₁ h₁ w (places.Walks x s f z n one 0) a) where
+  module _ (one : Row) (is-one : bytesOf x z one ≡ first) (a : Walk) (done : Applies (places.Walks x s f z n one 0) x z t t₁ h₁ w a) where
     ends : (e : List ℕ) → walk (stylesIn s f e z n) (words first) start ≡ stateIn x z t₁ a
-    ends e = sym (from-start e) ∙ done .is e
+    unfolding words
+    ends e = sym (from-start e) ∙ rw (← is-one) (forgets x s f e z n (done .is))
 
     first-ids : (e : List ℕ) → stateIn x z t₁ a .visited ≡ resolve (stylesIn s f e z n) first .ids
     unfolding resolve answered
@@ -119,22 +121,23 @@ module _ (x s : List ℕ) (f : List Float) (z : List ℕ) (n : ℕ) (first secon
         over = λ e. over-kept t t₁ (idsOfBoth x s f z n first second t t₁ e) (done .grown .kept) (rw (all-ids e) at (o .over e));
       }
 
-      pub pairs : (two : Row) (b : Walk) → Applies x s f z n (words second) t₁ t₂ h₂ a (places.Walks x s f z n two 0) b
+      pub pairs : (two : Row) → bytesOf x z two ≡ second → (b : Walk) → Applies (places.Walks x s f z n two 0) x z t₁ t₂ h₂ a b
           → (t₃ : List ℕ) → Unlinked t₂ t₃ (b .count)
           → (r : Walk) → r .count ≡ b .count → r .found ≡ a .found → r .look ≡ a .look → Pairs x s f z n first second t t₃ one two r
-      unfolding resolve answered
-      pairs two b more t₃ u r c g k =
+      unfolding resolve answered words
+      pairs two is-two b more t₃ u r c g k =
           let h = more .grown .held in
           record {
             style = λ e. rw (ends e, g, k);
             ids = λ e.
-                rw c (unlinked-ids x z t₂ t₃ (b .count) u (b .count))
-                ∙ (sym (ap (λ (v : Walked). v .visited) (more .is e)) ∙ all-ids e);
+                let on : walk (stylesIn s f e z n) (words second) (stateIn x z t₁ a) ≡ stateIn x z t₂ b = rw (← is-two) (forgets x s f e z n (more .is)) in
+                rw c (ap (namesOf x z) (unlinked-rows x z t₂ t₃ (b .count) u (b .count)))
+                ∙ (sym (ap (λ (v : Walked). v .visited) on) ∙ all-ids e);
             placed = record {
               below = stateAt t₁ a;
               all = stateAt t₂ b;
-              its-style = rw starts-at at (done .placed);
-              its-ids = more .placed;
+              its-style = rw starts-at at (done .is);
+              its-ids = more .is;
               is = rw (c, g, k, unlinked-rows x z t₂ t₃ (b .count) u (b .count));
             };
             tidy = rw k (done .tidy (rw plain tidy-blank));

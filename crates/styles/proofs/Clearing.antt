@@ -10,7 +10,7 @@ use lib.Dec.{eqb, ltb}
 use borrow.Author.Tests.{eqb-true, eqb-false, ltb-true, ltb-false}
 use Rattle.unicode.proofs.Utf8Laws.{by-test}
 use Rattle.track.specs.Tables.{rowsFrom}
-use Rattle.styles.specs.Ids.{bytesOf, rowAt, rowsIn, idAt, idsIn, RowWithin, Unlinked}
+use Rattle.styles.specs.Ids.{rowAt, rowsIn, RowWithin, Unlinked}
 use Rattle.styles.proofs.Search.{rows-same}
 
 pub unlinked-none : (t : List ℕ) → Unlinked t t 0
@@ -37,14 +37,6 @@ module _ (x z t t′ : List ℕ) (n : ℕ) (u : Unlinked t t′ n) where
   same-row : (i : ℕ) → rowAt t′ i ≡ rowAt t i
   unfolding rowAt
   same-row i = rw (first-cell i, u .others i 1 (omega arith), u .others i 2 (omega arith))
-
-  same-id : (i : ℕ) → idAt x z t′ i ≡ idAt x z t i
-  unfolding idAt
-  same-id i = ap (bytesOf x z) (same-row i)
-
-  pub unlinked-ids : (m : ℕ) → idsIn x z t′ m ≡ idsIn x z t m
-  unfolding idsIn
-  unlinked-ids m = rows-same (idAt x z t′) (idAt x z t) m 0 (λ k l. same-id k)
 
   pub unlinked-rows : (m : ℕ) → rowsIn t′ m ≡ rowsIn t m
   unfolding rowsIn

@@ -1,8 +1,7 @@
 -- What the lookups in the tables give the walk. Assumes nothing.
 --     look-over                    an overlay of what the program holds means the overlay
 --     chain-row, chain-none          the parents of an id, where a row with a chain is found, and where none is
---     own-row, own-none              the same of its own style
---     chain-at, no-chain-at, own-at, no-own-at      the four with places
+--     chain-at, no-chain-at, own-at, no-own-at      chain and own style with places
 use Prim.Native.Nat.{ℕ, _+_, _*_, _≤_, _<_}
 use mathlib.Core.Path.{_≡_, refl, sym, ap, _∙_}
 use mathlib.Core.Bool.{Bool, true, false, cond, not, _&&_, _||_}
@@ -96,15 +95,6 @@ module _ (s : List ℕ) (f : List Float) (e z : List ℕ) (n : ℕ) (name : Byte
   module _ (i : ℕ) (h : firstRow s z name 27 n 0 ≡ Found.Row i) where
     pub own-row-within : i < n
     own-row-within = omega (arith, row-first s z name 27 n i h .within)
-
-    pub own-row : (x t : List ℕ) (w r : Walk) → r .count ≡ w .count → r .found ≡ true → r .look ≡ overlaid (w .look) (styleAt s f i .look)
-        → stateIn x z t r ≡ own (stylesIn s f e z n) name (stateIn x z t w)
-    unfolding own
-    own-row x t w r a b c = rw (style-found tables name n, h, row-look i, a, b, c, look-over z (w .look) (styleAt s f i .look))
-
-  pub own-none : firstRow s z name 27 n 0 ≡ Found.Nothing → (w : Walked) → w ≡ own (stylesIn s f e z n) name w
-  unfolding own
-  own-none h w = rw (style-found tables name n, h)
 
 -- ---- with places
 module _ (s z : List ℕ) (n : ℕ) (name : Bytes) where

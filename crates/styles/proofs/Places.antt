@@ -1,8 +1,7 @@
 -- The walk with places. Assumes nothing.
---     names-in, rows-count, distinct-rows      the names of rows are their ids; how many; none twice
+--     rows-count, ids-length, distinct-rows    how many rows; none twice
 --     visits-walks                 a word, then those after it
 --     walks-only, resolves-only    it has one outcome at most
---     forgets                      with its places forgotten it is the walk of `Resolve`
 use Prim.Native.Nat.{ℕ, zero, suc, _+_, _-_, _*_, _≤_, _<_}
 use mathlib.Core.Path.{_≡_, refl, sym, ap, _∙_}
 use mathlib.Core.Bool.{Bool, true, false}
@@ -19,29 +18,27 @@ use Rattle.track.specs.declared.values.Look.{Look}
 use Rattle.track.specs.Track.{Bytes}
 use Rattle.track.specs.Tables.{rowsFrom}
 use Rattle.styles.specs.Reaches.{_∈_, Distinct, empty, fresh}
-use Rattle.styles.specs.Ids.{Row, bytesOf, namesOf, rowAt, rowsIn, idAt, idsIn}
+use Rattle.styles.specs.Ids.{Row, bytesOf, namesOf, rowAt, rowsIn, idsIn}
 use Rattle.styles.specs.Places.{within, WalkedAt, chainAt, ownAt, meetAt, isVisited, nameOf, Walks, none, again, first, Joined, Resolves}
 use Rattle.styles.specs.Steps as steps
 use Rattle.styles.specs.Steps.{Visits}
 
-pub rows-length : {A : Type 0} (f : ℕ → A) (n i : ℕ) → length (rowsFrom f n i) ≡ n
+rows-length : {A : Type 0} (f : ℕ → A) (n i : ℕ) → length (rowsFrom f n i) ≡ n
 unfolding rowsFrom
 rows-length f zero i = refl
 rows-length f (suc n) i = ap suc (rows-length f n (i + 1))
 
-module _ (x z t : List ℕ) where
-  names-from : (n i : ℕ) → namesOf x z (rowsFrom (rowAt t) n i) ≡ rowsFrom (idAt x z t) n i
-  unfolding namesOf rowsFrom idAt
-  names-from zero i = refl
-  names-from (suc n) i = rw (names-from n (i + 1))
-
-  pub names-in : (n : ℕ) → namesOf x z (rowsIn t n) ≡ idsIn x z t n
-  unfolding rowsIn idsIn
-  names-in n = names-from n 0
-
 pub rows-count : (t : List ℕ) (n : ℕ) → length (rowsIn t n) ≡ n
 unfolding rowsIn
 rows-count t n = rows-length (rowAt t) n 0
+
+names-length : (x z : List ℕ) (l : List Row) → length (namesOf x z l) ≡ length l
+unfolding namesOf
+names-length x z [] = refl
+names-length x z (a ∷ l) = ap suc (names-length x z l)
+
+pub ids-length : (x z t : List ℕ) (n : ℕ) → length (idsIn x z t n) ≡ n
+ids-length x z t n = names-length x z (rowsIn t n) ∙ rows-count t n
 
 -- rows whose names are distinct are
 module _ (x z : List ℕ) where

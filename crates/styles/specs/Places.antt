@@ -15,8 +15,10 @@ use Rattle.track.specs.declared.strings.Span.{Span}
 use Rattle.track.specs.declared.values.Look.{Look}
 use Rattle.track.specs.Track.{Bytes}
 use Rattle.track.specs.Tables.{span, styleAt}
+use Rattle.track.specs.Meaning.{lookIn}
 use Rattle.records.specs.declared.find.Found.{Found}
 use Rattle.records.specs.Find.{firstRow, firstWith}
+use Rattle.styles.specs.Resolve.{Walked}
 use Rattle.styles.specs.Cells.{overlaid, blankLook, isPlain}
 use Rattle.styles.specs.Ids.{Row, bytesOf, namesOf}
 
@@ -27,11 +29,15 @@ row source x = record { source = source; place = x .place; len = x .len }
 abbrev pub within : Row → ℕ → ℕ → Row
 within r a e = record { source = r .source; place = r .place + a; len = e - a }
 
--- what is known on the way (`Resolve`'s `Walked`)
+-- what is known on the way, as in `Resolve`
 pub record WalkedAt : Type 0 where
   pub visited : List Row
   pub found : Bool
   pub look : Look
+
+-- the same without places
+abbrev pub forget : (text z : Bytes) → WalkedAt → Walked
+forget text z w = record { visited = namesOf text z (w .visited); found = w .found; look = lookIn z (w .look) }
 
 unfoldable pub startAt : WalkedAt
 unfolding blankLook

@@ -8,8 +8,6 @@ use mathlib.Core.List.{List, [], _++_}
 use mathlib.Core.Option.{Option, none, some}
 use lib.ListN.{length, getD}
 use lib.Ieee.{Float}
-use Rattle.scan.specs.Part.{stringAt}
-use Rattle.unicode.specs.White.{words}
 use Rattle.track.specs.declared.strings.Span.{Span}
 use Rattle.track.specs.declared.values.Look as values
 use Rattle.track.specs.Track.{Bytes, Look, Style}
@@ -18,9 +16,8 @@ use Rattle.track.specs.Meaning.{isColor, given, lookIn, styleIn}
 use Rattle.records.specs.Find.{Named}
 use Rattle.styles.specs.declared.apply.Walk.{Walk}
 use Rattle.styles.specs.declared.apply.Applied.{Applied}
-use Rattle.styles.specs.Reaches.{parents}
 use Rattle.styles.specs.Values.{laidOver}
-use Rattle.styles.specs.Resolve.{Walked, Resolution, own, walk, resolve}
+use Rattle.styles.specs.Resolve.{Walked, Resolution, walk, resolve}
 use Rattle.styles.specs.Queries.{others, both, withOwn}
 use Rattle.styles.specs.Cells.{Tidy}
 use Rattle.styles.specs.Ids.{sourceOf, Row, rowsIn, idsIn, RowWithin, Held}
@@ -34,6 +31,7 @@ use Rattle.styles.specs.Places.{
   nameOf,
   isVisited,
   Walks,
+  forget,
   Joined,
   Resolves,
 }
@@ -59,13 +57,12 @@ bare s f e z = record {
 abbrev pub stylesIn : List ℕ → List Float → List ℕ → List ℕ → ℕ → List (Style Bytes)
 stylesIn s f e z n = rowsFrom (styleIn (bare s f e z)) n 0
 
--- what is known on the way
-abbrev pub stateIn : (x z t : List ℕ) → Walk → Walked
-stateIn x z t w = record { visited = idsIn x z t (w .count); found = w .found; look = lookIn z (w .look) }
-
--- the same with places
+-- what is known on the way, with places and without
 abbrev pub stateAt : (t : List ℕ) → Walk → WalkedAt
 stateAt t w = record { visited = rowsIn t (w .count); found = w .found; look = w .look }
+
+abbrev pub stateIn : (x z t : List ℕ) → Walk → Walked
+stateIn x z t w = forget x z (stateAt t w)
 
 -- ---- what is asked
 pub record Chained (s z : List ℕ) (n : ℕ) : Type 0 where
@@ -90,14 +87,12 @@ pub record Stands (x z own : List ℕ) (source at len : ℕ) : Type 0 where
 pub record ChainOf (s z : List ℕ) (n : ℕ) (name : Bytes) (r : Span) : Type 0 where
   pub within : r .place + r .len ≤ length z
   pub few : r .place + r .len ≤ 65536
-  pub is : (f : List Float) (e : List ℕ) → parents (stylesIn s f e z n) name ≡ words (stringAt z (r .place) (r .len))
-  pub placed : row 1 r ≡ chainAt s z n name
+  pub is : row 1 r ≡ chainAt s z n name
 
 pub record OwnStyle (s : List ℕ) (f : List Float) (z : List ℕ) (n : ℕ) (name : Bytes) (w r : Walk) : Type 0 where
   pub count : r .count ≡ w .count
   pub tidy : Tidy (w .look) → Tidy (r .look)
-  pub is : (e x t : List ℕ) → stateIn x z t r ≡ own (stylesIn s f e z n) name (stateIn x z t w)
-  pub placed : (t : List ℕ) → stateAt t r ≡ ownAt s f z n name (stateAt t w)
+  pub is : (t : List ℕ) → stateAt t r ≡ ownAt s f z n name (stateAt t w)
 
 -- rows were added, and all stand as they should; those behind them are as they were
 pub record Grown (x z t t′ heads : List ℕ) (n n′ : ℕ) : Type 0 where
@@ -116,22 +111,21 @@ pub data Visits (x s : List ℕ) (f : List Float) (z : List ℕ) (n : ℕ) (a : 
   first : {m : WalkedAt} → isVisited x s f z n a w ≡ false → Walks x s f z n (chainAt s z n (nameOf x s f z n a)) 0 (meetAt a w) m
       → v ≡ ownAt s f z n (nameOf x s f z n a) m → Visits x s f z n a w v
 
+-- something is done
+pub record Applies (does : WalkedAt → WalkedAt → Type 0) (x z t t′ heads : List ℕ) (w r : Walk) : Type 0 where
+  pub grown : Grown x z t t′ heads (w .count) (r .count)
+  pub tidy : Tidy (w .look) → Tidy (r .look)
+  pub is : does (stateAt t w) (stateAt t′ r)
+
+-- or ids that are applied are too many
 module _ (x s : List ℕ) (f : List Float) (z : List ℕ) (n : ℕ) (ids : List Bytes) (t t′ heads : List ℕ) (w : Walk) where
   pub record Overflows : Type 0 where
     pub kept : length t′ ≡ length t
     pub over : (e : List ℕ) → Over t (walk (stylesIn s f e z n) ids (stateIn x z t w) .visited)
 
-  -- `places` says with places what is done
-  module _ (places : WalkedAt → WalkedAt → Type 0) where
-    pub record Applies (r : Walk) : Type 0 where
-      pub grown : Grown x z t t′ heads (w .count) (r .count)
-      pub tidy : Tidy (w .look) → Tidy (r .look)
-      pub is : (e : List ℕ) → walk (stylesIn s f e z n) ids (stateIn x z t w) ≡ stateIn x z t′ r
-      pub placed : places (stateAt t w) (stateAt t′ r)
-
-    abbrev pub ApplyPost : Applied → Type 0
-    ApplyPost (Applied.Done r) = Applies r
-    ApplyPost Applied.Full = Overflows
+  abbrev pub ApplyPost : (WalkedAt → WalkedAt → Type 0) → Applied → Type 0
+  ApplyPost does (Applied.Done r) = Applies does x z t t′ heads w r
+  ApplyPost does Applied.Full = Overflows
 
 -- ---- answers
 abbrev pub styleOf : List ℕ → Walk → Option (Look Bytes)

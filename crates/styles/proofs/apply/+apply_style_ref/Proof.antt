@@ -10,19 +10,15 @@ use Rattle.scan.specs.Part.{part, stringAt}
 use Rattle.track.specs.Tables.{span}
 use Rattle.styles.specs.Places.{row}
 use Rattle.styles.proofs.Along.{
-  word-part,
   part-length,
   Along,
   along-start,
   along-step,
   along-done,
-  along-placed,
   chain-length,
   chain-here,
-  along-full,
   word-end,
   word-within,
-  step-in,
   full-in,
 }
 use Rattle.styles.proofs.Applying.{
@@ -371,9 +367,8 @@ apply-style-ref-returns-4 t c =
     } in
     applied-first _ _ _ _ _ _ _ _ _ _ _ entry _ _ _ _ (c8 .chain-of .ensures) _ _
     _ _ (c6 .loop .inv .grown)
-    (c6 .loop .inv .tidy) (along-done _ _ _ _ _ _ _ _ _ _ _ _ _ (c6 .loop .inv) (rw (c .before .before .enum-told .given .1) at
-    (c4 .next-word .ensures)))
-    (rw (chain-length (c8 .chain-of .result)) at (along-placed _ _ _ _ _ _ _ _ _ _ _ _ _ (c6 .loop .inv) (chain-here _ (c8 .chain-of .result))
+    (c6 .loop .inv .tidy)
+    (rw (chain-length (c8 .chain-of .result)) at (along-done _ _ _ _ _ _ _ _ _ _ _ _ _ (c6 .loop .inv) (chain-here _ (c8 .chain-of .result))
     (rw (c .before .before .enum-told .given .1) at (c4 .next-word .ensures)))) (c .own-style .ensures)
 
 apply-style-ref-enum-known-x : (t : ℕ) → apply-style-ref-lts.Need-enum-known-x (claims t) (apply-style-ref-at t) apply-style-ref.Post
@@ -523,8 +518,7 @@ apply-style-ref-loop-again t c =
     let c16 = c14 .before .before in
     let c18 = c16 .before .before in
     let w = rw (c12 .x .given .1) at (c14 .next-word .ensures) in
-    step-in _ _ _ _ _ _ _ _ _ _ _ (omega arith) (c18 .chain-of .ensures .within) _ _ _ _ (c16 .loop .inv) _ _ w _ _
-    (chain-here _ (c18 .chain-of .result)) _ (rw (c .before .t .given .1)
+    along-step _ _ _ _ _ _ _ _ _ _ _ _ _ (c16 .loop .inv) _ _ w (chain-here _ (c18 .chain-of .result)) _ _ _ (rw (c .before .t .given .1)
     at (c7 .apply-style-ref .ensures))
 
 pub +apply-style-ref-spec : {M : Type 1} → statement M

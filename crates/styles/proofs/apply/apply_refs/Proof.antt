@@ -1,5 +1,5 @@
 -- `apply_refs` meets its contract. The loop's invariant is `Along` the words of the value. Assumes nothing.
-use Rattle.styles.proofs.Along.{part-length, Along, along-start, along-done, along-placed, word-end, word-within, step-in, full-in}
+use Rattle.styles.proofs.Along.{part-length, Along, along-start, along-step, along-done, word-end, word-within, full-in}
 use Rattle.styles.proofs.Applying.{stands-name}
 use Prim.Native.Nat.{_+_, _-_, _≤_}
 use mathlib.Core.Path.{_≡_, refl, sym, _∙_}
@@ -57,9 +57,7 @@ unfolding stringAt
 returns c = record {
   grown = c .before .before .before .before .loop .inv .grown;
   tidy = c .before .before .before .before .loop .inv .tidy;
-  is = along-done _ _ _ _ _ _ _ _ _ _ _ _ _ (c .before .before
-      .before .before .loop .inv) (rw (c .enum-told .given .1) at (c .before .before .next-word .ensures));
-  placed = along-placed _ _ _ _ _ _ _ _ _ _ _ _ _ (c .before .before .before .before .loop .inv)
+  is = along-done _ _ _ _ _ _ _ _ _ _ _ _ _ (c .before .before .before .before .loop .inv)
       (stands-name _ _ _ _ _ _ (c .before .before .before .before .before .before .before .before .before .before .before .before .pre .1))
       (rw (c .enum-told .given .1) at (c .before .before .next-word .ensures));
 }
@@ -163,11 +161,11 @@ unfolding stringAt
 loop-again c =
     let w = rw (c .before .before .before .before .before .before .before .before .before .before .before .before .x .given .1) at (c .before
     .before .before .before .before .before .before .before .before .before .before .before .before .before .next-word .ensures) in
-    step-in _ _ _ _ _ _ _ _ _ _ _ (omega arith) (c .before .before .before .before .before .before .before .before .before .before .before .before
-    .before .before .before .before .before .before .before .before .before .before .before .before .pre .1 .within) _ _ _ _ (c .before .before
-    .before .before .before .before .before .before .before .before .before .before .before .before .before .before .loop .inv) _ _ w _ _
-    (stands-name _ _ _ _ _ _ (c .before .before .before .before .before .before .before .before .before .before .before .before
-    .before .before .before .before .before .before .before .before .before .before .before .before .pre .1)) _ (rw (c .before .t .given .1) at (c .before .before .before .before .before .before .before .apply-style-ref .ensures))
+    let c7 = c .before .before .before .before .before .before .before in
+    let c16 = c7 .before .before .before .before .before .before .before .before .before in
+    let c24 = c16 .before .before .before .before .before .before .before .before in
+    along-step _ _ _ _ _ _ _ _ _ _ _ _ _ (c16 .loop .inv) _ _ w (stands-name _ _ _ _ _ _ (c24 .pre .1)) _ _ _
+    (rw (c .before .t .given .1) at (c7 .apply-style-ref .ensures))
 
 pub apply-refs-spec : {M : Type 1} → statement M
 apply-refs-spec =
