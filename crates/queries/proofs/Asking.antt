@@ -45,7 +45,7 @@ use Rattle.styles.specs.Queries.{
   nth,
 }
 use Rattle.styles.specs.Cells.{blankLook, Tidy}
-use Rattle.styles.specs.Ids.{Row, rowsIn, idsIn}
+use Rattle.styles.specs.Ids.{Row, namesOf, rowsIn}
 use Rattle.styles.specs.Places.{row, WalkedAt, startAt, Resolves}
 use Rattle.styles.specs.Steps as styles
 use Rattle.styles.specs.Steps.{stylesIn, stateAt, AnswerPost, Stood}
@@ -254,7 +254,7 @@ module _ (T : Tables) (i : ℕ) (lent : List ℕ) (h : queryCheck [] T ≡ Check
   none-there l = rw (nth-past (cueIn T) (cueCount (T .head)) 0 i l)
 
   pub cue-past : cueCount (T .head) ≤ i → (left : List ℕ) → left ≡ replicate (length lent) 0 → EffectiveStyle T i lent (Resolved.NoStyle 0) left
-  unfolding nothing idsIn rowsIn rowsFrom stringAt startAt
+  unfolding nothing namesOf rowsIn rowsFrom stringAt startAt
   cue-past l left z =
       given-query [] T lent (askedCue i) (λ k. ByCue k i) (PlacedCue T i) [] (span 0 0) h nothing (none-there l)
       (cue-exactly (trackAt T) i nothing (none-there l)) left

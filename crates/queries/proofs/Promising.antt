@@ -35,9 +35,8 @@ use Rattle.styles.specs.Cells.{Tidy}
 use Rattle.styles.specs.Ids.{rowsIn, idsIn, RowWithin}
 use Rattle.styles.specs.Places.{WalkedAt}
 use Rattle.styles.specs.Steps.{stateAt, Over, styleOf, Stood}
-use Rattle.styles.proofs.Along.{ids-length}
 use Rattle.styles.proofs.Members.{same-count}
-use Rattle.styles.proofs.Places.{names-in, rows-count, distinct-rows}
+use Rattle.styles.proofs.Places.{rows-count, ids-length, distinct-rows}
 use Rattle.queries.specs.declared.query.Resolved.{Resolved}
 use Rattle.queries.specs.Promise.{
   numberOf,
@@ -246,7 +245,7 @@ module _ (text : Bytes) (T : Tables) (lent : List ℕ) (ask : Asked) (reached : 
               (λ t. behind (i * 4 + 3) (omega (arith, ltb-false i (w .count) t)))
 
           once : Distinct (rowsIn left (w .count))
-          once = distinct-rows text (T .strings) (rowsIn left (w .count)) (rw (names-in text (T .strings) left (w .count), ids-are) (exactly .once))
+          once = distinct-rows text (T .strings) (rowsIn left (w .count)) (rw ids-are (exactly .once))
 
           as-placed : (answer : Resolved) → countOf answer ≡ w .count → answer ≡ answerOf at w → Placed placed at answer left
           as-placed answer c e = record {

@@ -19,7 +19,8 @@ use Rattle.scan.specs.Part.{stringAt}
 use Rattle.scan.proofs.Stores.{sets-other}
 use Rattle.unicode.proofs.Utf8Laws.{by-test}
 use Rattle.track.specs.Track.{Bytes}
-use Rattle.styles.specs.Ids.{sourceOf, bytesOf, rowAt, rowsIn, idAt, idsIn, RowWithin, hashOf, turn, half, fromOne, met, Tree, Held, Ends, Added, AddPost}
+use Rattle.styles.specs.Ids.{sourceOf, bytesOf, rowAt, rowsIn, idAt, RowWithin, hashOf, turn, half, fromOne, met, Tree, Held, Ends, Added}
+use Rattle.styles.specs.Ids.{AddPost}
 use Rattle.styles.proofs.Search.{rows-same, row-last, from-some, met-first, met-next, met-none, met-cases, met-le}
 
 pub sets-cell : (w t : List ℕ) (i k : ℕ) → k < length w → i + length w ≤ length t → getD (sets t i w) (i + k) 0 ≡ getD w k 0

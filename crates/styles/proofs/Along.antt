@@ -82,7 +82,13 @@ module _ (x s : List ℕ) (f : List Float) (z : List ℕ) (n : ℕ) (chain : Byt
 
   pub along-start : (heads : List ℕ) → Held x z t₀ heads (w₀ .count) → Along 0 t₀ heads w₀
   unfolding words
-  along-start heads h = record { place = omega arith; grown = grown-none x z t₀ heads (w₀ .count) h; tidy = λ k. k; goes = λ e. refl; placed = λ v d. d }
+  along-start heads h = record {
+    place = omega arith;
+    grown = grown-none x z t₀ heads (w₀ .count) h;
+    tidy = λ k. k;
+    goes = λ e. refl;
+    placed = λ v d. d;
+  }
 
   module _ (p : ℕ) (t heads : List ℕ) (w : Walk) (here : Along p t heads w) where
     pub along-done : bytesOf x z c ≡ chain → NextWord chain p Nothing → places.Walks x s f z n c 0 (stateAt t₀ w₀) (stateAt t w)
@@ -122,8 +128,8 @@ module _ (x s : List ℕ) (f : List Float) (z : List ℕ) (n : ℕ) (chain : Byt
           (h .over e))
 
 -- ---- the same where the chain is a part of some bytes y, and its word is applied as a part of those
-module _ (x s : List ℕ) (f : List Float) (z : List ℕ) (n : ℕ) (y : List ℕ) (from to : ℕ) (t₀ : List ℕ) (w₀ : Walk) (c : Row) (order : from ≤ to) (fits : to
-    ≤ length y)
+module _ (x s : List ℕ) (f : List Float) (z : List ℕ) (n : ℕ) (y : List ℕ) (from to : ℕ) (t₀ : List ℕ) (w₀ : Walk) (c : Row)
+    (order : from ≤ to) (fits : to ≤ length y)
     (p : ℕ) (t heads : List ℕ) (w : Walk) (here : Along x s f z n (part from to y) t₀ w₀ c p t heads w)
     (a q : ℕ) (next : WordAt (part from to y) p a q) (t′ heads′ : List ℕ)
   where

@@ -130,7 +130,8 @@ module _ (x s : List ℕ) (f : List Float) (z : List ℕ) (n : ℕ) (first secon
           record {
             style = λ e. rw (ends e, g, k);
             ids = λ e.
-                let on : walk (stylesIn s f e z n) (words second) (stateIn x z t₁ a) ≡ stateIn x z t₂ b = rw (← is-two) (forgets x s f e z n (more .is)) in
+                let on : walk (stylesIn s f e z n) (words second) (stateIn x z t₁ a) ≡ stateIn x z t₂ b =
+                rw (← is-two) (forgets x s f e z n (more .is)) in
                 rw c (ap (namesOf x z) (unlinked-rows x z t₂ t₃ (b .count) u (b .count)))
                 ∙ (sym (ap (λ (v : Walked). v .visited) on) ∙ all-ids e);
             placed = record {
@@ -220,7 +221,12 @@ module _ (x s : List ℕ) (f : List Float) (z : List ℕ) (n : ℕ) (first secon
             above = alone .placed .below;
             joined = pair .placed;
             second = alone .placed .its-style;
-            is = above .placed t₂ ∙ rw (below .placed t₂, ap (λ (w : WalkedAt). w .found) (alone .placed .is), ap (λ (w : WalkedAt). w .look) (alone .placed .is));
+            is = above .placed t₂
+                ∙ rw (
+                  below .placed t₂,
+                  ap (λ (w : WalkedAt). w .found) (alone .placed .is),
+                  ap (λ (w : WalkedAt). w .look) (alone .placed .is),
+                );
           };
           tidy = λ h. above .tidy (below .tidy (pair .tidy) h) (alone .tidy);
           kept = pair .kept ∙ as-long;

@@ -102,8 +102,8 @@ module _ (x z own : List ℕ) (source at len : ℕ) (t heads t₁ heads₁ : Lis
     unfolding meetAt
     meets-at = rw (added .rows)
 
-    unvisited : (s : List ℕ) (f : List Float) (n : ℕ) → isVisited x s f z n here (stateAt t w) ≡ false
-    unvisited s f n = rw named (entry .new)
+    unvisited : isVisited x z here (stateAt t w) ≡ false
+    unvisited = rw named (entry .new)
 
     meets-id : stateIn x z t₁ entered ≡ meet (stringAt own at len) (stateIn x z t w)
     meets-id = ap (forget x z) meets-at ∙ (meets x z here (stateAt t w) ∙ ap (λ (b : Bytes). meet b (stateIn x z t w)) named)
@@ -124,7 +124,7 @@ module _ (x z own : List ℕ) (source at len : ℕ) (t heads t₁ heads₁ : Lis
       applied-first t₂ heads₂ v r g d l o = record {
         grown = rw (o .count) (grown-more x z t t₁ t₂ heads₁ heads₂ (w .count) (w .count + 1) (v .count) entered-grown g);
         tidy = λ h. o .tidy (d h);
-        is = first {m = stateAt t₂ v} (unvisited s f n) (rw (named, ← (of .is), ← meets-at) l) (rw named (o .is t₂));
+        is = first {m = stateAt t₂ v} unvisited (rw (named, ← (of .is), ← meets-at) l) (rw named (o .is t₂));
       }
 
       pub applied-over : (t₂ heads₂ : List ℕ) → length t₂ ≡ length t₁ → ((e : List ℕ) → Over t₁ (walked e .visited))

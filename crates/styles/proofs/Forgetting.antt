@@ -92,10 +92,10 @@ module _ (x s : List ℕ) (f : List Float) (e z : List ℕ) (n : ℕ) where
 
   -- one id
   module _ (a : Row) (w : WalkedAt) where
-    seen : isVisited x s f z n a w ≡ true → walk styles (bytesOf x z a ∷ []) (forget x z w) ≡ forget x z w
+    seen : isVisited x z a w ≡ true → walk styles (bytesOf x z a ∷ []) (forget x z w) ≡ forget x z w
     seen h = walk-is styles .again (bytesOf x z a) [] (forget x z w) h ∙ walk-none styles (forget x z w)
 
-    new : (m : WalkedAt) → isVisited x s f z n a w ≡ false
+    new : (m : WalkedAt) → isVisited x z a w ≡ false
         → walk styles (words (bytesOf x z (chainAt s z n (bytesOf x z a)))) (forget x z (meetAt a w)) ≡ forget x z m
         → walk styles (bytesOf x z a ∷ []) (forget x z w) ≡ forget x z (ownAt s f z n (bytesOf x z a) m)
     new m h k =

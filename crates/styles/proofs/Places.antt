@@ -19,7 +19,7 @@ use Rattle.track.specs.Track.{Bytes}
 use Rattle.track.specs.Tables.{rowsFrom}
 use Rattle.styles.specs.Reaches.{_∈_, Distinct, empty, fresh}
 use Rattle.styles.specs.Ids.{Row, bytesOf, namesOf, rowAt, rowsIn, idsIn}
-use Rattle.styles.specs.Places.{within, WalkedAt, chainAt, ownAt, meetAt, isVisited, nameOf, Walks, none, again, first, Joined, Resolves}
+use Rattle.styles.specs.Places.{within, WalkedAt, chainAt, ownAt, meetAt, isVisited, Walks, none, again, first, Joined, Resolves}
 use Rattle.styles.specs.Steps as steps
 use Rattle.styles.specs.Steps.{Visits}
 
@@ -72,27 +72,27 @@ module _ {y : Bytes} {p : ℕ} where
 
 -- ---- one outcome
 module _ (x s : List ℕ) (f : List Float) (z : List ℕ) (n : ℕ) where
-  pub visits-walks : {r : Row} {p a e : ℕ} {w m v : WalkedAt} → WordAt (nameOf x s f z n r) p a e → Visits x s f z n (within r a e) w m
+  pub visits-walks : {r : Row} {p a e : ℕ} {w m v : WalkedAt} → WordAt (bytesOf x z r) p a e → Visits x s f z n (within r a e) w m
       → Walks x s f z n r e m v → Walks x s f z n r p w v
   visits-walks k (steps.again h q) d = again k h (rw q at d)
   visits-walks k (steps.first h c q) d = first k h c (rw q at d)
 
   module _ {r : Row} {p : ℕ} {w v u : WalkedAt} where
-    none-only : NextWord (nameOf x s f z n r) p Nothing → v ≡ w → Walks x s f z n r p w u → v ≡ u
+    none-only : NextWord (bytesOf x z r) p Nothing → v ≡ w → Walks x s f z n r p w u → v ≡ u
     none-only h e (none k q) = e ∙ sym q
     none-only h e (again k i d) = word-none h k
     none-only h e (first k i c d) = word-none h k
 
-    module _ {a e : ℕ} (h : WordAt (nameOf x s f z n r) p a e) (onward : Walks x s f z n r e w u → v ≡ u) where
-      again-only : isVisited x s f z n (within r a e) w ≡ true → Walks x s f z n r p w u → v ≡ u
+    module _ {a e : ℕ} (h : WordAt (bytesOf x z r) p a e) (onward : Walks x s f z n r e w u → v ≡ u) where
+      again-only : isVisited x z (within r a e) w ≡ true → Walks x s f z n r p w u → v ≡ u
       again-only i (none k q) = word-none k h
       again-only i (again k j d) = onward (rw (word-ends h k) at d)
       again-only i (first k j c d) = no (sym i ∙ (rw (word-starts h k, word-ends h k) at j))
 
-    module _ {a e : ℕ} {m : WalkedAt} (h : WordAt (nameOf x s f z n r) p a e)
-        (upward : (l : WalkedAt) → Walks x s f z n (chainAt s z n (nameOf x s f z n (within r a e))) 0 (meetAt (within r a e) w) l → l ≡ m)
-        (onward : Walks x s f z n r e (ownAt s f z n (nameOf x s f z n (within r a e)) m) u → v ≡ u) where
-      first-only : isVisited x s f z n (within r a e) w ≡ false → Walks x s f z n r p w u → v ≡ u
+    module _ {a e : ℕ} {m : WalkedAt} (h : WordAt (bytesOf x z r) p a e)
+        (upward : (l : WalkedAt) → Walks x s f z n (chainAt s z n (bytesOf x z (within r a e))) 0 (meetAt (within r a e) w) l → l ≡ m)
+        (onward : Walks x s f z n r e (ownAt s f z n (bytesOf x z (within r a e)) m) u → v ≡ u) where
+      first-only : isVisited x z (within r a e) w ≡ false → Walks x s f z n r p w u → v ≡ u
       first-only i (none k q) = word-none k h
       first-only i (again k j d) = no (sym (rw (word-starts h k, word-ends h k) at j) ∙ i)
       first-only i (first k j c d) =

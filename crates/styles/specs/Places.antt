@@ -1,6 +1,6 @@
--- Where the ids of an answer and its font family stand: the walk of `Resolve`, of strings by their places in place of their bytes. An id is a row of
--- the table of ids, and a look the program's struct, in which a family is a part of the strings. Definitions alone. `proofs/Places` shows that
--- the walk has one outcome at most, and that with its places forgotten it is that of `Resolve`.
+-- Where the ids of an answer and its font family stand: the walk of `Resolve`, with strings by their places and not by their bytes. An id is a row
+-- of the table of ids, and a look the program's struct, in which a family is a part of the strings. Definitions alone. The walk has one outcome
+-- at most (`proofs/Places`); with its places forgotten it is the walk of `Resolve` (`proofs/Forgetting`).
 --     s is the styles' table, f the sizes, z the strings, n the number of styles
 use Prim.Native.Nat.{ℕ, _+_, _-_, _*_}
 use mathlib.Core.Path.{_≡_}
@@ -22,10 +22,11 @@ use Rattle.styles.specs.Resolve.{Walked}
 use Rattle.styles.specs.Cells.{overlaid, blankLook, isPlain}
 use Rattle.styles.specs.Ids.{Row, bytesOf, namesOf}
 
-abbrev pub row : ℕ → Span → Row
+-- a string of a source
+abbrev pub row : (source : ℕ) → Span → Row
 row source x = record { source = source; place = x .place; len = x .len }
 
--- the part of a string from a to e
+-- its part from a to e
 abbrev pub within : Row → ℕ → ℕ → Row
 within r a e = record { source = r .source; place = r .place + a; len = e - a }
 
@@ -38,6 +39,9 @@ pub record WalkedAt : Type 0 where
 -- the same without places
 abbrev pub forget : (text z : Bytes) → WalkedAt → Walked
 forget text z w = record { visited = namesOf text z (w .visited); found = w .found; look = lookIn z (w .look) }
+
+abbrev pub isVisited : (text z : Bytes) → Row → WalkedAt → Bool
+isVisited text z a w = isIn (bytesOf text z a) (namesOf text z (w .visited))
 
 unfoldable pub startAt : WalkedAt
 unfolding blankLook
@@ -71,20 +75,15 @@ laidAt w true x = record { visited = w .visited; found = true; look = cond (w .f
 laidAt w false x = w
 
 module _ (text s : List ℕ) (f : List Float) (z : List ℕ) (n : ℕ) where
-  abbrev pub nameOf : Row → Bytes
-  nameOf a = bytesOf text z a
-
-  abbrev pub isVisited : Row → WalkedAt → Bool
-  isVisited a w = isIn (nameOf a) (namesOf text z (w .visited))
-
   -- "In a chain each parent is applied before the style itself, and a visited id contributes nothing." The words of the string r, from its place p
   -- on, take what is known from w to v: there is none; or the next one, from a to e, was visited before; or it was not.
   pub data Walks : Row → ℕ → WalkedAt → WalkedAt → Type 0 where
-    none : {r : Row} {p : ℕ} {w v : WalkedAt} → NextWord (nameOf r) p Nothing → v ≡ w → Walks r p w v
-    again : {r : Row} {p a e : ℕ} {w v : WalkedAt} → WordAt (nameOf r) p a e → isVisited (within r a e) w ≡ true → Walks r e w v → Walks r p w v
-    first : {r : Row} {p a e : ℕ} {w m v : WalkedAt} → WordAt (nameOf r) p a e → isVisited (within r a e) w ≡ false
-        → Walks (chainAt s z n (nameOf (within r a e))) 0 (meetAt (within r a e) w) m
-        → Walks r e (ownAt s f z n (nameOf (within r a e)) m) v → Walks r p w v
+    none : {r : Row} {p : ℕ} {w v : WalkedAt} → NextWord (bytesOf text z r) p Nothing → v ≡ w → Walks r p w v
+    again : {r : Row} {p a e : ℕ} {w v : WalkedAt} → WordAt (bytesOf text z r) p a e → isVisited text z (within r a e) w ≡ true
+        → Walks r e w v → Walks r p w v
+    first : {r : Row} {p a e : ℕ} {w m v : WalkedAt} → WordAt (bytesOf text z r) p a e → isVisited text z (within r a e) w ≡ false
+        → Walks (chainAt s z n (bytesOf text z (within r a e))) 0 (meetAt (within r a e) w) m
+        → Walks r e (ownAt s f z n (bytesOf text z (within r a e)) m) v → Walks r p w v
 
   -- the style of a value, and the ids of two: those of the first, then those that the second adds to them
   pub record Joined (one two : Row) (v : WalkedAt) : Type 0 where

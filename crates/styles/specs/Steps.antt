@@ -20,7 +20,7 @@ use Rattle.styles.specs.Values.{laidOver}
 use Rattle.styles.specs.Resolve.{Walked, Resolution, walk, resolve}
 use Rattle.styles.specs.Queries.{others, both, withOwn}
 use Rattle.styles.specs.Cells.{Tidy}
-use Rattle.styles.specs.Ids.{sourceOf, Row, rowsIn, idsIn, RowWithin, Held}
+use Rattle.styles.specs.Ids.{sourceOf, Row, bytesOf, rowsIn, idsIn, RowWithin, Held}
 use Rattle.styles.specs.Places.{
   row,
   WalkedAt,
@@ -28,7 +28,6 @@ use Rattle.styles.specs.Places.{
   chainAt,
   ownAt,
   laidAt,
-  nameOf,
   isVisited,
   Walks,
   forget,
@@ -107,9 +106,9 @@ Over t ids = (length t < length ids * 4) ⊎ (65536 < length ids)
 
 -- an id is applied: it was visited before, or it was not
 pub data Visits (x s : List ℕ) (f : List Float) (z : List ℕ) (n : ℕ) (a : Row) (w v : WalkedAt) : Type 0 where
-  again : isVisited x s f z n a w ≡ true → v ≡ w → Visits x s f z n a w v
-  first : {m : WalkedAt} → isVisited x s f z n a w ≡ false → Walks x s f z n (chainAt s z n (nameOf x s f z n a)) 0 (meetAt a w) m
-      → v ≡ ownAt s f z n (nameOf x s f z n a) m → Visits x s f z n a w v
+  again : isVisited x z a w ≡ true → v ≡ w → Visits x s f z n a w v
+  first : {m : WalkedAt} → isVisited x z a w ≡ false → Walks x s f z n (chainAt s z n (bytesOf x z a)) 0 (meetAt a w) m
+      → v ≡ ownAt s f z n (bytesOf x z a) m → Visits x s f z n a w v
 
 -- something is done
 pub record Applies (does : WalkedAt → WalkedAt → Type 0) (x z t t′ heads : List ℕ) (w r : Walk) : Type 0 where

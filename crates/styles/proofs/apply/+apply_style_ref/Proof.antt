@@ -148,7 +148,8 @@ apply-style-ref-returns : (t : ℕ) → apply-style-ref-lts.Need-returns (claims
 unfolding stringAt
 apply-style-ref-returns t c =
     let c14 = c .before .before .before .before .before .before .before .before .before .before .before .before .before .before in
-    applied-again _ _ _ _ _ _ _ _ _ (c14 .pre .1 .2) _ (stands-name _ _ _ _ _ _ (c14 .pre .1 .1)) (sym (c .before .is-visited .ensures) ∙ c .if1 .taken)
+    applied-again _ _ _ _ _ _ _ _ _ (c14 .pre .1 .2) _ (stands-name _ _ _ _ _ _ (c14 .pre .1 .1))
+    (sym (c .before .is-visited .ensures) ∙ c .if1 .taken)
 
 apply-style-ref-same-length-3 : (t : ℕ) → apply-style-ref-lts.Need-same-length-3 (claims t) (apply-style-ref-at t) apply-style-ref.Post
     apply-style-ref-Inv-loop apply-style-ref-μ-loop

@@ -63,8 +63,8 @@ returns-2 c =
     let c14 = c9 .before .before .before .before .before in
     let c17 = c14 .before .before .before in
     let c24 = c17 .before .before .before .before .before .before .before in
-    pairs-over _ _ _ _ _ _ _ _ _ refl refl (c17 .blank .ensures) _ _ _ (stands-name _ _ _ _ _ _ (c24 .pre .1)) _ (rw (c9 .a .given .1) at (c14 .apply-refs .ensures)) _ _ (rw
-    (c .enum-told2 .given .1) at (c5 .apply-refs2 .ensures))
+    pairs-over _ _ _ _ _ _ _ _ _ refl refl (c17 .blank .ensures) _ _ _ (stands-name _ _ _ _ _ _ (c24 .pre .1)) _
+    (rw (c9 .a .given .1) at (c14 .apply-refs .ensures)) _ _ (rw (c .enum-told2 .given .1) at (c5 .apply-refs2 .ensures))
 
 same-length-3 : tie.Need-same-length-3
 same-length-3 c = search needs
