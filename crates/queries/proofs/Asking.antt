@@ -124,8 +124,9 @@ alone styles z look b value =
     ∙ (ap (λ (r : Resolution). both r (resolve styles [])) (own-none z (resolve styles value)) ∙ both-none styles (resolve styles value))
 
 -- ---- from what is left to the promise
-module _ (text : Bytes) (T : Tables) (lent : List ℕ) (ask : Asked) (reached : Track Bytes → Bytes → Type 0) (placed : WalkedAt → Type 0) (name : Bytes)
-    (at : Span) (h : queryCheck text T ≡ Check.Track) (first second : Bytes) (look : values.Look) (t₁ t₂ t₃ : List ℕ) (cleared : t₁ ≡ replicate (length lent) 0)
+module _ (text : Bytes) (T : Tables) (lent : List ℕ) (ask : Asked) (reached : Track Bytes → Bytes → Type 0)
+    (placed : WalkedAt → Type 0) (name : Bytes) (at : Span) (h : queryCheck text T ≡ Check.Track) (first second : Bytes) (look : values.Look)
+    (t₁ t₂ t₃ : List ℕ) (cleared : t₁ ≡ replicate (length lent) 0)
   where
     abbrev resolved : Resolution
     resolved = styles.answerOf text (T .styles) (T .sizes) (T .strings) (styleCount (T .head)) first second t₁ t₂ look (T .extras)
@@ -164,8 +165,9 @@ module _ (value : Bytes) (T : Tables) (lent : List ℕ) where
   module _ (h : queryCheck value T ≡ Check.Track) (look : values.Look) (blank-look : look ≡ blankLook) (t₁ t₂ t₃ : List ℕ)
       (cleared : t₁ ≡ replicate (length lent) 0) where
     abbrev value-answer : Resolution
-    value-answer = resolved value T lent (askedValue value) (λ k. Reaches (k .styles) value) (PlacedValue value T) (trimmed value) (trimmedAt value) h value
-        [] look t₁ t₂ t₃ cleared
+    value-answer =
+        resolved value T lent (askedValue value) (λ k. Reaches (k .styles) value) (PlacedValue value T) (trimmed value) (trimmedAt value) h
+        value [] look t₁ t₂ t₃ cleared
 
     same-value : askedValue value (trackAt T) ≡ is value-answer
     unfolding trackAt
@@ -181,8 +183,8 @@ module _ (value : Bytes) (T : Tables) (lent : List ℕ) where
         let p : span b (e - b) ≡ trimmedAt value = trimmed-at value b e trim in
         let n : bytesAt value (span b (e - b)) ≡ trimmed value = name-trimmed value b e trim in
         referenced answer t₃
-        (asked value T lent (askedValue value) (λ k. Reaches (k .styles) value) (PlacedValue value T) (trimmed value) (trimmedAt value) h value [] look
-        t₁ t₂ t₃ cleared same-value
+        (asked value T lent (askedValue value) (λ k. Reaches (k .styles) value) (PlacedValue value T) (trimmed value) (trimmedAt value) h
+        value [] look t₁ t₂ t₃ cleared same-value
         (rw (ap (λ (r : Resolution). r .ids) q) at (resolve-answers (trackAt T .styles) value .ids-reached)) (rw blank-look tidy-blank)
         (ap (bytesAt value) (sym p) ∙ n) (row 0 (span 0 (length value))) (row 1 (span 0 0)) (λ v d. rw blank-look at d) walked answer a
         (subst (λ (s : Span). FinishPost s walked t₂ t₃ answer) p f))
@@ -206,14 +208,15 @@ module _ (id : Bytes) (T : Tables) (lent : List ℕ) (h : queryCheck id T ≡ Ch
   pub region-refuses : (n : ℕ) → RegionPost (T .regions) (T .extras) (T .strings) (regionCount (T .head)) id (PartRead.Refused n)
       → (left : List ℕ) → left ≡ replicate (length lent) 0 → RegionStyle id T lent (refusedAs n) left
   region-refuses n p left z =
-      valued-query id T lent (askedRegion id) (λ k. ByRegion k id) (PlacedRegion id T) id (span 0 (length id)) h n (asks-region (PartRead.Refused n) p)
-      (p .within) left z
+      valued-query id T lent (askedRegion id) (λ k. ByRegion k id) (PlacedRegion id T) id (span 0 (length id)) h n
+      (asks-region (PartRead.Refused n) p) (p .within) left z
 
   module _ (x : Part) (p : RegionPost (T .regions) (T .extras) (T .strings) (regionCount (T .head)) id (PartRead.Is x)) (t₁ t₂ t₃ : List ℕ)
       (cleared : t₁ ≡ replicate (length lent) 0) where
     abbrev answer-to : Resolution
-    answer-to = resolved id T lent (askedRegion id) (λ k. ByRegion k id) (PlacedRegion id T) id (span 0 (length id)) h (bytesAt (T .strings) (x .chain))
-        [] (x .look) t₁ t₂ t₃ cleared
+    answer-to =
+        resolved id T lent (askedRegion id) (λ k. ByRegion k id) (PlacedRegion id T) id (span 0 (length id)) h
+        (bytesAt (T .strings) (x .chain)) [] (x .look) t₁ t₂ t₃ cleared
 
     same-region : askedRegion id (trackAt T) ≡ is answer-to
     unfolding trackAt
@@ -227,8 +230,8 @@ module _ (id : Bytes) (T : Tables) (lent : List ℕ) (h : queryCheck id T ≡ Ch
         (row 1 (x .chain)) (row 1 (span 0 0)) walked
         → FinishPost (span 0 (length id)) walked t₂ t₃ answer → RegionStyle id T lent answer t₃
     region-asked walked answer a f =
-        asked id T lent (askedRegion id) (λ k. ByRegion k id) (PlacedRegion id T) id (span 0 (length id)) h (bytesAt (T .strings) (x .chain)) [] (x .look)
-        t₁ t₂ t₃ cleared same-region
+        asked id T lent (askedRegion id) (λ k. ByRegion k id) (PlacedRegion id T) id (span 0 (length id)) h
+        (bytesAt (T .strings) (x .chain)) [] (x .look) t₁ t₂ t₃ cleared same-region
         (region-exactly (trackAt T) id answer-to same-region) (p .within .1) (whole id) (row 1 (x .chain)) (row 1 (span 0 0))
         (λ v d. record { region = x; said = p .placed; resolved = d }) walked answer a f
 

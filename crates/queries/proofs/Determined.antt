@@ -50,6 +50,7 @@ use Rattle.queries.specs.Promise.{
   trackNumber,
   numberFor,
   Queried,
+  EqualButOrder,
   ReferencedStyle,
   RegionStyle,
   EffectiveStyle,
@@ -84,15 +85,6 @@ module _ (text : Bytes) (T : Tables) (lent : List ℕ) (ask : Asked) (numbered :
       held none e z = no-number {n = 17} (omega arith) z
       held (some k) e z = asks k e (ask k) refl z
 
--- what two outcomes agree in: the answer, cell by cell; the rows but for their order; all other cells
-pub record Agree (a b : Resolved) (l m : List ℕ) : Type 0 where
-  pub answer : a ≡ b
-  pub rows : (x : Row) → (x ∈ rowsIn l (countOf a)) ↔ (x ∈ rowsIn m (countOf b))
-  pub marks : (i : ℕ) → getD l (i * 4 + 3) 0 ≡ getD m (i * 4 + 3) 0
-  pub behind : (c : ℕ) → countOf a * 4 ≤ c → getD l c 0 ≡ getD m c 0
-  pub as-long : length l ≡ length m
-  pub cleared : 0 < numberOf a → l ≡ m
-
 -- an answer with a number is its number and its place
 refused-as : (a b : Resolved) → 0 < numberOf a → numberOf a ≡ numberOf b → placeOf a ≡ placeOf b → a ≡ b
 unfolding numberOf placeOf
@@ -122,14 +114,14 @@ module _ (placed : WalkedAt → Type 0) (at : Span) (single : Single placed) (a 
 
 pub determined : (text : Bytes) (T : Tables) (lent : List ℕ) (ask : Asked) (reached : Track Bytes → Bytes → Type 0) (placed : WalkedAt → Type 0)
     (name : Bytes) (at : Span) → Single placed → (a b : Resolved) (l m : List ℕ) → Queried text T lent ask reached placed name at a l
-    → Queried text T lent ask reached placed name at b m → Agree a b l m
+    → Queried text T lent ask reached placed name at b m → EqualButOrder a b l m
 determined text T lent ask reached placed name at single a b l m p q =
     by-test (eqb (numberOf a) 0) (λ e. given (eqb-true (numberOf a) 0 e)) (λ e. refuses (omega (arith, eqb-false (numberOf a) 0 e)))
   where
     same : numberOf a ≡ numberOf b
     same = p .number ∙ sym (q .number)
 
-    agree : a ≡ b → ((x : Row) → (x ∈ rowsIn l (countOf a)) ↔ (x ∈ rowsIn m (countOf b))) → Agree a b l m
+    agree : a ≡ b → ((x : Row) → (x ∈ rowsIn l (countOf a)) ↔ (x ∈ rowsIn m (countOf b))) → EqualButOrder a b l m
     agree e r = record {
       answer = e;
       rows = r;
@@ -139,13 +131,13 @@ determined text T lent ask reached placed name at single a b l m p q =
       cleared = λ z. p .cleared z ∙ sym (q .cleared (rw same at z));
     }
 
-    given : numberOf a ≡ 0 → Agree a b l m
+    given : numberOf a ≡ 0 → EqualButOrder a b l m
     given z =
         let x = p .cells z in
         let y = q .cells (sym same ∙ z) in
         agree (same-answer placed at single a b l m x y) (same-rows placed at single a b l m x y)
 
-    refuses : 0 < numberOf a → Agree a b l m
+    refuses : 0 < numberOf a → EqualButOrder a b l m
     refuses z =
         let e = refused-as a b z same (p .place ∙ sym (q .place)) in
         let k : l ≡ m = p .cleared z ∙ sym (q .cleared (rw same at z)) in
@@ -240,14 +232,14 @@ cue-single T i v u (there h p) (past k q) = absurd (omega arith)
 cue-single T i v u (there h p) (there k q) = part-single [] T _ _ v u p q
 
 module _ (T : Tables) (lent : List ℕ) (a b : Resolved) (l m : List ℕ) where
-  pub determined-value : (value : Bytes) → ReferencedStyle value T lent a l → ReferencedStyle value T lent b m → Agree a b l m
+  pub determined-value : (value : Bytes) → ReferencedStyle value T lent a l → ReferencedStyle value T lent b m → EqualButOrder a b l m
   determined-value value p q =
-      determined value T lent (askedValue value) _ (PlacedValue value T) _ _ (values-single value T 0 (span 0 (length value)) (span 0 0) blankLook) a b l m
-      (p .queried) (q .queried)
+      determined value T lent (askedValue value) _ (PlacedValue value T) _ _
+      (values-single value T 0 (span 0 (length value)) (span 0 0) blankLook) a b l m (p .queried) (q .queried)
 
-  pub determined-region : (id : Bytes) → RegionStyle id T lent a l → RegionStyle id T lent b m → Agree a b l m
+  pub determined-region : (id : Bytes) → RegionStyle id T lent a l → RegionStyle id T lent b m → EqualButOrder a b l m
   determined-region id p q =
-      determined id T lent (askedRegion id) _ (PlacedRegion id T) _ _ (part-single id T (regionNamed id T id) (span 0 0)) a b l m p q
+      determined id T lent (askedRegion id) _ (PlacedRegion id T) _ _ (part-single id T (regionNamed T id) (span 0 0)) a b l m p q
 
-  pub determined-cue : (i : ℕ) → EffectiveStyle T i lent a l → EffectiveStyle T i lent b m → Agree a b l m
+  pub determined-cue : (i : ℕ) → EffectiveStyle T i lent a l → EffectiveStyle T i lent b m → EqualButOrder a b l m
   determined-cue i p q = determined [] T lent (askedCue i) _ (PlacedCue T i) _ _ (cue-single T i) a b l m p q

@@ -169,8 +169,8 @@ never p e = absurd (omega arith)
 no-name : {A : Type 0} {b : Bytes} → none ≡ some b → A
 no-name e = let z : _≡_ {A = ℕ} 0 1 = cc in absurd (omega arith)
 
-module _ (text : Bytes) (T : Tables) (lent : List ℕ) (ask : Asked) (reached : Track Bytes → Bytes → Type 0) (placed : WalkedAt → Type 0) (name : Bytes)
-    (at : Span) where
+module _ (text : Bytes) (T : Tables) (lent : List ℕ) (ask : Asked) (reached : Track Bytes → Bytes → Type 0)
+    (placed : WalkedAt → Type 0) (name : Bytes) (at : Span) where
   pub refused-query : (r : Refusal) → r .place ≡ 0 → 0 < r .number → r .number ≡ numberFor text T lent ask
       → (left : List ℕ) → left ≡ replicate (length lent) 0 → Queried text T lent ask reached placed name at (Resolved.Refused r) left
   unfolding numberOf placeOf countOf nameIn styleIn

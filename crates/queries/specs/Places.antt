@@ -8,6 +8,7 @@ use mathlib.Core.Option.{Option, none, some}
 use lib.ListN.{length}
 use Rattle.track.specs.declared.strings.Span.{Span}
 use Rattle.track.specs.declared.values.Look as values
+use Rattle.track.specs.declared.values.Cue.{Cue}
 use Rattle.track.specs.Track.{Bytes, Look, Extra}
 use Rattle.track.specs.Tables.{Tables, span, rowsFrom, styleCount, regionCount, cueCount, extraAt, regionAt, cueAt}
 use Rattle.track.specs.Meaning.{bytesAt, extraIn}
@@ -83,19 +84,21 @@ module _ (text : Bytes) (T : Tables) where
     pub said : part ≡ is region
     pub resolved : PlacedValues 1 (region .chain) two (region .look) v
 
+module _ (T : Tables) where
   abbrev pub regionNamed : Bytes → Read Part
   regionNamed id = partAt (T .regions) (T .extras) (T .strings) (regionCount (T .head)) id
 
--- the words of the value stand in it
+  abbrev pub regionOf : Cue → Read Part
+  regionOf c = cond (c .«has_region») (regionNamed (bytesAt (T .strings) (c .region))) (is blankPart)
+
+-- the value is the text
 abbrev pub PlacedValue : Bytes → Tables → WalkedAt → Type 0
 PlacedValue value T v = PlacedValues value T 0 (span 0 (length value)) (span 0 0) blankLook v
 
 abbrev pub PlacedRegion : Bytes → Tables → WalkedAt → Type 0
-PlacedRegion id T v = PlacedPart id T (regionNamed id T id) (span 0 0) v
+PlacedRegion id T v = PlacedPart id T (regionNamed T id) (span 0 0) v
 
 pub data PlacedCue (T : Tables) (i : ℕ) (v : WalkedAt) : Type 0 where
   past : cueCount (T .head) ≤ i → v ≡ startAt → PlacedCue T i v
-  there : i < cueCount (T .head)
-      → PlacedPart [] T (cond (cueAt (T .cues) (T .times) i .«has_region») (regionNamed [] T (bytesAt (T .strings) (cueAt (T .cues) (T .times) i .region)))
-      (is blankPart)) (cueAt (T .cues) (T .times) i .style) v
+  there : i < cueCount (T .head) → PlacedPart [] T (regionOf T (cueAt (T .cues) (T .times) i)) (cueAt (T .cues) (T .times) i .style) v
       → PlacedCue T i v

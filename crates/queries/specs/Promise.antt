@@ -1,7 +1,6 @@
 -- What the three queries promise, in the words of document 01: of the text asked for, the handed track, the table of ids that is lent and what
 -- is left in it, and the answer. Definitions alone. Nothing here says how the program goes about it.
 -- A row of the table of ids is four cells: 0 (the query's text) or 1 (the track's strings); place; length; 0.
--- Two outcomes that meet a promise are equal but for the order of the ids (`proofs/Determined`).
 use Prim.Native.Nat.{ℕ, _+_, _*_, _≤_, _<_}
 use mathlib.Core.Path.{_≡_}
 use mathlib.Core.Bool.{Bool, true, false, cond, _||_}
@@ -114,7 +113,7 @@ abbrev pub answerAt : Span → WalkedAt → Resolved
 answerAt at v =
     cond (v .found) (Style (record { name = at; look = v .look; ids = length (v .visited) })) (NoStyle (length (v .visited)))
 
--- It is the one after the walk that `placed` describes, with its places; and the rows are the strings that were visited, each where it was met first.
+-- it is the answer after the walk that `placed` describes, and the rows are the ids that were visited, each where it was met first
 pub record Placed (placed : WalkedAt → Type 0) (at : Span) (answer : Resolved) (left : List ℕ) : Type 0 where
   pub walked : WalkedAt
   pub is-placed : placed walked
@@ -166,3 +165,14 @@ RegionStyle id T lent answer left =
 -- "A cue index past the end gives no style." No text is asked for, and the style has no name.
 abbrev pub EffectiveStyle : Tables → ℕ → List ℕ → Resolved → List ℕ → Type 0
 EffectiveStyle T i lent answer left = Queried [] T lent (askedCue i) (λ k. ByCue k i) (PlacedCue T i) [] (span 0 0) answer left
+
+-- ---- what every choice has in common: "the ids reached, each once, in an order left open"
+-- Two outcomes, l and m being what is left: the answers are equal, the rows but for their order, and all other cells. `proofs/Determined` proves it of
+-- any two that meet one of the promises.
+pub record EqualButOrder (a b : Resolved) (l m : List ℕ) : Type 0 where
+  pub answer : a ≡ b
+  pub rows : (x : Row) → (x ∈ rowsIn l (countOf a)) ↔ (x ∈ rowsIn m (countOf b))
+  pub marks : (i : ℕ) → getD l (i * 4 + 3) 0 ≡ getD m (i * 4 + 3) 0
+  pub behind : (c : ℕ) → countOf a * 4 ≤ c → getD l c 0 ≡ getD m c 0
+  pub as-long : length l ≡ length m
+  pub cleared : 0 < numberOf a → l ≡ m
