@@ -2,14 +2,14 @@
 --     determined, determined-value, determined-region, determined-cue     the answer, cell by cell; the rows but for their order; all other cells
 --     own-number       a region's own values are refused with 14 or 15 alone, and nothing else of what is asked is refused
 --     answered, answered-value, answered-region, answered-cue     where there is no number there is a track, and what is asked of it is resolved
-use Prim.Native.Nat.{ℕ, _+_, _*_, _≤_, _<_}
+use Prim.Native.Nat.{ℕ, _<_}
 use mathlib.Core.Path.{_≡_, refl, sym, ap, _∙_}
 use mathlib.Core.Bool.{true, false}
 use mathlib.Core.Logic.{_↔_, _⊎_, inl, inr}
 use mathlib.Core.List.{List, []}
 use mathlib.Core.Option.{Option, none, some}
 use native.Mathlib.Omega.{arith}
-use lib.ListN.{length, getD, take}
+use lib.ListN.{length, take}
 use lib.Dec.{eqb, leb}
 use borrow.Author.Tests.{eqb-true, eqb-false}
 use Rattle.scan.specs.Bytes.{runLength}
@@ -25,7 +25,7 @@ use Rattle.track.specs.Tables.{Tables, span, styleCount}
 use Rattle.track.specs.Meaning.{isUtf8, trackIn}
 use Rattle.track.specs.Check.{isFull}
 use Rattle.records.specs.Find.{findRegion}
-use Rattle.styles.specs.Reaches.{_∈_, Exactly}
+use Rattle.styles.specs.Reaches.{_∈_}
 use Rattle.styles.specs.Resolve.{Resolution}
 use Rattle.styles.specs.Own.{Read, is, refused, next, valueOf, colorRead, colorOf, sizeRead, sizeByte, sizeIn, ownValues}
 use Rattle.styles.specs.Queries.{regionFound, regionStyle, regionOptional, cueFound, effectiveStyle, nth}
@@ -143,7 +143,7 @@ determined text T lent ask reached placed name at single a b l m p q =
         let k : l ≡ m = p .cleared z ∙ sym (q .cleared (rw same at z)) in
         agree e (λ x. (λ y. rw (e, k) at y, λ y. rw (← e, ← k) at y))
 
--- ---- the three queries
+-- ---- their numbers
 abbrev OwnNumber : {A : Type 0} → Read A → Type 0
 OwnNumber (is x) = Unit {0}
 OwnNumber (refused n) = (n ≡ 14) ⊎ (n ≡ 15)
@@ -214,7 +214,7 @@ module _ (T : Tables) (lent : List ℕ) where
   unfolding effectiveStyle
   answered-cue i = answered [] T lent (askedCue i) (numbered-as (askedCue i) λ k. cue-number k (nth (k .cues) i))
 
--- ---- the three queries agree
+-- ---- the three queries
 module _ (text : Bytes) (T : Tables) where
   values-single : (source : ℕ) (one two : Span) (look : values.Look) → Single (PlacedValues text T source one two look)
   values-single source one two look v u p q = resolves-only text (T .styles) (T .sizes) (T .strings) (styleCount (T .head)) p q

@@ -1,10 +1,8 @@
 -- A worked case: the value "a a" has one id, and its row points at the first of its two places. Assumes nothing.
-use Prim.Native.Nat.{ℕ}
-use mathlib.Core.Path.{_≡_, refl}
+use mathlib.Core.Path.{refl}
 use mathlib.Core.Bool.{false}
-use mathlib.Core.List.{List, [], _∷_}
+use mathlib.Core.List.{[], _∷_}
 use native.Mathlib.Omega.{arith}
-use lib.ListN.{length}
 use Rattle.scan.specs.Loop.{loop, go}
 use Rattle.scan.specs.Names.{sameBytes}
 use Rattle.scan.specs.Part.{stringAt}

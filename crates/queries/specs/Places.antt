@@ -2,7 +2,7 @@
 --     r are the regions, e the extras, z the strings
 use Prim.Native.Nat.{ℕ, _≤_, _<_}
 use mathlib.Core.Path.{_≡_}
-use mathlib.Core.Bool.{Bool, cond}
+use mathlib.Core.Bool.{cond}
 use mathlib.Core.List.{List, []}
 use mathlib.Core.Option.{Option, none, some}
 use lib.ListN.{length}
@@ -15,14 +15,14 @@ use Rattle.track.specs.Meaning.{bytesAt, extraIn}
 use Rattle.track.specs.Layout.{isSome}
 use Rattle.records.specs.declared.find.Found.{Found}
 use Rattle.records.specs.Find.{firstRow}
-use Rattle.styles.specs.Own.{Read, is, refused, next, valueOf, ownValues}
+use Rattle.styles.specs.Own.{Read, is, next, valueOf, ownValues}
 use Rattle.styles.specs.Cells.{noColor, noSize, blankLook}
 use Rattle.styles.specs.Places.{row, WalkedAt, startAt, Resolves}
 use Rattle.styles.specs.Steps.{bare}
 use Rattle.queries.specs.declared.region.Part.{Part}
 
 -- ---- a region
--- what is there, or what stands in cells that are empty
+-- what is there, or what stands in the cells where nothing is
 abbrev pub orZero : {A : Type 0} → A → Option A → A
 orZero empty none = empty
 orZero empty (some x) = x
@@ -45,7 +45,7 @@ cellsOf x family = record {
   align = x .align;
 }
 
--- n kept attributes from row i on: their values as bytes, and where they stand
+-- the kept attributes in `many` rows from row `first` on: their values as bytes, and where these stand
 abbrev pub extrasOf : (e z : List ℕ) → (first many : ℕ) → List (Extra Bytes)
 extrasOf e z first many = rowsFrom (extraIn (bare [] [] e z)) many first
 

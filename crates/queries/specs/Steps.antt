@@ -21,7 +21,7 @@ use Rattle.track.specs.declared.values.Look as values
 use Rattle.track.specs.declared.check.Check.{Check}
 use Rattle.track.specs.Track.{Bytes, Look, Extra, Style, Region}
 use Rattle.track.specs.Tables.{Tables, span, rowsFrom}
-use Rattle.track.specs.Meaning.{isUtf8, bytesAt, given, lookIn, extraIn, regionIn}
+use Rattle.track.specs.Meaning.{isUtf8, bytesAt, given, lookIn, regionIn}
 use Rattle.track.specs.Check as track
 use Rattle.records.specs.Find.{Named, findRegion}
 use Rattle.styles.specs.declared.apply.Walk.{Walk}
@@ -29,8 +29,7 @@ use Rattle.styles.specs.declared.apply.Applied.{Applied}
 use Rattle.styles.specs.Resolve.{Resolution, resolve}
 use Rattle.styles.specs.Own.{Read, is, refused, ascii, valueOf, colorRead, sizeRead, sizeByte, alignIn, ownValues}
 use Rattle.styles.specs.Queries.{nothing, withOwn, regionFound}
-use Rattle.styles.specs.Cells.{noColor, noSize, blankLook, Tidy}
-use Rattle.styles.specs.Steps.{bare}
+use Rattle.styles.specs.Cells.{noColor, noSize, Tidy}
 unfoldable pub use Rattle.queries.specs.Places.{blankPart}
 use Rattle.queries.specs.Places.{extrasOf, extrasAt, partAt}
 use Rattle.queries.specs.declared.own.Value.{Value}

@@ -2,12 +2,14 @@
 --     walk-longer, met-longer                      the walk adds ids
 --     grown-none, grown-more                       rows that were added
 --     Along, along-start, along-step, along-done, along-full      where the program is
-use Prim.Native.Nat.{ℕ, zero, suc, _+_, _-_, _*_, _≤_, _<_}
+--     word-end, word-within, full-in               a word of a chain that is a part of some bytes
+--     chain-length, chain-here                     a chain where it stands
+use Prim.Native.Nat.{ℕ, _+_, _-_, _≤_, _<_}
 use mathlib.Core.Path.{_≡_, refl, sym, ap, _∙_}
 use mathlib.Core.Logic.{_⊎_, inl, inr}
 use mathlib.Core.List.{List, [], _∷_, _++_}
 use native.Mathlib.Omega.{arith}
-use lib.ListN.{length, getD, take, drop, length-append, length-take, length-drop}
+use lib.ListN.{length, length-append, length-take, length-drop}
 use lib.Ieee.{Float}
 use Rattle.scan.specs.Part.{part, stringAt}
 use Rattle.unicode.specs.declared.white.Word.the-variants.{Nothing}
@@ -16,7 +18,7 @@ use Rattle.unicode.proofs.WhiteLaws.{wordsFrom-after}
 use Rattle.track.specs.Track.{Bytes, Style}
 use Rattle.track.specs.declared.strings.Span.{Span}
 use Rattle.styles.specs.declared.apply.Walk.{Walk}
-use Rattle.styles.specs.Resolve.{Walked, meet, own, walk}
+use Rattle.styles.specs.Resolve.{Walked, meet, walk}
 use Rattle.styles.specs.Cells.{Tidy}
 use Rattle.styles.specs.Ids.{Row, bytesOf, Held}
 use Rattle.styles.specs.Places as places

@@ -23,9 +23,9 @@ use Rattle.styles.specs.Values.{blank, unstyled, laidOver}
 use Rattle.styles.specs.Resolve.{Walked, Resolution, start, walk, answered, resolve}
 use Rattle.styles.specs.Queries.{others, both, styled, withOwn}
 use Rattle.styles.specs.Cells.{overlaid, blankLook, isPlain, Tidy}
-use Rattle.styles.specs.Ids.{Row, bytesOf, namesOf, rowsIn, idsIn, Held, Unlinked}
+use Rattle.styles.specs.Ids.{Row, bytesOf, namesOf, rowsIn, Held, Unlinked}
 use Rattle.styles.specs.Places as places
-use Rattle.styles.specs.Places.{WalkedAt, forget, startAt, laidAt}
+use Rattle.styles.specs.Places.{WalkedAt, forget, startAt}
 use Rattle.styles.specs.Steps.{
   stylesIn,
   stateIn,

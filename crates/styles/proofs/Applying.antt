@@ -22,14 +22,14 @@ use Rattle.styles.specs.declared.apply.Walk.{Walk}
 use Rattle.styles.specs.Reaches.{parents}
 use Rattle.styles.specs.Resolve.{Walked, meet, own, walk}
 use Rattle.styles.specs.Cells.{Tidy}
-use Rattle.styles.specs.Ids.{sourceOf, Row, bytesOf, rowsIn, idsIn, Held, Added, AddPost}
-use Rattle.styles.specs.Places.{row, WalkedAt, forget, meetAt, isVisited, Walks}
+use Rattle.styles.specs.Ids.{Row, bytesOf, idsIn, Held, Added, AddPost}
+use Rattle.styles.specs.Places.{row, forget, meetAt, isVisited, Walks}
 use Rattle.styles.specs.Steps.{stylesIn, stateIn, stateAt, Stands, ChainOf, OwnStyle, Grown, Over, Visits, again, first, Applies, Overflows}
 use Rattle.styles.proofs.Walks.{own-visited}
 use Rattle.styles.proofs.Equations.{walk-is}
 use Rattle.styles.proofs.Places.{ids-length}
 use Rattle.styles.proofs.Forgetting.{walk-none, meets, parents-at}
-use Rattle.styles.proofs.Along.{met-longer, grown-none, grown-more, over-kept, over-longer}
+use Rattle.styles.proofs.Along.{met-longer, grown-none, grown-more, over-kept}
 
 module _ (x s : List ℕ) (f : List Float) (z : List ℕ) (n : ℕ) (id : Bytes) (t heads : List ℕ) (w : Walk) (held : Held x z t heads (w .count)) where
   abbrev state : Walked

@@ -3,13 +3,13 @@
 --     word-part, part-is       a word of a part is a part of the whole
 --     meets, parents-at        an id visited, and its parents
 --     forgets, visit-is        the words of a string from a place on; one id
-use Prim.Native.Nat.{ℕ, zero, suc, _+_, _-_, _*_, _≤_, _<_}
+use Prim.Native.Nat.{ℕ, zero, suc, _+_, _-_, _≤_}
 use mathlib.Core.Path.{_≡_, refl, sym, ap, _∙_}
 use mathlib.Core.Bool.{true, false}
-use mathlib.Core.List.{List, [], _∷_, _++_}
+use mathlib.Core.List.{List, [], _∷_}
 use native.Mathlib.Omega.{arith}
 use native.Mathlib.Nat.{sub-zero, zero-sub, suc-sub-suc}
-use lib.ListN.{length, take, drop, length-take}
+use lib.ListN.{take, drop, length-take}
 use lib.Seq.{take-take, drop-drop}
 use lib.Ieee.{Float}
 use Rattle.scan.specs.Part.{part, stringAt}

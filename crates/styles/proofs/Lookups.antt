@@ -24,16 +24,14 @@ use Rattle.track.specs.Meaning.{bytesAt, given, lookIn, styleIn}
 use Rattle.records.specs.declared.find.Found.{Found}
 use Rattle.records.specs.Find.{isNamed, firstRow, firstWith, chainFrom, foundIn}
 use Rattle.records.proofs.Finding.{named, namedWith}
-use Rattle.records.proofs.FoundRows.{First, row-first, with-first, style-found, chain-found}
+use Rattle.records.proofs.FoundRows.{First, row-first, with-first, chain-found}
 use Rattle.track.specs.declared.values.Look.{Look}
 use Rattle.styles.specs.declared.apply.Walk.{Walk}
 use Rattle.styles.specs.Reaches.{chainWords, parents}
 use Rattle.styles.specs.Values.{orElse, overlay}
-use Rattle.styles.specs.Resolve.{Walked, applied, own}
 use Rattle.styles.specs.Cells.{overlaid}
-use Rattle.styles.specs.Ids.{rowsIn}
 use Rattle.styles.specs.Places.{row, WalkedAt, chainAt, ownAt}
-use Rattle.styles.specs.Steps.{bare, stylesIn, stateIn, stateAt}
+use Rattle.styles.specs.Steps.{bare, stylesIn, stateAt}
 
 -- ---- overlays
 given-over : {A : Type 0} (b c : Bool) (x y : A) → given (c || b) (cond c y x) ≡ orElse (given b x) (given c y)

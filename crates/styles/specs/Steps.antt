@@ -110,13 +110,13 @@ pub data Visits (x s : List ℕ) (f : List Float) (z : List ℕ) (n : ℕ) (a : 
   first : {m : WalkedAt} → isVisited x z a w ≡ false → Walks x s f z n (chainAt s z n (bytesOf x z a)) 0 (meetAt a w) m
       → v ≡ ownAt s f z n (bytesOf x z a) m → Visits x s f z n a w v
 
--- something is done
+-- `does` says what is done to what is known
 pub record Applies (does : WalkedAt → WalkedAt → Type 0) (x z t t′ heads : List ℕ) (w r : Walk) : Type 0 where
   pub grown : Grown x z t t′ heads (w .count) (r .count)
   pub tidy : Tidy (w .look) → Tidy (r .look)
   pub is : does (stateAt t w) (stateAt t′ r)
 
--- or ids that are applied are too many
+-- or the ids that are applied are more than there are rows for
 module _ (x s : List ℕ) (f : List Float) (z : List ℕ) (n : ℕ) (ids : List Bytes) (t t′ heads : List ℕ) (w : Walk) where
   pub record Overflows : Type 0 where
     pub kept : length t′ ≡ length t
