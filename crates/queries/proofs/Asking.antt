@@ -4,7 +4,7 @@
 --     region-asked, region-refuses                a region
 --     cue-asked, cue-refuses, cue-past            a cue
 use Prim.Native.Nat.{ℕ, zero, suc, _+_, _-_, _*_, _≤_, _<_}
-use mathlib.Core.Path.{_≡_, refl, sym, ap, _∙_}
+use mathlib.Core.Path.{_≡_, refl, sym, ap, subst, _∙_}
 use mathlib.Core.Bool.{Bool, true, false, cond}
 use mathlib.Core.Logic.{_⊎_, inl, inr}
 use mathlib.Core.List.{List, [], _∷_, _++_, append-nil}
@@ -45,17 +45,20 @@ use Rattle.styles.specs.Queries.{
   nth,
 }
 use Rattle.styles.specs.Cells.{blankLook, Tidy}
-use Rattle.styles.specs.Ids.{idsIn}
+use Rattle.styles.specs.Ids.{Row, namesOf, rowsIn}
+use Rattle.styles.specs.Places.{row, WalkedAt, startAt, Resolves}
 use Rattle.styles.specs.Steps as styles
-use Rattle.styles.specs.Steps.{stylesIn, AnswerPost, Stood}
-use Rattle.styles.proofs.Along.{over-kept}
+use Rattle.styles.specs.Steps.{stylesIn, stateAt, AnswerPost, Stood}
+use Rattle.styles.proofs.Along.{over-kept, part-length}
 use Rattle.styles.proofs.Answering.{resolve-nothing}
 use Rattle.styles.proofs.Theorem.{resolve-answers}
 use Rattle.styles.proofs.Tidying.{tidy-blank}
 use Rattle.queries.specs.declared.query.Resolved.{Resolved}
 use Rattle.queries.specs.declared.region.Part.{Part}
 use Rattle.queries.specs.declared.region.PartRead.{PartRead}
+use Rattle.queries.specs.Places.{PlacedValue, PlacedRegion, PlacedCue, past, there}
 use Rattle.queries.specs.Promise.{
+  trimmedAt,
   Asked,
   askedValue,
   askedRegion,
@@ -97,6 +100,11 @@ pub name-trimmed : (x : List ℕ) (a e : ℕ) → Trimmed x a e → stringAt x a
 unfolding stringAt
 name-trimmed x a e t = let q : a + (e - a) ≡ e = omega (arith, t .order) in rw q (t .is)
 
+pub trimmed-at : (x : List ℕ) (a e : ℕ) → Trimmed x a e → span a (e - a) ≡ trimmedAt x
+trimmed-at x a e t =
+    let l : e - a ≡ length (trimmed x) = sym (part-length x a e (t .order) (t .within-text)) ∙ ap length (t .is) in
+    rw (l, t .starts)
+
 -- ---- what adds nothing
 over-none : (x : Option (Look Bytes)) → laidOver x none ≡ x
 over-none none = refl
@@ -116,8 +124,9 @@ alone styles z look b value =
     ∙ (ap (λ (r : Resolution). both r (resolve styles [])) (own-none z (resolve styles value)) ∙ both-none styles (resolve styles value))
 
 -- ---- from what is left to the promise
-module _ (text : Bytes) (T : Tables) (lent : List ℕ) (ask : Asked) (reached : Track Bytes → Bytes → Type 0) (name : Bytes)
-    (h : queryCheck text T ≡ Check.Track) (first second : Bytes) (look : values.Look) (t₁ t₂ t₃ : List ℕ) (cleared : t₁ ≡ replicate (length lent) 0)
+module _ (text : Bytes) (T : Tables) (lent : List ℕ) (ask : Asked) (reached : Track Bytes → Bytes → Type 0)
+    (placed : WalkedAt → Type 0) (name : Bytes) (at : Span) (h : queryCheck text T ≡ Check.Track) (first second : Bytes) (look : values.Look)
+    (t₁ t₂ t₃ : List ℕ) (cleared : t₁ ≡ replicate (length lent) 0)
   where
     abbrev resolved : Resolution
     resolved = styles.answerOf text (T .styles) (T .sizes) (T .strings) (styleCount (T .head)) first second t₁ t₂ look (T .extras)
@@ -126,23 +135,25 @@ module _ (text : Bytes) (T : Tables) (lent : List ℕ) (ask : Asked) (reached : 
     as-long = rw cleared (length-replicate {A = ℕ} (length lent) 0)
 
     pub asked : ask (trackAt T) ≡ is resolved → Exactly (reached (trackAt T)) (resolved .ids) → Tidy look
-        → (p : Span) → bytesAt text p ≡ name → (walked : Applied) (answer : Resolved)
-        → AnswerPost text (T .styles) (T .sizes) (T .strings) (styleCount (T .head)) first second t₁ t₂ look walked
-        → FinishPost p walked t₂ t₃ answer → Queried text T lent ask reached name answer t₃
-    asked e x tidy p n (Applied.Done w) answer a f =
+        → bytesAt text at ≡ name → (one two : Row)
+        → ((v : WalkedAt) → Resolves text (T .styles) (T .sizes) (T .strings) (styleCount (T .head)) one two look v → placed v)
+        → (walked : Applied) (answer : Resolved)
+        → AnswerPost text (T .styles) (T .sizes) (T .strings) (styleCount (T .head)) first second t₁ t₂ look one two walked
+        → FinishPost at walked t₂ t₃ answer → Queried text T lent ask reached placed name at answer t₃
+    asked e x tidy n one two q (Applied.Done w) answer a f =
         rw (f .0, f .1)
-        (given-query text T lent ask reached name h resolved e x t₂ (a .kept ∙ as-long) w (a .style (T .extras)) (a .ids (T .extras)) (a .tidy tidy)
-        (a .stood) (a .behind) p n)
-    asked e x tidy p n Applied.Full answer a f =
+        (given-query text T lent ask reached placed name at h resolved e x t₂ (a .kept ∙ as-long) w (a .style (T .extras)) (a .ids (T .extras))
+        (a .tidy tidy) (a .stood) (a .behind) (q (stateAt t₂ w) (a .placed)) n)
+    asked e x tidy n one two q Applied.Full answer a f =
         rw (f .0)
-        (over-query text T lent ask reached name h resolved e (over-kept lent t₁ (resolved .ids) as-long (a .over (T .extras))) t₃
+        (over-query text T lent ask reached placed name at h resolved e (over-kept lent t₁ (resolved .ids) as-long (a .over (T .extras))) t₃
         (rw (a .kept ∙ as-long) at (f .1)))
 
 -- ---- a value
 module _ (value : Bytes) (T : Tables) (lent : List ℕ) where
   pub referenced : (answer : Resolved) (left : List ℕ)
-      → Queried value T lent (askedValue value) (λ k. Reaches (k .styles) value) (trimmed value) answer left → ReferencedStyle value T lent
-      answer left
+      → Queried value T lent (askedValue value) (λ k. Reaches (k .styles) value) (PlacedValue value T) (trimmed value) (trimmedAt value) answer left
+      → ReferencedStyle value T lent answer left
   referenced answer left q = record {
     queried = q;
     no-style = λ n k e.
@@ -153,23 +164,30 @@ module _ (value : Bytes) (T : Tables) (lent : List ℕ) where
 
   module _ (h : queryCheck value T ≡ Check.Track) (look : values.Look) (blank-look : look ≡ blankLook) (t₁ t₂ t₃ : List ℕ)
       (cleared : t₁ ≡ replicate (length lent) 0) where
-    same-value : askedValue value (trackAt T)
-        ≡ is (resolved value T lent (askedValue value) (λ k. Reaches (k .styles) value) (trimmed value) h value [] look t₁ t₂ t₃ cleared)
+    abbrev value-answer : Resolution
+    value-answer =
+        resolved value T lent (askedValue value) (λ k. Reaches (k .styles) value) (PlacedValue value T) (trimmed value) (trimmedAt value) h
+        value [] look t₁ t₂ t₃ cleared
+
+    same-value : askedValue value (trackAt T) ≡ is value-answer
     unfolding trackAt
     same-value =
         ap is (sym (alone (stylesIn (T .styles) (T .sizes) (T .extras) (T .strings) (styleCount (T .head))) (T .strings) look blank-look value))
 
-    pub value-asked : (p : Span) → bytesAt value p ≡ trimmed value → (walked : Applied) (answer : Resolved)
-        → AnswerPost value (T .styles) (T .sizes) (T .strings) (styleCount (T .head)) value [] t₁ t₂ look walked
-        → FinishPost p walked t₂ t₃ answer → ReferencedStyle value T lent answer t₃
-    value-asked p n walked answer a f =
-        let q : resolve (trackAt T .styles) value
-        ≡ resolved value T lent (askedValue value) (λ k. Reaches (k .styles) value) (trimmed value) h value [] look t₁ t₂ t₃ cleared = unread
-        same-value in
+    pub value-asked : (b e : ℕ) → Trimmed value b e → (walked : Applied) (answer : Resolved)
+        → AnswerPost value (T .styles) (T .sizes) (T .strings) (styleCount (T .head)) value [] t₁ t₂ look (row 0 (span 0 (length value)))
+        (row 1 (span 0 0)) walked
+        → FinishPost (span b (e - b)) walked t₂ t₃ answer → ReferencedStyle value T lent answer t₃
+    value-asked b e trim walked answer a f =
+        let q : resolve (trackAt T .styles) value ≡ value-answer = unread same-value in
+        let p : span b (e - b) ≡ trimmedAt value = trimmed-at value b e trim in
+        let n : bytesAt value (span b (e - b)) ≡ trimmed value = name-trimmed value b e trim in
         referenced answer t₃
-        (asked value T lent (askedValue value) (λ k. Reaches (k .styles) value) (trimmed value) h value [] look t₁ t₂ t₃ cleared same-value
-        (rw (ap (λ (r : Resolution). r .ids) q) at (resolve-answers (trackAt T .styles) value .ids-reached)) (rw blank-look tidy-blank) p n
-        walked answer a f)
+        (asked value T lent (askedValue value) (λ k. Reaches (k .styles) value) (PlacedValue value T) (trimmed value) (trimmedAt value) h
+        value [] look t₁ t₂ t₃ cleared same-value
+        (rw (ap (λ (r : Resolution). r .ids) q) at (resolve-answers (trackAt T .styles) value .ids-reached)) (rw blank-look tidy-blank)
+        (ap (bytesAt value) (sym p) ∙ n) (row 0 (span 0 (length value))) (row 1 (span 0 0)) (λ v d. rw blank-look at d) walked answer a
+        (subst (λ (s : Span). FinishPost s walked t₂ t₃ answer) p f))
       where
         unread : {a b : Resolution} → is a ≡ is b → a ≡ b
         unread e = cc
@@ -189,13 +207,16 @@ module _ (id : Bytes) (T : Tables) (lent : List ℕ) (h : queryCheck id T ≡ Ch
 
   pub region-refuses : (n : ℕ) → RegionPost (T .regions) (T .extras) (T .strings) (regionCount (T .head)) id (PartRead.Refused n)
       → (left : List ℕ) → left ≡ replicate (length lent) 0 → RegionStyle id T lent (refusedAs n) left
-  region-refuses n p left z = valued-query id T lent (askedRegion id) (λ k. ByRegion k id) id h n (asks-region (PartRead.Refused n) p) (p
-      .within) left z
+  region-refuses n p left z =
+      valued-query id T lent (askedRegion id) (λ k. ByRegion k id) (PlacedRegion id T) id (span 0 (length id)) h n
+      (asks-region (PartRead.Refused n) p) (p .within) left z
 
   module _ (x : Part) (p : RegionPost (T .regions) (T .extras) (T .strings) (regionCount (T .head)) id (PartRead.Is x)) (t₁ t₂ t₃ : List ℕ)
       (cleared : t₁ ≡ replicate (length lent) 0) where
     abbrev answer-to : Resolution
-    answer-to = resolved id T lent (askedRegion id) (λ k. ByRegion k id) id h (bytesAt (T .strings) (x .chain)) [] (x .look) t₁ t₂ t₃ cleared
+    answer-to =
+        resolved id T lent (askedRegion id) (λ k. ByRegion k id) (PlacedRegion id T) id (span 0 (length id)) h
+        (bytesAt (T .strings) (x .chain)) [] (x .look) t₁ t₂ t₃ cleared
 
     same-region : askedRegion id (trackAt T) ≡ is answer-to
     unfolding trackAt
@@ -204,12 +225,15 @@ module _ (id : Bytes) (T : Tables) (lent : List ℕ) (h : queryCheck id T ≡ Ch
         asks-region (PartRead.Is x) p
         ∙ ap is (sym (both-none S (withOwn (resolve S (bytesAt (T .strings) (x .chain))) (lookIn (T .strings) (x .look)))))
 
-    pub region-asked : (s : Span) → bytesAt id s ≡ id → (walked : Applied) (answer : Resolved)
-        → AnswerPost id (T .styles) (T .sizes) (T .strings) (styleCount (T .head)) (bytesAt (T .strings) (x .chain)) [] t₁ t₂ (x .look) walked
-        → FinishPost s walked t₂ t₃ answer → RegionStyle id T lent answer t₃
-    region-asked s n walked answer a f =
-        asked id T lent (askedRegion id) (λ k. ByRegion k id) id h (bytesAt (T .strings) (x .chain)) [] (x .look) t₁ t₂ t₃ cleared same-region
-        (region-exactly (trackAt T) id answer-to same-region) (p .within .1) s n walked answer a f
+    pub region-asked : (walked : Applied) (answer : Resolved)
+        → AnswerPost id (T .styles) (T .sizes) (T .strings) (styleCount (T .head)) (bytesAt (T .strings) (x .chain)) [] t₁ t₂ (x .look)
+        (row 1 (x .chain)) (row 1 (span 0 0)) walked
+        → FinishPost (span 0 (length id)) walked t₂ t₃ answer → RegionStyle id T lent answer t₃
+    region-asked walked answer a f =
+        asked id T lent (askedRegion id) (λ k. ByRegion k id) (PlacedRegion id T) id (span 0 (length id)) h
+        (bytesAt (T .strings) (x .chain)) [] (x .look) t₁ t₂ t₃ cleared same-region
+        (region-exactly (trackAt T) id answer-to same-region) (p .within .1) (whole id) (row 1 (x .chain)) (row 1 (span 0 0))
+        (λ v d. record { region = x; said = p .placed; resolved = d }) walked answer a f
 
 -- ---- a cue
 nth-row : {A : Type 0} (f : ℕ → A) (n j i : ℕ) → i < n → nth (rowsFrom f n j) i ≡ some (f (j + i))
@@ -228,17 +252,18 @@ nth-past f (suc n) j zero l = absurd (omega arith)
 nth-past f (suc n) j (suc i) l = nth-past f n (j + 1) i (omega arith)
 
 module _ (T : Tables) (i : ℕ) (lent : List ℕ) (h : queryCheck [] T ≡ Check.Track) where
-  past : cueCount (T .head) ≤ i → askedCue i (trackAt T) ≡ is nothing
+  none-there : cueCount (T .head) ≤ i → askedCue i (trackAt T) ≡ is nothing
   unfolding effectiveStyle trackAt
-  past l = rw (nth-past (cueIn T) (cueCount (T .head)) 0 i l)
+  none-there l = rw (nth-past (cueIn T) (cueCount (T .head)) 0 i l)
 
   pub cue-past : cueCount (T .head) ≤ i → (left : List ℕ) → left ≡ replicate (length lent) 0 → EffectiveStyle T i lent (Resolved.NoStyle 0) left
-  unfolding nothing idsIn rowsFrom stringAt
+  unfolding nothing namesOf rowsIn rowsFrom stringAt startAt
   cue-past l left z =
-      given-query [] T lent (askedCue i) (λ k. ByCue k i) [] h nothing (past l) (cue-exactly (trackAt T) i nothing (past l)) left
+      given-query [] T lent (askedCue i) (λ k. ByCue k i) (PlacedCue T i) [] (span 0 0) h nothing (none-there l)
+      (cue-exactly (trackAt T) i nothing (none-there l)) left
       (rw z (length-replicate {A = ℕ} (length lent) 0)) (record { count = 0; found = false; look = blankLook }) refl refl tidy-blank
       (record { fits = omega arith; few = omega arith; rows = λ j b. absurd (omega arith); marks = λ j b. absurd (omega arith) })
-      (λ c b. rw z (zeros (length lent) c)) (span 0 0) refl
+      (λ c b. rw z (zeros (length lent) c)) (past l refl) refl
 
   module _ (l : i < cueCount (T .head)) where
     abbrev cue : placed.Cue
@@ -283,14 +308,15 @@ module _ (T : Tables) (i : ℕ) (lent : List ℕ) (h : queryCheck [] T ≡ Check
     pub cue-refuses : (n : ℕ) → CueRegionPost (T .regions) (T .extras) (T .strings) (regionCount (T .head)) (cue .«has_region») (cue .region)
         (PartRead.Refused n)
         → (left : List ℕ) → left ≡ replicate (length lent) 0 → EffectiveStyle T i lent (refusedAs n) left
-    cue-refuses n p left z = valued-query [] T lent (askedCue i) (λ k. ByCue k i) [] h n (asks-cue (PartRead.Refused n) p) (p .within) left z
+    cue-refuses n p left z =
+        valued-query [] T lent (askedCue i) (λ k. ByCue k i) (PlacedCue T i) [] (span 0 0) h n (asks-cue (PartRead.Refused n) p) (p .within) left z
 
     module _ (x : Part)
         (p : CueRegionPost (T .regions) (T .extras) (T .strings) (regionCount (T .head)) (cue .«has_region») (cue .region) (PartRead.Is x))
         (t₁ t₂ t₃ : List ℕ) (cleared : t₁ ≡ replicate (length lent) 0) where
       abbrev cue-answer : Resolution
-      cue-answer = resolved [] T lent (askedCue i) (λ k. ByCue k i) [] h (bytesAt (T .strings) (x .chain)) (bytesAt (T .strings) (cue .style)) (x
-          .look) t₁ t₂ t₃ cleared
+      cue-answer = resolved [] T lent (askedCue i) (λ k. ByCue k i) (PlacedCue T i) [] (span 0 0) h (bytesAt (T .strings) (x .chain))
+          (bytesAt (T .strings) (cue .style)) (x .look) t₁ t₂ t₃ cleared
 
       same-cue : askedCue i (trackAt T) ≡ is cue-answer
       unfolding trackAt
@@ -298,9 +324,10 @@ module _ (T : Tables) (i : ℕ) (lent : List ℕ) (h : queryCheck [] T ≡ Check
 
       pub cue-asked : (walked : Applied) (answer : Resolved)
           → AnswerPost [] (T .styles) (T .sizes) (T .strings) (styleCount (T .head)) (bytesAt (T .strings) (x .chain)) (bytesAt (T .strings) (cue
-          .style)) t₁ t₂ (x .look) walked
+          .style)) t₁ t₂ (x .look) (row 1 (x .chain)) (row 1 (cue .style)) walked
           → FinishPost (span 0 0) walked t₂ t₃ answer → EffectiveStyle T i lent answer t₃
       cue-asked walked answer a f =
-          asked [] T lent (askedCue i) (λ k. ByCue k i) [] h (bytesAt (T .strings) (x .chain)) (bytesAt (T .strings) (cue .style)) (x .look) t₁
-          t₂ t₃ cleared
-          same-cue (cue-exactly (trackAt T) i cue-answer same-cue) (p .within .1) (span 0 0) (no-bytes []) walked answer a f
+          asked [] T lent (askedCue i) (λ k. ByCue k i) (PlacedCue T i) [] (span 0 0) h (bytesAt (T .strings) (x .chain))
+          (bytesAt (T .strings) (cue .style)) (x .look) t₁ t₂ t₃ cleared
+          same-cue (cue-exactly (trackAt T) i cue-answer same-cue) (p .within .1) (no-bytes []) (row 1 (x .chain)) (row 1 (cue .style))
+          (λ v d. there l (record { region = x; said = p .placed; resolved = d })) walked answer a f

@@ -7,3 +7,4 @@ pub mod Reaching
 pub mod Promising
 pub mod Asking
 pub mod Determined
+pub mod PlaceExamples

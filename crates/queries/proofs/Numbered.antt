@@ -1,7 +1,7 @@
 -- The kept attributes of a region by the numbers of their names. Assumes nothing.
 --     only-at                          a name that a list has once, at its place
 --     value-none, value-here, value-on     `valueAt`, a row at a time
---     value-named                      the value of the attribute of a name is that of its number
+--     value-named, value-placed        the value of the attribute of a name, and its place, are those of its number
 --     value-within, value-absent       where it stands; without one its part is empty
 use Prim.Native.Nat.{ℕ, zero, suc, _+_, _-_, _*_, _≤_, _<_}
 use Prim.Native.String.{String}
@@ -26,7 +26,8 @@ use Rattle.track.specs.Meaning.{bytesAt, given}
 use Rattle.records.specs.Find.{firstThat}
 use Rattle.styles.specs.Own.{ascii, valueFrom, isNamed, valueOf}
 use Rattle.queries.specs.declared.own.Value.{Value}
-use Rattle.queries.specs.Steps.{noValue, valueAt, valueIn, bytesIn, SpanIn, HasExtras, extrasOf}
+use Rattle.queries.specs.Places.{extrasOf, extrasAt}
+use Rattle.queries.specs.Steps.{noValue, valueAt, valueIn, bytesIn, SpanIn, HasExtras}
 
 -- ---- a name that a list has once
 unfoldable pub noneOf : List (List ℕ) → List ℕ → Bool
@@ -73,14 +74,27 @@ module _ (e : List ℕ) (k i : ℕ) where
   unfolding valueAt
   value-on n h = rw (ne-eqb (getD e (i * 3) 0) k h)
 
+-- whatever is made of the value's place
+module _ {S : Type 0} (g : Span → S) (name : String) (k : ℕ) (h : onceAt regionAttr (ascii name) k ≡ true) (e : List ℕ) where
+  abbrev made : ℕ → Extra S
+  made i = record { number = extraAt e i .number; value = g (extraAt e i .value) }
+
+  pub value-made : (n i : ℕ) → valueOf name (rowsFrom made n i) ≡ given (valueAt e k n i .has) (g (valueAt e k n i .span))
+  unfolding valueOf firstThat rowsFrom valueAt extraAt cell
+  value-made zero i = refl
+  value-made (suc n) i =
+      let q : sameBytes (nameOf Listed.RegionAttr (getD e (i * 3 + 0) 0)) (ascii name) ≡ eqb (getD e (i * 3) 0) k =
+      rw (add-zero (i * 3)) (only-at regionAttr (ascii name) k h (getD e (i * 3) 0)) in
+      by-test (eqb (getD e (i * 3) 0) k) (λ t. rw (q, t)) (λ t. rw (q, t) (value-made n (i + 1)))
+
+-- its bytes, and the place itself
 pub value-named : (name : String) (k : ℕ) → onceAt regionAttr (ascii name) k ≡ true
     → (e z : List ℕ) (n i : ℕ) → valueOf name (extrasOf e z i n) ≡ valueIn e z k n i
-unfolding valueOf firstThat rowsFrom valueAt extraAt cell
-value-named name k h e z zero i = refl
-value-named name k h e z (suc n) i =
-    let q : sameBytes (nameOf Listed.RegionAttr (getD e (i * 3 + 0) 0)) (ascii name) ≡ eqb (getD e (i * 3) 0) k =
-    rw (add-zero (i * 3)) (only-at regionAttr (ascii name) k h (getD e (i * 3) 0)) in
-    by-test (eqb (getD e (i * 3) 0) k) (λ t. rw (q, t)) (λ t. rw (q, t) (value-named name k h e z n (i + 1)))
+value-named name k h e z n i = value-made (bytesAt z) name k h e n i
+
+pub value-placed : (name : String) (k : ℕ) → onceAt regionAttr (ascii name) k ≡ true
+    → (e : List ℕ) (n i : ℕ) → valueOf name (extrasAt e i n) ≡ given (valueAt e k n i .has) (valueAt e k n i .span)
+value-placed name k h e n i = value-made (λ x. x) name k h e n i
 
 pub value-within : (e z : List ℕ) (k n i : ℕ)
     → ((j : ℕ) → i ≤ j → j < i + n → SpanIn z (span (getD e (j * 3 + 1) 0) (getD e (j * 3 + 2) 0))) → SpanIn z (valueAt e k n i .span)

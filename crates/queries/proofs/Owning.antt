@@ -40,13 +40,13 @@ use Rattle.queries.specs.declared.own.ColorRead.{ColorRead}
 use Rattle.queries.specs.declared.own.Measure.{Measure}
 use Rattle.queries.specs.declared.own.SizeRead.{SizeRead}
 use Rattle.queries.specs.declared.own.OwnRead.{OwnRead}
+use Rattle.queries.specs.Places.{extrasOf, extrasAt}
 use Rattle.queries.specs.Steps.{
   valueAt,
   bytesIn,
   valueIn,
   SpanIn,
   HasExtras,
-  extrasOf,
   says,
   alignWord,
   colorAs,
@@ -56,7 +56,7 @@ use Rattle.queries.specs.Steps.{
   ownLook,
   OwnPost,
 }
-use Rattle.queries.proofs.Numbered.{onceAt, value-named, value-absent, value-within}
+use Rattle.queries.proofs.Numbered.{onceAt, value-named, value-placed, value-absent, value-within}
 
 no-bytes : (z : List ℕ) → stringAt z 0 0 ≡ []
 unfolding stringAt
@@ -111,6 +111,10 @@ module _ (e z : List ℕ) (i n : ℕ) where
   unfolding onceAt sameBytes
   family-is = value-named "tts:fontFamily" 15 refl e z n i
 
+  family-at : valueOf "tts:fontFamily" (extrasAt e i n) ≡ given (valueAt e 15 n i .has) (valueAt e 15 n i .span)
+  unfolding onceAt sameBytes
+  family-at = value-placed "tts:fontFamily" 15 refl e n i
+
   weight-is : valueOf "tts:fontWeight" l ≡ valueIn e z 22 n i
   unfolding onceAt sameBytes
   weight-is = value-named "tts:fontWeight" 22 refl e z n i
@@ -127,6 +131,10 @@ module _ (e z : List ℕ) (i n : ℕ) where
   unfolding onceAt sameBytes
   chain-is = value-named "style" 50 refl e z n i
 
+  pub chain-at : valueOf "style" (extrasAt e i n) ≡ given (valueAt e 50 n i .has) (valueAt e 50 n i .span)
+  unfolding onceAt sameBytes
+  chain-at = value-placed "style" 50 refl e n i
+
   says-word : (w : Prim.Native.String.String) (v : Option Bytes) → says (ascii w) v ≡ isWord w v
   says-word w none = refl
   says-word w (some v) = refl
@@ -138,7 +146,7 @@ module _ (e z : List ℕ) (i n : ℕ) where
 
     pub own-cut : r ≡ ColorRead.Cut → OwnPost e z i n (OwnRead.Refused 15)
     unfolding ownValues
-    own-cut h = record { is = rw (color-read-is, h); tidy = omega arith }
+    own-cut h = record { is = rw (color-read-is, h); tidy = omega arith; family = tt }
 
     module _ (color : Paint) (h : r ≡ ColorRead.Is color) (s : ColorRead) (q : ColorPost (bytesIn e z 1 n i) s) where
       back-read-is : colorOf (valueOf "tts:backgroundColor" l) ≡ colorAs s
@@ -146,7 +154,7 @@ module _ (e z : List ℕ) (i n : ℕ) where
 
       pub own-cut-back : s ≡ ColorRead.Cut → OwnPost e z i n (OwnRead.Refused 15)
       unfolding ownValues
-      own-cut-back g = record { is = rw (color-read-is, h, back-read-is, g); tidy = omega arith }
+      own-cut-back g = record { is = rw (color-read-is, h, back-read-is, g); tidy = omega arith; family = tt }
 
       module _ (back : Paint) (g : s ≡ ColorRead.Is back) (t : SizeRead) (o : SizePost (bytesIn e z 19 n i) t) where
         size-read-is : sizeIn (valueOf "tts:fontSize" l) ≡ sizeAs t
@@ -154,7 +162,7 @@ module _ (e z : List ℕ) (i n : ℕ) where
 
         pub own-beyond : t ≡ SizeRead.Beyond → OwnPost e z i n (OwnRead.Refused 14)
         unfolding ownValues
-        own-beyond b = record { is = rw (color-read-is, h, back-read-is, g, size-read-is, b); tidy = omega arith }
+        own-beyond b = record { is = rw (color-read-is, h, back-read-is, g, size-read-is, b); tidy = omega arith; family = tt }
 
         pub own-all : (size : Measure) → t ≡ SizeRead.Is size → (x : values.Look) → x ≡ ownLook e z i n color back size
             → OwnPost e z i n (OwnRead.Is x)
@@ -182,6 +190,7 @@ module _ (e z : List ℕ) (i n : ℕ) where
             family = value-absent e 15 n i;
             size = rw b at (o .tidy);
           });
+          family = rw y family-at;
         }
 
 -- ---- one value

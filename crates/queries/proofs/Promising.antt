@@ -28,14 +28,15 @@ use Rattle.track.specs.Check.{isFull, checkOf}
 use Rattle.track.proofs.Exactly.{track-some, track-none, check-short, check-none, check-track}
 use Rattle.styles.specs.declared.apply.Walk.{Walk}
 use Rattle.styles.specs.declared.apply.Applied.{Applied}
-use Rattle.styles.specs.Reaches.{Exactly}
+use Rattle.styles.specs.Reaches.{Distinct, Exactly}
 use Rattle.styles.specs.Resolve.{Resolution}
 use Rattle.styles.specs.Own.{Read, is, refused}
 use Rattle.styles.specs.Cells.{Tidy}
-use Rattle.styles.specs.Ids.{idsIn, RowWithin}
-use Rattle.styles.specs.Steps.{Over, styleOf, Stood}
-use Rattle.styles.proofs.Along.{ids-length}
+use Rattle.styles.specs.Ids.{rowsIn, idsIn, RowWithin}
+use Rattle.styles.specs.Places.{WalkedAt}
+use Rattle.styles.specs.Steps.{stateAt, Over, styleOf, Stood}
 use Rattle.styles.proofs.Members.{same-count}
+use Rattle.styles.proofs.Places.{rows-count, ids-length, distinct-rows}
 use Rattle.queries.specs.declared.query.Resolved.{Resolved}
 use Rattle.queries.specs.Promise.{
   numberOf,
@@ -49,6 +50,7 @@ use Rattle.queries.specs.Promise.{
   lastNumber,
   trackNumber,
   numberFor,
+  Placed,
   Queried,
 }
 use Rattle.queries.specs.Steps.{checkRest, checkText, queryCheck, answerOf, FinishPost}
@@ -167,9 +169,10 @@ never p e = absurd (omega arith)
 no-name : {A : Type 0} {b : Bytes} → none ≡ some b → A
 no-name e = let z : _≡_ {A = ℕ} 0 1 = cc in absurd (omega arith)
 
-module _ (text : Bytes) (T : Tables) (lent : List ℕ) (ask : Asked) (reached : Track Bytes → Bytes → Type 0) (name : Bytes) where
+module _ (text : Bytes) (T : Tables) (lent : List ℕ) (ask : Asked) (reached : Track Bytes → Bytes → Type 0)
+    (placed : WalkedAt → Type 0) (name : Bytes) (at : Span) where
   pub refused-query : (r : Refusal) → r .place ≡ 0 → 0 < r .number → r .number ≡ numberFor text T lent ask
-      → (left : List ℕ) → left ≡ replicate (length lent) 0 → Queried text T lent ask reached name (Resolved.Refused r) left
+      → (left : List ℕ) → left ≡ replicate (length lent) 0 → Queried text T lent ask reached placed name at (Resolved.Refused r) left
   unfolding numberOf placeOf countOf nameIn styleIn
   refused-query r p g n left z = record {
     number = n;
@@ -179,6 +182,7 @@ module _ (text : Bytes) (T : Tables) (lent : List ℕ) (ask : Asked) (reached : 
     absent = tt;
     ids = λ e. never g e;
     count = λ e. never g e;
+    cells = λ e. never g e;
     fits = λ e. never g e;
     rows = λ e. never g e;
     marks = λ i. rw z (zeros (length lent) (i * 4 + 3));
@@ -189,7 +193,7 @@ module _ (text : Bytes) (T : Tables) (lent : List ℕ) (ask : Asked) (reached : 
 
   -- the check refuses
   pub checked-query : (r : Refusal) → queryCheck text T ≡ Check.Refused r → (left : List ℕ) → left ≡ replicate (length lent) 0
-      → Queried text T lent ask reached name (Resolved.Refused r) left
+      → Queried text T lent ask reached placed name at (Resolved.Refused r) left
   checked-query r h left z =
       let g : Good (Check.Refused r) = rw h at (check-good text T) in
       refused-query r (g .0) (g .1) (sym (check-number text T lent ask ∙ rw h)) left z
@@ -197,7 +201,7 @@ module _ (text : Bytes) (T : Tables) (lent : List ℕ) (ask : Asked) (reached : 
   module _ (h : queryCheck text T ≡ Check.Track) where
     -- a value of a region refuses
     pub valued-query : (n : ℕ) → ask (trackAt T) ≡ refused n → 0 < n → (left : List ℕ) → left ≡ replicate (length lent) 0
-        → Queried text T lent ask reached name (Resolved.Refused (record { number = n; place = 0 })) left
+        → Queried text T lent ask reached placed name at (Resolved.Refused (record { number = n; place = 0 })) left
     unfolding lastNumber
     valued-query n e g left z =
         refused-query (record { number = n; place = 0 }) refl g (sym (check-number text T lent ask ∙ rw (h, e))) left z
@@ -215,7 +219,7 @@ module _ (text : Bytes) (T : Tables) (lent : List ℕ) (ask : Asked) (reached : 
           (λ t. rw t (by-test (ltb 65536 (length (r .ids))) (λ u. absurd (omega (arith, ltb-true 65536 (length (r .ids)) u))) (λ u. u)))
 
       pub over-query : Over lent (r .ids) → (left : List ℕ) → left ≡ replicate (length lent) 0
-          → Queried text T lent ask reached name (Resolved.Refused (record { number = 18; place = 0 })) left
+          → Queried text T lent ask reached placed name at (Resolved.Refused (record { number = 18; place = 0 })) left
       unfolding lastNumber
       over-query o left z =
           refused-query (record { number = 18; place = 0 }) refl (omega arith) (sym (check-number text T lent ask ∙ rw (h, e, is-over o))) left z
@@ -223,6 +227,7 @@ module _ (text : Bytes) (T : Tables) (lent : List ℕ) (ask : Asked) (reached : 
       module _ (exactly : Exactly (reached (trackAt T)) (r .ids)) (left : List ℕ) (kept : length left ≡ length lent) (w : Walk)
           (style-is : styleOf (T .strings) w ≡ r .style) (ids-are : idsIn text (T .strings) left (w .count) ≡ r .ids) (tidy : Tidy (w .look))
           (stood : Stood text (T .strings) left (w .count)) (behind : (c : ℕ) → w .count * 4 ≤ c → getD left c 0 ≡ 0)
+          (walked : placed (stateAt left w))
         where
           many : length (r .ids) ≡ w .count
           many = rw (← ids-are) (ids-length text (T .strings) left (w .count))
@@ -239,10 +244,21 @@ module _ (text : Bytes) (T : Tables) (lent : List ℕ) (ask : Asked) (reached : 
               by-test (ltb i (w .count)) (λ t. stood .marks i (ltb-true i (w .count) t))
               (λ t. behind (i * 4 + 3) (omega (arith, ltb-false i (w .count) t)))
 
+          once : Distinct (rowsIn left (w .count))
+          once = distinct-rows text (T .strings) (rowsIn left (w .count)) (rw ids-are (exactly .once))
+
+          as-placed : (answer : Resolved) → countOf answer ≡ w .count → answer ≡ answerOf at w → Placed placed at answer left
+          as-placed answer c e = record {
+            walked = stateAt left w;
+            is-placed = walked;
+            told = e ∙ rw (rows-count left (w .count));
+            rows = rw c (record { all = λ a m. m; only = λ a m. m; once = once });
+          }
+
           as-answer : (answer : Resolved) → numberOf answer ≡ 0 → placeOf answer ≡ 0 → styleIn (T .strings) answer ≡ styleOf (T .strings) w
               → countOf answer ≡ w .count → ((b : Bytes) → nameIn text answer ≡ some b → b ≡ name) → AbsentZero answer
-              → Queried text T lent ask reached name answer left
-          as-answer answer n p s c m a = record {
+              → answer ≡ answerOf at w → Queried text T lent ask reached placed name at answer left
+          as-answer answer n p s c m a v = record {
             number = n ∙ sym no-number;
             place = p;
             style = λ z k q v o.
@@ -253,6 +269,7 @@ module _ (text : Bytes) (T : Tables) (lent : List ℕ) (ask : Asked) (reached : 
             absent = a;
             ids = λ z k q. rw (the-track k q, c, ids-are) exactly;
             count = λ z k q l x. c ∙ (sym many ∙ same-count (r .ids) l exactly (rw (the-track k q) at x));
+            cells = λ z. as-placed answer c v;
             fits = λ z. rw c (omega (arith, stood .fits, kept));
             rows = λ z i l. stood .rows i (rw c at l);
             marks = marked;
@@ -261,13 +278,13 @@ module _ (text : Bytes) (T : Tables) (lent : List ℕ) (ask : Asked) (reached : 
             cleared = λ z. never z n;
           }
 
-          pub given-query : (part : Span) → bytesAt text part ≡ name → Queried text T lent ask reached name (answerOf part w) left
+          pub given-query : bytesAt text at ≡ name → Queried text T lent ask reached placed name at (answerOf at w) left
           unfolding numberOf placeOf countOf nameIn styleIn
-          given-query part q =
+          given-query q =
               by-test (w .found)
-              (λ t. rw t (as-answer (Resolved.Style (record { name = part; look = w .look; ids = w .count })) refl refl (rw t) refl (λ b x. named
-              b x) tidy))
-              (λ t. rw t (as-answer (Resolved.NoStyle (w .count)) refl refl (rw t) refl (λ b x. no-name x) tt))
+              (λ t. rw t (as-answer (Resolved.Style (record { name = at; look = w .look; ids = w .count })) refl refl (rw t) refl (λ b x. named
+              b x) tidy (rw t)))
+              (λ t. rw t (as-answer (Resolved.NoStyle (w .count)) refl refl (rw t) refl (λ b x. no-name x) tt (rw t)))
             where
-              named : (b : Bytes) → some (bytesAt text part) ≡ some b → b ≡ name
-              named b x = let y : b ≡ bytesAt text part = cc in y ∙ q
+              named : (b : Bytes) → some (bytesAt text at) ≡ some b → b ≡ name
+              named b x = let y : b ≡ bytesAt text at = cc in y ∙ q

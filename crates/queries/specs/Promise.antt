@@ -9,18 +9,21 @@ use mathlib.Core.List.{List, [], _∷_}
 use mathlib.Core.Option.{Option, none, some}
 use lib.ListN.{length, getD, replicate}
 use lib.Dec.{leb, ltb}
-use Rattle.unicode.specs.White.{trimmed}
+use Rattle.unicode.specs.White.{trimmed, whiteEnd}
 use Rattle.track.specs.Track.{Bytes, Look, Region, Cue, Track}
-use Rattle.track.specs.Tables.{Tables}
+use Rattle.track.specs.declared.strings.Span.{Span}
+use Rattle.track.specs.Tables.{Tables, span}
 use Rattle.track.specs.Meaning.{isUtf8, bytesAt, lookIn, trackIn}
 use Rattle.track.specs.Check.{isFull}
 use Rattle.records.specs.Find.{findStyle, findRegion}
-use Rattle.styles.specs.Reaches.{Reaches, Exactly}
+use Rattle.styles.specs.Reaches.{_∈_, Reaches, Exactly}
 use Rattle.styles.specs.Resolve.{Resolution, resolve}
 use Rattle.styles.specs.Own.{Read, is, refused, valueOf}
 use Rattle.styles.specs.Queries.{regionStyle, effectiveStyle, nth}
 use Rattle.styles.specs.Cells.{Tidy}
-use Rattle.styles.specs.Ids.{idsIn, RowWithin}
+use Rattle.styles.specs.Ids.{Row, rowsIn, idsIn, RowWithin}
+use Rattle.styles.specs.Places.{WalkedAt}
+use Rattle.queries.specs.Places.{PlacedValue, PlacedRegion, PlacedCue}
 use Rattle.queries.specs.declared.query.Resolved.{Resolved}
 use Rattle.queries.specs.declared.query.Resolved.the-variants.{Style, NoStyle, Refused}
 
@@ -104,11 +107,28 @@ unfolding isFull trackNumber
 numberFor text T lent ask =
     cond (isFull T) (cond (leb (length text) 65536) (cond (isUtf8 text) (trackNumber lent ask (trackIn T)) 3) 2) 1
 
+-- ---- the cells
+-- the answer after a walk; `at` is the place of the style's name in the text
+abbrev pub answerAt : Span → WalkedAt → Resolved
+answerAt at v =
+    cond (v .found) (Style (record { name = at; look = v .look; ids = length (v .visited) })) (NoStyle (length (v .visited)))
+
+-- it is the answer after the walk that `placed` describes, and the rows are the ids that were visited, each where it was met first
+pub record Placed (placed : WalkedAt → Type 0) (at : Span) (answer : Resolved) (left : List ℕ) : Type 0 where
+  pub walked : WalkedAt
+  pub is-placed : placed walked
+  pub told : answer ≡ answerAt at walked
+  pub rows : Exactly (λ (a : Row). a ∈ walked .visited) (rowsIn left (countOf answer))
+
+-- where the text's part without white space at its ends stands
+abbrev pub trimmedAt : Bytes → Span
+trimmedAt text = span (whiteEnd text 0) (length (trimmed text))
+
 -- ---- the promise
--- What every query promises. `reached` says which ids a track's query reaches. Two things are the program's choice: the order of the ids, and
--- which occurrence of an id a row points at; all choices have in common what `ids` and `rows` say.
-pub record Queried (text : Bytes) (T : Tables) (lent : List ℕ) (ask : Asked) (reached : Track Bytes → Bytes → Type 0) (name : Bytes)
-    (answer : Resolved) (left : List ℕ) : Type 0 where
+-- What every query promises. `reached` says which ids a track's query reaches, and `placed` with which places. The order of the ids is the program's
+-- choice; all choices have in common what `ids` and `cells` say.
+pub record Queried (text : Bytes) (T : Tables) (lent : List ℕ) (ask : Asked) (reached : Track Bytes → Bytes → Type 0) (placed : WalkedAt → Type 0)
+    (name : Bytes) (at : Span) (answer : Resolved) (left : List ℕ) : Type 0 where
   -- with that number, 0 where a style or none is given; "place (0 […] if a track was handed)"
   pub number : numberOf answer ≡ numberFor text T lent ask
   pub place : placeOf answer ≡ 0
@@ -120,6 +140,8 @@ pub record Queried (text : Bytes) (T : Tables) (lent : List ℕ) (ask : Asked) (
   -- "each holds exactly the ids reachable, each once", "and their count, equal to the number of distinct ids reachable"
   pub ids : numberOf answer ≡ 0 → (k : Track Bytes) → trackIn T ≡ some k → Exactly (reached k) (idsIn text (T .strings) left (countOf answer))
   pub count : numberOf answer ≡ 0 → (k : Track Bytes) → trackIn T ≡ some k → (l : List Bytes) → Exactly (reached k) l → countOf answer ≡ length l
+  -- the places of its name, of its family and of the ids
+  pub cells : numberOf answer ≡ 0 → Placed placed at answer left
   -- each row points into the query's text or the track's strings; "unused cells are zero"
   pub fits : numberOf answer ≡ 0 → countOf answer * 4 ≤ length lent
   pub rows : numberOf answer ≡ 0 → (i : ℕ) → i < countOf answer → RowWithin text (T .strings) left i
@@ -131,13 +153,26 @@ pub record Queried (text : Bytes) (T : Tables) (lent : List ℕ) (ask : Asked) (
 
 -- "`resolve_referenced_style` gives no style exactly if no id reachable through chains names one."
 pub record ReferencedStyle (value : Bytes) (T : Tables) (lent : List ℕ) (answer : Resolved) (left : List ℕ) : Type 0 where
-  pub queried : Queried value T lent (askedValue value) (λ k. Reaches (k .styles) value) (trimmed value) answer left
+  pub queried : Queried value T lent (askedValue value) (λ k. Reaches (k .styles) value) (PlacedValue value T) (trimmed value) (trimmedAt value)
+      answer left
   pub no-style : numberOf answer ≡ 0 → (k : Track Bytes) → trackIn T ≡ some k
       → (styleIn (T .strings) answer ≡ none) ↔ ((a : Bytes) → Reaches (k .styles) value a → findStyle a (k .styles) ≡ none)
 
 abbrev pub RegionStyle : Bytes → Tables → List ℕ → Resolved → List ℕ → Type 0
-RegionStyle id T lent answer left = Queried id T lent (askedRegion id) (λ k. ByRegion k id) id answer left
+RegionStyle id T lent answer left =
+    Queried id T lent (askedRegion id) (λ k. ByRegion k id) (PlacedRegion id T) id (span 0 (length id)) answer left
 
 -- "A cue index past the end gives no style." No text is asked for, and the style has no name.
 abbrev pub EffectiveStyle : Tables → ℕ → List ℕ → Resolved → List ℕ → Type 0
-EffectiveStyle T i lent answer left = Queried [] T lent (askedCue i) (λ k. ByCue k i) [] answer left
+EffectiveStyle T i lent answer left = Queried [] T lent (askedCue i) (λ k. ByCue k i) (PlacedCue T i) [] (span 0 0) answer left
+
+-- ---- what every choice has in common: "the ids reached, each once, in an order left open"
+-- Two outcomes, l and m being what is left: the answers are equal, the rows but for their order, and all other cells. `proofs/Determined` proves it of
+-- any two that meet one of the promises.
+pub record EqualButOrder (a b : Resolved) (l m : List ℕ) : Type 0 where
+  pub answer : a ≡ b
+  pub rows : (x : Row) → (x ∈ rowsIn l (countOf a)) ↔ (x ∈ rowsIn m (countOf b))
+  pub marks : (i : ℕ) → getD l (i * 4 + 3) 0 ≡ getD m (i * 4 + 3) 0
+  pub behind : (c : ℕ) → countOf a * 4 ≤ c → getD l c 0 ≡ getD m c 0
+  pub as-long : length l ≡ length m
+  pub cleared : 0 < numberOf a → l ≡ m

@@ -21,16 +21,17 @@ use Rattle.track.specs.declared.values.Look as values
 use Rattle.track.specs.declared.check.Check.{Check}
 use Rattle.track.specs.Track.{Bytes, Look, Extra, Style, Region}
 use Rattle.track.specs.Tables.{Tables, span, rowsFrom}
-use Rattle.track.specs.Meaning.{isUtf8, bytesAt, given, lookIn, extraIn, regionIn}
+use Rattle.track.specs.Meaning.{isUtf8, bytesAt, given, lookIn, regionIn}
 use Rattle.track.specs.Check as track
 use Rattle.records.specs.Find.{Named, findRegion}
 use Rattle.styles.specs.declared.apply.Walk.{Walk}
 use Rattle.styles.specs.declared.apply.Applied.{Applied}
 use Rattle.styles.specs.Resolve.{Resolution, resolve}
-use Rattle.styles.specs.Own.{Read, is, refused, ascii, colorRead, sizeRead, sizeByte, alignIn, ownValues}
+use Rattle.styles.specs.Own.{Read, is, refused, ascii, valueOf, colorRead, sizeRead, sizeByte, alignIn, ownValues}
 use Rattle.styles.specs.Queries.{nothing, withOwn, regionFound}
-use Rattle.styles.specs.Cells.{noColor, noSize, blankLook, Tidy}
-use Rattle.styles.specs.Steps.{bare}
+use Rattle.styles.specs.Cells.{noColor, noSize, Tidy}
+unfoldable pub use Rattle.queries.specs.Places.{blankPart}
+use Rattle.queries.specs.Places.{extrasOf, extrasAt, partAt}
 use Rattle.queries.specs.declared.own.Value.{Value}
 use Rattle.queries.specs.declared.own.Paint.{Paint}
 use Rattle.queries.specs.declared.own.ColorRead.{ColorRead}
@@ -122,10 +123,6 @@ ownLook e z first many color back size = record {
   align = alignIn (valueIn e z 39 many first);
 }
 
--- the extras as they are known
-abbrev pub extrasOf : (e z : List ℕ) → (first many : ℕ) → List (Extra Bytes)
-extrasOf e z first many = rowsFrom (extraIn (bare [] [] e z)) many first
-
 abbrev pub ownAs : List ℕ → OwnRead → Read (Look Bytes)
 ownAs z (OwnRead.Is l) = is (lookIn z l)
 ownAs z (OwnRead.Refused n) = refused n
@@ -134,9 +131,15 @@ abbrev pub TidyOwn : OwnRead → Type 0
 TidyOwn (OwnRead.Is l) = Tidy l
 TidyOwn (OwnRead.Refused n) = 0 < n
 
+-- the family stands where the attribute's value does
+abbrev pub FamilyAt : List (Extra Span) → OwnRead → Type 0
+FamilyAt extras (OwnRead.Is l) = valueOf "tts:fontFamily" extras ≡ given (l .«has_family») (l .family)
+FamilyAt extras (OwnRead.Refused n) = Unit {0}
+
 pub record OwnPost (e z : List ℕ) (first many : ℕ) (r : OwnRead) : Type 0 where
   pub is : ownAs z r ≡ ownValues (extrasOf e z first many)
   pub tidy : TidyOwn r
+  pub family : FamilyAt (extrasAt e first many) r
 
 -- ---- regions; r is their table
 pub record HasRegions (r e z : List ℕ) (n : ℕ) : Type 0 where
@@ -162,10 +165,6 @@ regionTables r e z = record {
 abbrev pub regionsOf : (r e z : List ℕ) → ℕ → List (Region Bytes)
 regionsOf r e z n = rowsFrom (regionIn (regionTables r e z)) n 0
 
-unfoldable pub blankPart : Part
-unfolding blankLook
-blankPart = record { look = blankLook; chain = span 0 0 }
-
 abbrev pub partAs : List ℕ → List (Style Bytes) → PartRead → Read Resolution
 partAs z styles (PartRead.Is x) = is (withOwn (resolve styles (bytesAt z (x .chain))) (lookIn z (x .look)))
 partAs z styles (PartRead.Refused n) = refused n
@@ -174,17 +173,23 @@ abbrev pub PartWithin : List ℕ → PartRead → Type 0
 PartWithin z (PartRead.Is x) = SpanIn z (x .chain) × Tidy (x .look)
 PartWithin z (PartRead.Refused n) = 0 < n
 
--- the answer of a region, whatever the styles
-pub record PartPost (z : List ℕ) (answer : List (Style Bytes) → Read Resolution) (r : PartRead) : Type 0 where
+abbrev pub partRead : PartRead → Read Part
+partRead (PartRead.Is x) = is x
+partRead (PartRead.Refused n) = refused n
+
+-- the answer of a region, whatever the styles; and the part itself
+pub record PartPost (z : List ℕ) (answer : List (Style Bytes) → Read Resolution) (part : Read Part) (r : PartRead) : Type 0 where
   pub is : (styles : List (Style Bytes)) → partAs z styles r ≡ answer styles
   pub within : PartWithin z r
+  pub placed : part ≡ partRead r
 
 abbrev pub RegionPost : (r e z : List ℕ) → (n : ℕ) → Bytes → PartRead → Type 0
-RegionPost r e z n id x = PartPost z (λ styles. regionFound styles (findRegion id (regionsOf r e z n))) x
+RegionPost r e z n id x = PartPost z (λ styles. regionFound styles (findRegion id (regionsOf r e z n))) (partAt r e z n id) x
 
 abbrev pub CueRegionPost : (r e z : List ℕ) → (n : ℕ) → Bool → Span → PartRead → Type 0
 CueRegionPost r e z n has id x =
-    PartPost z (λ styles. cond has (regionFound styles (findRegion (bytesAt z id) (regionsOf r e z n))) (is nothing)) x
+    PartPost z (λ styles. cond has (regionFound styles (findRegion (bytesAt z id) (regionsOf r e z n))) (is nothing))
+    (cond has (partAt r e z n (bytesAt z id)) (is blankPart)) x
 
 -- ---- the numbers that come first
 unfoldable pub checkRest : Bytes → Check → Check

@@ -19,8 +19,9 @@ use Rattle.scan.specs.Part.{stringAt}
 use Rattle.scan.proofs.Stores.{sets-other}
 use Rattle.unicode.proofs.Utf8Laws.{by-test}
 use Rattle.track.specs.Track.{Bytes}
-use Rattle.styles.specs.Ids.{sourceOf, idAt, idsIn, RowWithin, hashOf, turn, half, fromOne, met, Tree, Held, Ends, Added, AddPost}
-use Rattle.styles.proofs.Search.{rows-same, ids-last, from-some, met-first, met-next, met-none, met-cases, met-le}
+use Rattle.styles.specs.Ids.{sourceOf, bytesOf, rowAt, rowsIn, idAt, RowWithin, hashOf, turn, half, fromOne, met, Tree, Held, Ends, Added}
+use Rattle.styles.specs.Ids.{AddPost}
+use Rattle.styles.proofs.Search.{rows-same, row-last, from-some, met-first, met-next, met-none, met-cases, met-le}
 
 pub sets-cell : (w t : List ℕ) (i k : ℕ) → k < length w → i + length w ≤ length t → getD (sets t i w) (i + k) 0 ≡ getD w k 0
 sets-cell [] t i k h l = absurd (omega arith)
@@ -43,20 +44,20 @@ unfolding half
 half-zero true k e = rw e
 half-zero false k e = rw e
 
--- ids of rows
-id-same : (x z t t′ : List ℕ) (i : ℕ) → getD t′ (i * 4) 0 ≡ getD t (i * 4) 0 → getD t′ (i * 4 + 1) 0 ≡ getD t (i * 4 + 1) 0
-    → getD t′ (i * 4 + 2) 0 ≡ getD t (i * 4 + 2) 0 → idAt x z t′ i ≡ idAt x z t i
-unfolding idAt
-id-same x z t t′ i a b c = rw (a, b, c)
+-- rows
+row-same : (t t′ : List ℕ) (i : ℕ) → getD t′ (i * 4) 0 ≡ getD t (i * 4) 0 → getD t′ (i * 4 + 1) 0 ≡ getD t (i * 4 + 1) 0
+    → getD t′ (i * 4 + 2) 0 ≡ getD t (i * 4 + 2) 0 → rowAt t′ i ≡ rowAt t i
+unfolding rowAt
+row-same t t′ i a b c = rw (a, b, c)
 
-id-here : (x z t : List ℕ) (i source place len : ℕ) → getD t (i * 4) 0 ≡ source → getD t (i * 4 + 1) 0 ≡ place → getD t (i * 4 + 2) 0 ≡ len
-    → idAt x z t i ≡ stringAt (sourceOf x z source) place len
-unfolding idAt
-id-here x z t i source place len a b c = rw (a, b, c)
+row-here : (t : List ℕ) (i source place len : ℕ) → getD t (i * 4) 0 ≡ source → getD t (i * 4 + 1) 0 ≡ place → getD t (i * 4 + 2) 0 ≡ len
+    → rowAt t i ≡ record { source = source; place = place; len = len }
+unfolding rowAt
+row-here t i source place len a b c = rw (a, b, c)
 
-ids-same : (x z t t′ : List ℕ) (n : ℕ) → ((i : ℕ) → i < n → idAt x z t′ i ≡ idAt x z t i) → idsIn x z t′ n ≡ idsIn x z t n
-unfolding idsIn
-ids-same x z t t′ n h = rows-same (idAt x z t′) (idAt x z t) n 0 (λ k l. h k (omega arith))
+rows-are : (t t′ : List ℕ) (n : ℕ) → ((i : ℕ) → i < n → rowAt t′ i ≡ rowAt t i) → rowsIn t′ n ≡ rowsIn t n
+unfolding rowsIn
+rows-are t t′ n h = rows-same (rowAt t′) (rowAt t) n 0 (λ k l. h k (omega arith))
 
 -- ---- the rows and heads with one more
 -- row n stands as said, with an empty link; one half of a link, or a head, that was empty leads to it, and all others are as they were
@@ -220,24 +221,29 @@ module _ (t heads : List ℕ) (n source place len : ℕ) (t′ heads′ : List �
       )
 
       pub added : (d : ℕ) × (met t′ heads′ name d ≡ suc n) → n < 65536 → (x z : List ℕ) → Held x z t heads n → source ≤ 1
-          → place + len ≤ length (sourceOf x z source) → name ≡ stringAt (sourceOf x z source) place len → Added x z t heads n name t′ heads′
+          → place + len ≤ length (sourceOf x z source) → name ≡ stringAt (sourceOf x z source) place len
+          → Added x z t heads n (record { source = source; place = place; len = len }) t′ heads′
+      unfolding idAt
       added leads few x z held known fits is = record {
         held = record { tree = tree-more; few = omega arith; within = within-more; found = found-more };
-        ids = rw (add-one n) (ids-last x z t′ n ∙ rw (new-id, same-ids));
+        rows = rw (add-one n) (row-last t′ n ∙ rw (new-row, rows-are t t′ n old-row));
         behind = new .behind;
       }
         where
           first-cell : (i : ℕ) → i < n → getD t′ (i * 4) 0 ≡ getD t (i * 4) 0
           first-cell i l = rw (add-zero (i * 4)) at (new .cells i 0 l (omega arith))
 
+          old-row : (i : ℕ) → i < n → rowAt t′ i ≡ rowAt t i
+          old-row i l = row-same t t′ i (first-cell i l) (new .cells i 1 l (omega arith)) (new .cells i 2 l (omega arith))
+
+          new-row : rowAt t′ n ≡ record { source = source; place = place; len = len }
+          new-row = row-here t′ n source place len (new .source-of) (new .place-of) (new .len-of)
+
           old-id : (i : ℕ) → i < n → idAt x z t′ i ≡ idAt x z t i
-          old-id i l = id-same x z t t′ i (first-cell i l) (new .cells i 1 l (omega arith)) (new .cells i 2 l (omega arith))
+          old-id i l = ap (bytesOf x z) (old-row i l)
 
           new-id : idAt x z t′ n ≡ name
-          new-id = id-here x z t′ n source place len (new .source-of) (new .place-of) (new .len-of) ∙ sym is
-
-          same-ids : idsIn x z t′ n ≡ idsIn x z t n
-          same-ids = ids-same x z t t′ n old-id
+          new-id = ap (bytesOf x z) new-row ∙ sym is
 
           within-more : (i : ℕ) → i < n + 1 → RowWithin x z t′ i
           within-more i l =

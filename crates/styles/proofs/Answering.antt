@@ -23,10 +23,13 @@ use Rattle.styles.specs.Values.{blank, unstyled, laidOver}
 use Rattle.styles.specs.Resolve.{Walked, Resolution, start, walk, answered, resolve}
 use Rattle.styles.specs.Queries.{others, both, styled, withOwn}
 use Rattle.styles.specs.Cells.{overlaid, blankLook, isPlain, Tidy}
-use Rattle.styles.specs.Ids.{idsIn, Held, Unlinked}
+use Rattle.styles.specs.Ids.{Row, bytesOf, namesOf, rowsIn, Held, Unlinked}
+use Rattle.styles.specs.Places as places
+use Rattle.styles.specs.Places.{WalkedAt, forget, startAt}
 use Rattle.styles.specs.Steps.{
   stylesIn,
   stateIn,
+  stateAt,
   Over,
   Applies,
   Overflows,
@@ -40,8 +43,9 @@ use Rattle.styles.specs.Steps.{
   Answered,
   AnswerOver,
 }
-use Rattle.styles.proofs.Clearing.{unlinked-ids, unlinked-within}
-use Rattle.styles.proofs.Along.{over-kept, over-longer, walk-none}
+use Rattle.styles.proofs.Clearing.{unlinked-rows, unlinked-within}
+use Rattle.styles.proofs.Along.{over-kept, over-longer}
+use Rattle.styles.proofs.Forgetting.{walk-none, forgets}
 use Rattle.styles.proofs.Lookups.{look-over, no-words}
 use Rattle.styles.proofs.Overlays.{plain-unstyled}
 use Rattle.styles.proofs.Both.{both-ids, both-longer}
@@ -77,9 +81,13 @@ both-nothing styles l = rw (resolve-nothing styles) (append-nil l)
 
 module _ (x s : List ℕ) (f : List Float) (z : List ℕ) (n : ℕ) (first second : Bytes) (t : List ℕ) (w : Walk) (none-yet : w .count ≡ 0)
     (no-style : w .found ≡ false) (plain : w .look ≡ blankLook) (t₁ h₁ : List ℕ) where
+  starts-at : stateAt t w ≡ startAt
+  unfolding startAt rowsIn rowsFrom
+  starts-at = rw (none-yet, no-style, plain)
+
   starts : stateIn x z t w ≡ start
-  unfolding start idsIn rowsFrom lookIn blankLook blank
-  starts = rw (none-yet, no-style, plain)
+  unfolding start startAt namesOf lookIn blankLook blank
+  starts = ap (forget x z) starts-at
 
   from-start : (e : List ℕ) → walk (stylesIn s f e z n) (words first) (stateIn x z t w) ≡ walk (stylesIn s f e z n) (words first) start
   from-start e = rw starts
@@ -94,9 +102,10 @@ module _ (x s : List ℕ) (f : List Float) (z : List ℕ) (n : ℕ) (first secon
         over-longer t l (l ++ k) (omega (arith, length-append l k)) (rw (from-start e) at (o .over e));
   }
 
-  module _ (a : Walk) (done : Applies x s f z n (words first) t t₁ h₁ w a) where
+  module _ (one : Row) (is-one : bytesOf x z one ≡ first) (a : Walk) (done : Applies (places.Walks x s f z n one 0) x z t t₁ h₁ w a) where
     ends : (e : List ℕ) → walk (stylesIn s f e z n) (words first) start ≡ stateIn x z t₁ a
-    ends e = sym (from-start e) ∙ done .is e
+    unfolding words
+    ends e = sym (from-start e) ∙ rw (← is-one) (forgets x s f e z n (done .is))
 
     first-ids : (e : List ℕ) → stateIn x z t₁ a .visited ≡ resolve (stylesIn s f e z n) first .ids
     unfolding resolve answered
@@ -112,16 +121,26 @@ module _ (x s : List ℕ) (f : List Float) (z : List ℕ) (n : ℕ) (first secon
         over = λ e. over-kept t t₁ (idsOfBoth x s f z n first second t t₁ e) (done .grown .kept) (rw (all-ids e) at (o .over e));
       }
 
-      pub pairs : (b : Walk) → Applies x s f z n (words second) t₁ t₂ h₂ a b → (t₃ : List ℕ) → Unlinked t₂ t₃ (b .count)
-          → (r : Walk) → r .count ≡ b .count → r .found ≡ a .found → r .look ≡ a .look → Pairs x s f z n first second t t₃ r
-      unfolding resolve answered
-      pairs b more t₃ u r c g k =
+      pub pairs : (two : Row) → bytesOf x z two ≡ second → (b : Walk) → Applies (places.Walks x s f z n two 0) x z t₁ t₂ h₂ a b
+          → (t₃ : List ℕ) → Unlinked t₂ t₃ (b .count)
+          → (r : Walk) → r .count ≡ b .count → r .found ≡ a .found → r .look ≡ a .look → Pairs x s f z n first second t t₃ one two r
+      unfolding resolve answered words
+      pairs two is-two b more t₃ u r c g k =
           let h = more .grown .held in
           record {
             style = λ e. rw (ends e, g, k);
             ids = λ e.
-                rw c (unlinked-ids x z t₂ t₃ (b .count) u (b .count))
-                ∙ (sym (ap (λ (v : Walked). v .visited) (more .is e)) ∙ all-ids e);
+                let on : walk (stylesIn s f e z n) (words second) (stateIn x z t₁ a) ≡ stateIn x z t₂ b =
+                rw (← is-two) (forgets x s f e z n (more .is)) in
+                rw c (ap (namesOf x z) (unlinked-rows x z t₂ t₃ (b .count) u (b .count)))
+                ∙ (sym (ap (λ (v : Walked). v .visited) on) ∙ all-ids e);
+            placed = record {
+              below = stateAt t₁ a;
+              all = stateAt t₂ b;
+              its-style = rw starts-at at (done .is);
+              its-ids = more .is;
+              is = rw (c, g, k, unlinked-rows x z t₂ t₃ (b .count) u (b .count));
+            };
             tidy = rw k (done .tidy (rw plain tidy-blank));
             kept = u .kept ∙ (more .grown .kept ∙ done .grown .kept);
             stood = rw c (record {
@@ -142,17 +161,18 @@ under-none (some x) = refl
 
 module _ (below : Walk) (has : Bool) (above : values.Look) where
   pub lays-none : has ≡ false → LaysOver below has above below
-  lays-none h = record { count = refl; is = λ z. rw h (under-none (styleOf z below)); tidy = λ a b. a }
+  lays-none h = record { count = refl; is = λ z. rw h (under-none (styleOf z below)); tidy = λ a b. a; placed = λ t. rw h }
 
   module _ (r : Walk) (h : has ≡ true) (c : r .count ≡ below .count) (g : r .found ≡ true) where
     pub lays-first : below .found ≡ false → r .look ≡ above → LaysOver below has above r
-    lays-first n k = record { count = c; is = λ z. rw (h, g, n, k); tidy = λ a b. rw k b }
+    lays-first n k = record { count = c; is = λ z. rw (h, g, n, k); tidy = λ a b. rw k b; placed = λ t. rw (h, c, g, n, k) }
 
     pub lays-second : below .found ≡ true → r .look ≡ overlaid (below .look) above → LaysOver below has above r
     lays-second n k = record {
       count = c;
       is = λ z. rw (h, g, n, k, look-over z (below .look) above);
       tidy = λ a b. rw k (tidy-over (below .look) above a b);
+      placed = λ t. rw (h, c, g, n, k);
     }
 
 -- ---- a look, and a second value
@@ -184,17 +204,30 @@ module _ (x s : List ℕ) (f : List Float) (z : List ℕ) (n : ℕ) (first secon
     answerFirst : List ℕ → Option (Look Bytes)
     answerFirst e = withOwn (resolve (stylesIn s f e z n) first) (lookIn z look) .style
 
-    pub is-answered : (b : Walk) (u v : List ℕ) → Pairs x s f z n second [] u v b → (a : Walk) → Pairs x s f z n first second t₁ t₂ a
+    pub is-answered : (one two three : Row) (b : Walk) (u v : List ℕ) → Pairs x s f z n second [] u v two three b
+        → (a : Walk) → Pairs x s f z n first second t₁ t₂ one two a
         → (m r : Walk) → LaysOver a (not (isPlain look)) look m → LaysOver m (b .found) (b .look) r
-        → Answered x s f z n first second t t₂ look r
+        → Answered x s f z n first second t t₂ look one two r
     unfolding answerFirst
-    is-answered b u v alone a pair m r below above =
+    is-answered one two three b u v alone a pair m r below above =
         let c : r .count ≡ a .count = above .count ∙ below .count in
         record {
           style = λ e.
               above .is z ∙ rw (below .is z, pair .style e, given-cond (isPlain look) (lookIn z look), plain-unstyled z look) (ap
               (laidOver (answerFirst e)) (alone .style e));
           ids = λ e. rw c (pair .ids e);
+          placed = record {
+            below = stateAt t₂ a;
+            above = alone .placed .below;
+            joined = pair .placed;
+            second = alone .placed .its-style;
+            is = above .placed t₂
+                ∙ rw (
+                  below .placed t₂,
+                  ap (λ (w : WalkedAt). w .found) (alone .placed .is),
+                  ap (λ (w : WalkedAt). w .look) (alone .placed .is),
+                );
+          };
           tidy = λ h. above .tidy (below .tidy (pair .tidy) h) (alone .tidy);
           kept = pair .kept ∙ as-long;
           stood = rw c (pair .stood);

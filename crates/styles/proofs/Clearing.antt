@@ -10,7 +10,7 @@ use lib.Dec.{eqb, ltb}
 use borrow.Author.Tests.{eqb-true, eqb-false, ltb-true, ltb-false}
 use Rattle.unicode.proofs.Utf8Laws.{by-test}
 use Rattle.track.specs.Tables.{rowsFrom}
-use Rattle.styles.specs.Ids.{idAt, idsIn, RowWithin, Unlinked}
+use Rattle.styles.specs.Ids.{rowAt, rowsIn, RowWithin, Unlinked}
 use Rattle.styles.proofs.Search.{rows-same}
 
 pub unlinked-none : (t : List ℕ) → Unlinked t t 0
@@ -34,13 +34,13 @@ module _ (x z t t′ : List ℕ) (n : ℕ) (u : Unlinked t t′ n) where
   first-cell : (i : ℕ) → getD t′ (i * 4) 0 ≡ getD t (i * 4) 0
   first-cell i = rw (add-zero (i * 4)) at (u .others i 0 (omega arith))
 
-  same-id : (i : ℕ) → idAt x z t′ i ≡ idAt x z t i
-  unfolding idAt
-  same-id i = rw (first-cell i, u .others i 1 (omega arith), u .others i 2 (omega arith))
+  same-row : (i : ℕ) → rowAt t′ i ≡ rowAt t i
+  unfolding rowAt
+  same-row i = rw (first-cell i, u .others i 1 (omega arith), u .others i 2 (omega arith))
 
-  pub unlinked-ids : (m : ℕ) → idsIn x z t′ m ≡ idsIn x z t m
-  unfolding idsIn
-  unlinked-ids m = rows-same (idAt x z t′) (idAt x z t) m 0 (λ k l. same-id k)
+  pub unlinked-rows : (m : ℕ) → rowsIn t′ m ≡ rowsIn t m
+  unfolding rowsIn
+  unlinked-rows m = rows-same (rowAt t′) (rowAt t) m 0 (λ k l. same-row k)
 
   pub unlinked-within : (i : ℕ) → RowWithin x z t i → RowWithin x z t′ i
   unlinked-within i w = record {

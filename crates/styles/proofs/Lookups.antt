@@ -1,7 +1,7 @@
 -- What the lookups in the tables give the walk. Assumes nothing.
 --     look-over                    an overlay of what the program holds means the overlay
 --     chain-row, chain-none          the parents of an id, where a row with a chain is found, and where none is
---     own-row, own-none              the same of its own style
+--     chain-at, no-chain-at, own-at, no-own-at      chain and own style with places
 use Prim.Native.Nat.{ℕ, _+_, _*_, _≤_, _<_}
 use mathlib.Core.Path.{_≡_, refl, sym, ap, _∙_}
 use mathlib.Core.Bool.{Bool, true, false, cond, not, _&&_, _||_}
@@ -19,19 +19,19 @@ use Rattle.unicode.proofs.WhiteLaws.{wordsFrom-none, whiteEnd-low}
 use Rattle.decimals.proofs.Tests.{both}
 use Rattle.track.specs.declared.strings.Span.{Span}
 use Rattle.track.specs.Track.{Bytes, Style}
-use Rattle.track.specs.Tables.{Tables, cell, rowsFrom, lookAt, styleAt}
+use Rattle.track.specs.Tables.{Tables, cell, span, rowsFrom, lookAt, styleAt}
 use Rattle.track.specs.Meaning.{bytesAt, given, lookIn, styleIn}
 use Rattle.records.specs.declared.find.Found.{Found}
 use Rattle.records.specs.Find.{isNamed, firstRow, firstWith, chainFrom, foundIn}
 use Rattle.records.proofs.Finding.{named, namedWith}
-use Rattle.records.proofs.FoundRows.{First, row-first, with-first, style-found, chain-found}
+use Rattle.records.proofs.FoundRows.{First, row-first, with-first, chain-found}
 use Rattle.track.specs.declared.values.Look.{Look}
 use Rattle.styles.specs.declared.apply.Walk.{Walk}
 use Rattle.styles.specs.Reaches.{chainWords, parents}
 use Rattle.styles.specs.Values.{orElse, overlay}
-use Rattle.styles.specs.Resolve.{Walked, applied, own}
 use Rattle.styles.specs.Cells.{overlaid}
-use Rattle.styles.specs.Steps.{bare, stylesIn, stateIn}
+use Rattle.styles.specs.Places.{row, WalkedAt, chainAt, ownAt}
+use Rattle.styles.specs.Steps.{bare, stylesIn, stateAt}
 
 -- ---- overlays
 given-over : {A : Type 0} (b c : Bool) (x y : A) → given (c || b) (cond c y x) ≡ orElse (given b x) (given c y)
@@ -86,7 +86,7 @@ module _ (s : List ℕ) (f : List Float) (e z : List ℕ) (n : ℕ) (name : Byte
   chain-none h = rw (chain-found tables name n, h) (sym no-words)
 
   -- what a row says
-  row-look : (i : ℕ) → styleIn tables i .look ≡ lookIn z (styleAt s f i .look)
+  pub row-look : (i : ℕ) → styleIn tables i .look ≡ lookIn z (styleAt s f i .look)
   unfolding styleIn styleAt lookIn
   row-look i = refl
 
@@ -94,11 +94,22 @@ module _ (s : List ℕ) (f : List Float) (e z : List ℕ) (n : ℕ) (name : Byte
     pub own-row-within : i < n
     own-row-within = omega (arith, row-first s z name 27 n i h .within)
 
-    pub own-row : (x t : List ℕ) (w r : Walk) → r .count ≡ w .count → r .found ≡ true → r .look ≡ overlaid (w .look) (styleAt s f i .look)
-        → stateIn x z t r ≡ own (stylesIn s f e z n) name (stateIn x z t w)
-    unfolding own
-    own-row x t w r a b c = rw (style-found tables name n, h, row-look i, a, b, c, look-over z (w .look) (styleAt s f i .look))
+-- ---- with places
+module _ (s z : List ℕ) (n : ℕ) (name : Bytes) where
+  pub chain-at : (i : ℕ) → firstWith s z name 27 3 n 0 ≡ Found.Row i → (r : Span) → r .place ≡ getD s (i * 27 + 2) 0 → r .len ≡ getD s (i * 27 + 3) 0
+      → row 1 r ≡ chainAt s z n name
+  unfolding chainAt
+  chain-at i h r p l = rw (h, p, l)
 
-  pub own-none : firstRow s z name 27 n 0 ≡ Found.Nothing → (w : Walked) → w ≡ own (stylesIn s f e z n) name w
-  unfolding own
-  own-none h w = rw (style-found tables name n, h)
+  pub no-chain-at : firstWith s z name 27 3 n 0 ≡ Found.Nothing → row 1 (span 0 0) ≡ chainAt s z n name
+  unfolding chainAt
+  no-chain-at h = rw h
+
+  pub own-at : (f : List Float) (i : ℕ) → firstRow s z name 27 n 0 ≡ Found.Row i → (t : List ℕ) (w r : Walk) → r .count ≡ w .count → r .found ≡ true
+      → r .look ≡ overlaid (w .look) (styleAt s f i .look) → stateAt t r ≡ ownAt s f z n name (stateAt t w)
+  unfolding ownAt
+  own-at f i h t w r a b c = rw (h, a, b, c)
+
+  pub no-own-at : (f : List Float) → firstRow s z name 27 n 0 ≡ Found.Nothing → (w : WalkedAt) → w ≡ ownAt s f z n name w
+  unfolding ownAt
+  no-own-at f h w = rw h

@@ -1,5 +1,5 @@
 -- Laws of the rows of ids, and of the search among them by hash. Assumes nothing.
---     rows-last, rows-same, ids-last                 rows one after the other
+--     rows-last, rows-same, row-last, names-append, ids-last     rows one after the other
 --     hash-on, hash-out, mod-small                   the hash, byte by byte
 --     next-none, next-some, half-le                  the row after a row
 --     met-le, met-deep, stays-none                   the rows that a search meets
@@ -28,6 +28,10 @@ use Rattle.track.specs.Track.{Bytes}
 use Rattle.track.specs.Tables.{rowsFrom}
 use Rattle.styles.specs.Ids.{
   sourceOf,
+  Row,
+  namesOf,
+  rowAt,
+  rowsIn,
   idAt,
   idsIn,
   RowWithin,
@@ -57,9 +61,18 @@ module _ {A : Type 0} where
   rows-same f g zero i h = refl
   rows-same f g (suc n) i h = rw (h i (omega arith), rows-same f g n (i + 1) (λ k l. h k (omega arith)))
 
+pub row-last : (t : List ℕ) (n : ℕ) → rowsIn t (suc n) ≡ rowsIn t n ++ (rowAt t n ∷ [])
+unfolding rowsIn
+row-last t n = rw (zero-add n) at (rows-last (rowAt t) n 0)
+
+pub names-append : (x z : List ℕ) (l m : List Row) → namesOf x z (l ++ m) ≡ namesOf x z l ++ namesOf x z m
+unfolding namesOf
+names-append x z [] m = refl
+names-append x z (a ∷ l) m = rw (names-append x z l m)
+
 pub ids-last : (x z t : List ℕ) (n : ℕ) → idsIn x z t (suc n) ≡ idsIn x z t n ++ (idAt x z t n ∷ [])
-unfolding idsIn
-ids-last x z t n = rw (zero-add n) at (rows-last (idAt x z t) n 0)
+unfolding namesOf idAt
+ids-last x z t n = rw (row-last t n) (names-append x z (rowsIn t n) (rowAt t n ∷ []))
 
 -- where a row's id stands
 module _ (x z t : List ℕ) (i : ℕ) (w : RowWithin x z t i) where
@@ -86,7 +99,7 @@ module _ (a b : Bytes) where
 -- a name that is in a row, and one that is in none
 module _ (x z t : List ℕ) (name : Bytes) where
   none-in : isIn name (idsIn x z t 0) ≡ false
-  unfolding isIn idsIn rowsFrom
+  unfolding isIn namesOf rowsIn rowsFrom
   none-in = refl
 
   row-in : (n i : ℕ) → i < n → sameBytes name (idAt x z t i) ≡ true → isIn name (idsIn x z t n) ≡ true

@@ -38,15 +38,15 @@ abbrev pub ascii : String → Bytes
 ascii string.[] = []
 ascii (string._∷_ c s) = code c ∷ ascii s
 
--- ---- the value of the first kept attribute of this name
-abbrev pub valueFrom : Option (Extra Bytes) → Option Bytes
+-- ---- the value of the first kept attribute of this name; S stands for its bytes, or where they stand
+abbrev pub valueFrom : {S : Type 0} → Option (Extra S) → Option S
 valueFrom none = none
 valueFrom (some x) = some (x .value)
 
-abbrev pub isNamed : String → Extra Bytes → Bool
+abbrev pub isNamed : {S : Type 0} → String → Extra S → Bool
 isNamed name x = sameBytes (nameOf Listed.RegionAttr (x .number)) (ascii name)
 
-unfoldable pub valueOf : String → List (Extra Bytes) → Option Bytes
+unfoldable pub valueOf : {S : Type 0} → String → List (Extra S) → Option S
 unfolding firstThat
 valueOf name extras = valueFrom (firstThat (isNamed name) extras)
 

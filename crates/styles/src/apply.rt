@@ -4,8 +4,10 @@ ghost use mathlib.Core.List.{[], _∷_};
 ghost use Rattle.scan.specs.Part.{stringAt};
 ghost use Rattle.unicode.specs.White.{words};
 ghost use Rattle.track.specs.Meaning.{bytesAt};
+ghost use Rattle.track.specs.Tables.{span};
 ghost use Rattle.styles.specs.Ids.{Held};
-ghost use Rattle.styles.specs.Steps.{Chained, Ready, Stands, ChainOf, OwnStyle, ApplyPost, LaysOver, PairPost, AnswerPost};
+ghost use Rattle.styles.specs.Places.{row, Walks};
+ghost use Rattle.styles.specs.Steps.{Chained, Ready, Stands, ChainOf, OwnStyle, Visits, ApplyPost, LaysOver, PairPost, AnswerPost};
 use records::Found;
 use track::Look;
 use track::Span;
@@ -79,7 +81,9 @@ fn apply_style_ref(
     requires { ⌜ Ready (now styles) (now sizes) (now strings) n × Stands (now text) (now strings) (now own) source at len
         × Held (now text) (now strings) (now ids) (now heads) (w .count) ⌝ }
     ensures { λ r. ⌜ ApplyPost (now (text .entry)) (now (styles .entry)) (now (sizes .entry)) (now (strings .entry)) n
-        (stringAt (now (own .entry)) at len ∷ []) (now (ids .entry)) (now (ids .exit)) (now (heads .exit)) w r ⌝ }
+        (stringAt (now (own .entry)) at len ∷ []) (now (ids .entry)) (now (ids .exit)) (now (heads .exit)) w
+        (Visits (now (text .entry)) (now (styles .entry)) (now (sizes .entry)) (now (strings .entry)) n
+        (row source (span at len))) r ⌝ }
 {
     let end = at + len;
     let count = w.count;
@@ -158,7 +162,9 @@ fn apply_refs(
     requires { ⌜ Ready (now styles) (now sizes) (now strings) n × Stands (now text) (now strings) (now own) source from len
         × Held (now text) (now strings) (now ids) (now heads) (w .count) ⌝ }
     ensures { λ r. ⌜ ApplyPost (now (text .entry)) (now (styles .entry)) (now (sizes .entry)) (now (strings .entry)) n
-        (words (stringAt (now (own .entry)) from len)) (now (ids .entry)) (now (ids .exit)) (now (heads .exit)) w r ⌝ }
+        (words (stringAt (now (own .entry)) from len)) (now (ids .entry)) (now (ids .exit)) (now (heads .exit)) w
+        (Walks (now (text .entry)) (now (styles .entry)) (now (sizes .entry)) (now (strings .entry)) n
+        (row source (span from len)) 0) r ⌝ }
 {
     let to = from + len;
     let mut s = w;
@@ -214,7 +220,8 @@ fn resolve_pair(
     requires { ⌜ Ready (now styles) (now sizes) (now strings) n × Stands (now text) (now strings) (now own) source (first .place) (first .len)
         × Stands (now text) (now strings) (now strings) 1 (second .place) (second .len) ⌝ }
     ensures { λ r. ⌜ PairPost (now (text .entry)) (now (styles .entry)) (now (sizes .entry)) (now (strings .entry)) n
-        (bytesAt (now (own .entry)) first) (bytesAt (now (strings .entry)) second) (now (ids .entry)) (now (ids .exit)) r ⌝ }
+        (bytesAt (now (own .entry)) first) (bytesAt (now (strings .entry)) second) (now (ids .entry)) (now (ids .exit))
+        (row source first) (row 1 second) r ⌝ }
 {
     let mut heads = [0u32; 4096];
     let look = crate::values::blank();
@@ -308,7 +315,8 @@ pub fn resolve_over(
     requires { ⌜ Ready (now styles) (now sizes) (now strings) n × Stands (now text) (now strings) (now own) source (first .place) (first .len)
         × Stands (now text) (now strings) (now strings) 1 (second .place) (second .len) ⌝ }
     ensures { λ r. ⌜ AnswerPost (now (text .entry)) (now (styles .entry)) (now (sizes .entry)) (now (strings .entry)) n
-        (bytesAt (now (own .entry)) first) (bytesAt (now (strings .entry)) second) (now (ids .entry)) (now (ids .exit)) look r ⌝ }
+        (bytesAt (now (own .entry)) first) (bytesAt (now (strings .entry)) second) (now (ids .entry)) (now (ids .exit)) look
+        (row source first) (row 1 second) r ⌝ }
 {
     let none = Span { place: 0, len: 0 };
     match resolve_pair(

@@ -44,6 +44,7 @@ use Rattle.writer.specs.Promise.{Promise, Outcome, gives, meets, Comes, short-t
 use Rattle.writer.specs.Promise.{textIn}
 use Rattle.writer.specs.Promise.{bytesOf, cueNumber}
 use Rattle.writer.proofs.Promised as writing
+use Rattle.queries.proofs.Determined as query
 use Rattle.ttml.specs.Demands.{Demand1, meansTrack, Demand2, Back, SignedTimes, Demand3, Demands}
 
 -- ---- 1
@@ -55,6 +56,9 @@ demand-1 = record {
   write = λ T out x y a b p q. writing.determined wholeText T out x y a b p q;
   cue-to-bytes = λ i T out x y a b p q. writing.determined (cueNumber i) T out x y a b p q;
   check-track = λ T x y p q. check.determined T x y p q;
+  resolve-referenced-style = λ value T lent x y a b p q. query.determined-value T lent x y a b value p q;
+  region-style = λ id T lent x y a b p q. query.determined-region T lent x y a b id p q;
+  effective-style-for-cue-index = λ T i lent x y a b p q. query.determined-cue T lent x y a b i p q;
 }
 
 -- ---- 2

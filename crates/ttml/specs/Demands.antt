@@ -52,7 +52,7 @@ use Rattle.writer.specs.Promise as writing
 use Rattle.styles.specs.Reaches.{Reaches, Exactly}
 use Rattle.styles.specs.Ids.{idsIn}
 use Rattle.queries.specs.declared.query.Resolved.{Resolved}
-use Rattle.queries.specs.Promise.{ReferencedStyle, styleIn, countOf}
+use Rattle.queries.specs.Promise.{ReferencedStyle, RegionStyle, EffectiveStyle, EqualButOrder, styleIn, countOf}
 use Rattle.queries.specs.Promise as query
 
 -- ---- 1. "for each public call, the number, the place and every cell of every table afterwards follow from the input by its promise"
@@ -61,6 +61,10 @@ use Rattle.queries.specs.Promise as query
 abbrev pub Determined : {Answer Left : Type 0} → (Answer → Left → Type 0) → Type 0
 Determined {Answer} {Left} promise = (x y : Answer) (a b : Left) → promise x a → promise y b → (x ≡ y) × (a ≡ b)
 
+-- of a query, but for the order of the ids: "where the choice is the program's, say that, and what every choice has in common"
+abbrev pub DeterminedButOrder : (Resolved → List ℕ → Type 0) → Type 0
+DeterminedButOrder promise = (x y : Resolved) (a b : List ℕ) → promise x a → promise y b → EqualButOrder x y a b
+
 pub record Demand1 : Type 0 where
   pub tree-reader : (text : Bytes) (lent : xml.Tables) → Determined (xml.Parsed text lent)
   pub parse : (text : Bytes) (lent : Tables) → Determined (Parsed text lent)
@@ -68,6 +72,9 @@ pub record Demand1 : Type 0 where
   pub write : (T : track.Tables) (out : Bytes) → Determined (Promise wholeText T out)
   pub cue-to-bytes : (i : ℕ) (T : track.Tables) (out : Bytes) → Determined (Promise (cueNumber i) T out)
   pub check-track : (T : track.Tables) (x y : Check) → Checked T x → Checked T y → x ≡ y
+  pub resolve-referenced-style : (value : Bytes) (T : track.Tables) (lent : List ℕ) → DeterminedButOrder (ReferencedStyle value T lent)
+  pub region-style : (id : Bytes) (T : track.Tables) (lent : List ℕ) → DeterminedButOrder (RegionStyle id T lent)
+  pub effective-style-for-cue-index : (T : track.Tables) (i : ℕ) (lent : List ℕ) → DeterminedButOrder (EffectiveStyle T i lent)
 
 -- ---- 2. "Say of each result which definition it equals"
 

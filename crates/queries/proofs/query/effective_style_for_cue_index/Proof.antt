@@ -111,7 +111,8 @@ returns-2 : tie.Need-returns-2
 returns-2 c =
     let c3 = c .before .before .before in
     let c6 = c3 .before .before .before in
-    checked-query _ _ _ _ _ _ _ (check-none-asked _ ∙ (sym (checked-is _ (c3 .check-track .ensures)) ∙ c .before .r .given .1)) _ (c6 .clear .ensures)
+    checked-query _ _ _ _ _ _ _ _ _ (check-none-asked _ ∙ (sym (checked-is _ (c3 .check-track .ensures)) ∙ c .before .r .given .1)) _
+    (c6 .clear .ensures)
 
 same-length-3 : tie.Need-same-length-3
 same-length-3 c = search needs

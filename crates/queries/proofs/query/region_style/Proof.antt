@@ -3,7 +3,7 @@ use mathlib.Core.Path.{refl, sym, _∙_}
 use native.Mathlib.Omega.{arith}
 use Rattle.queries.proofs.Handed.{lengths, ready, has-regions}
 use Rattle.queries.proofs.Promising.{check-taken, checked-query}
-use Rattle.queries.proofs.Asking.{whole, no-bytes, region-refuses, region-asked}
+use Rattle.queries.proofs.Asking.{no-bytes, region-refuses, region-asked}
 use borrow.Author.Needs.{needs}
 use Rattle.queries.proofs.query.region_style.Statement.{statement}
 use Rattle.queries.proofs.query.region_style.Tie as tie
@@ -70,7 +70,7 @@ returns : tie.Need-returns
 returns c =
     let c3 = c .before .before .before in
     let c6 = c3 .before .before .before in
-    checked-query _ _ _ _ _ _ _ (sym (c3 .check-query .ensures) ∙ c .before .r .given .1) _ (c6 .clear .ensures)
+    checked-query _ _ _ _ _ _ _ _ _ (sym (c3 .check-query .ensures) ∙ c .before .r .given .1) _ (c6 .clear .ensures)
 
 same-length-2 : tie.Need-same-length-2
 same-length-2 c = search needs
@@ -103,7 +103,7 @@ returns-3 c =
     let c18 = c16 .before .before in
     let c21 = c18 .before .before .before in
     let h = sym (c18 .check-query .ensures) ∙ c16 .enum-told .given .1 in
-    region-asked _ _ _ h _ (rw (c12 .x .given .1, c15 .get .ensures) at (c14 .region-part .ensures)) _ _ _ (c21 .clear .ensures) _ (whole _)
+    region-asked _ _ _ h _ (rw (c12 .x .given .1, c15 .get .ensures) at (c14 .region-part .ensures)) _ _ _ (c21 .clear .ensures)
     (c6 .resolve-over .result) _
     (rw (c10 .get2 .ensures, no-bytes) at (c6 .resolve-over .ensures)) (c .before .before .finish .ensures)
 

@@ -3,7 +3,7 @@ use mathlib.Core.Path.{refl, sym, _∙_}
 use native.Mathlib.Omega.{arith}
 use Rattle.queries.proofs.Handed.{lengths, ready}
 use Rattle.queries.proofs.Promising.{check-taken, checked-query}
-use Rattle.queries.proofs.Asking.{whole, no-bytes, name-trimmed, referenced, value-asked}
+use Rattle.queries.proofs.Asking.{whole, no-bytes, referenced, value-asked}
 use borrow.Author.Needs.{needs}
 use Rattle.queries.proofs.query.resolve_referenced_style.Statement.{statement}
 use Rattle.queries.proofs.query.resolve_referenced_style.Tie as tie
@@ -56,7 +56,7 @@ returns : tie.Need-returns
 returns c =
     let c3 = c .before .before .before in
     let c6 = c3 .before .before .before in
-    referenced _ _ _ _ _ (checked-query _ _ _ _ _ _ _ (sym (c3 .check-query .ensures) ∙ c .before .r .given .1) _ (c6 .clear .ensures))
+    referenced _ _ _ _ _ (checked-query _ _ _ _ _ _ _ _ _ (sym (c3 .check-query .ensures) ∙ c .before .r .given .1) _ (c6 .clear .ensures))
 
 same-length-2 : tie.Need-same-length-2
 same-length-2 c = search needs
@@ -71,7 +71,7 @@ returns-2 c =
     let c14 = c12 .before .before in
     let c17 = c14 .before .before .before in
     let h = sym (c14 .check-query .ensures) ∙ c12 .enum-told .given .1 in
-    value-asked _ _ _ h _ (c9 .blank .ensures) _ _ _ (c17 .clear .ensures) _ (name-trimmed _ _ _ (c11 .trim .ensures)) (c6 .resolve-over .result) _
+    value-asked _ _ _ h _ (c9 .blank .ensures) _ _ _ (c17 .clear .ensures) _ _ (c11 .trim .ensures) (c6 .resolve-over .result) _
     (rw (c8 .get .ensures, whole, no-bytes) at (c6 .resolve-over .ensures)) (c .before .before .finish .ensures)
 
 pub resolve-referenced-style-spec : {M : Type 1} → statement M

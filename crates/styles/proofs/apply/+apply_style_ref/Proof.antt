@@ -7,20 +7,30 @@ use native.Mathlib.Omega.{arith}
 use borrow.Author.Needs.{needs}
 use lib.ListN.{length}
 use Rattle.scan.specs.Part.{part, stringAt}
+use Rattle.track.specs.Tables.{span}
+use Rattle.styles.specs.Places.{row}
 use Rattle.styles.proofs.Along.{
-  word-part,
   part-length,
   Along,
   along-start,
   along-step,
   along-done,
-  along-full,
+  chain-length,
+  chain-here,
   word-end,
   word-within,
-  step-in,
   full-in,
 }
-use Rattle.styles.proofs.Applying.{applied-again, applied-full, Entry, entered-held, entered-grown, applied-first, applied-over}
+use Rattle.styles.proofs.Applying.{
+  stands-name,
+  applied-again,
+  applied-full,
+  Entry,
+  entered-held,
+  entered-grown,
+  applied-first,
+  applied-over,
+}
 use Prim.Native.Nat.{ℕ, _<_}
 use borrow.Fn.Kinds.{In}
 use borrow.Fn.PlainCycle.{Measures, is, falls, and}
@@ -75,7 +85,7 @@ claims t = (
 
 abbrev apply-style-ref-Inv-loop : apply-style-ref-lts.InvT-loop
 apply-style-ref-Inv-loop text styles sizes strings n own source at len ids₀ heads₀ end count h s₀ from to p₀ ids heads s p = Along text styles
-    sizes strings n (part from to strings) ids₀ s₀ p ids heads s
+    sizes strings n (part from to strings) ids₀ s₀ (row 1 (span from (to - from))) p ids heads s
 
 abbrev apply-style-ref-μ-loop : apply-style-ref-lts.MeasureT-loop
 apply-style-ref-μ-loop text styles sizes strings n own source at len ids₀ heads₀ end count h s₀ from to p₀ ids heads s p = length (part from to
@@ -138,7 +148,8 @@ apply-style-ref-returns : (t : ℕ) → apply-style-ref-lts.Need-returns (claims
 unfolding stringAt
 apply-style-ref-returns t c =
     let c14 = c .before .before .before .before .before .before .before .before .before .before .before .before .before .before in
-    applied-again _ _ _ _ _ _ _ _ _ (c14 .pre .1 .2) (sym (c .before .is-visited .ensures) ∙ c .if1 .taken)
+    applied-again _ _ _ _ _ _ _ _ _ (c14 .pre .1 .2) _ (stands-name _ _ _ _ _ _ (c14 .pre .1 .1))
+    (sym (c .before .is-visited .ensures) ∙ c .if1 .taken)
 
 apply-style-ref-same-length-3 : (t : ℕ) → apply-style-ref-lts.Need-same-length-3 (claims t) (apply-style-ref-at t) apply-style-ref.Post
     apply-style-ref-Inv-loop apply-style-ref-μ-loop
@@ -268,7 +279,7 @@ apply-style-ref-loop-holds t c =
       kept = c7 .ids .given;
       post = i .ensures;
     } in
-    along-start _ _ _ _ _ _ _ _ _ (entered-held _ _ _ _ _ _ _ _ _ _ _ entry)
+    along-start _ _ _ _ _ _ _ _ _ _ (entered-held _ _ _ _ _ _ _ _ _ _ _ entry)
 
 apply-style-ref-sub-next-word : (t : ℕ) → apply-style-ref-lts.Need-sub-next-word (claims t) (apply-style-ref-at t) apply-style-ref.Post
     apply-style-ref-Inv-loop apply-style-ref-μ-loop
@@ -357,8 +368,9 @@ apply-style-ref-returns-4 t c =
     } in
     applied-first _ _ _ _ _ _ _ _ _ _ _ entry _ _ _ _ (c8 .chain-of .ensures) _ _
     _ _ (c6 .loop .inv .grown)
-    (c6 .loop .inv .tidy) (along-done _ _ _ _ _ _ _ _ _ _ _ _ (c6 .loop .inv) (rw (c .before .before .enum-told .given .1) at
-    (c4 .next-word .ensures))) (c .own-style .ensures)
+    (c6 .loop .inv .tidy)
+    (rw (chain-length (c8 .chain-of .result)) at (along-done _ _ _ _ _ _ _ _ _ _ _ _ _ (c6 .loop .inv) (chain-here _ (c8 .chain-of .result))
+    (rw (c .before .before .enum-told .given .1) at (c4 .next-word .ensures)))) (c .own-style .ensures)
 
 apply-style-ref-enum-known-x : (t : ℕ) → apply-style-ref-lts.Need-enum-known-x (claims t) (apply-style-ref-at t) apply-style-ref.Post
     apply-style-ref-Inv-loop apply-style-ref-μ-loop
@@ -423,8 +435,8 @@ apply-style-ref-apply-style-ref-requires t c κs =
         record {
           known = omega arith;
           is = refl;
-          within = word-within _ _ _ _ _ _ _ _ _ _ (omega arith) (end .within) _ _ _ _ (here .inv) _ _ w (here .ids) (here .heads);
-          few = let q = word-end _ _ _ _ _ _ _ _ _ _ (omega arith) (end .within) _ _ _ _ (here .inv) _ _ w (here .ids) (here .heads) in
+          within = word-within _ _ _ _ _ _ _ _ _ _ _ (omega arith) (end .within) _ _ _ _ (here .inv) _ _ w (here .ids) (here .heads);
+          few = let q = word-end _ _ _ _ _ _ _ _ _ _ _ (omega arith) (end .within) _ _ _ _ (here .inv) _ _ w (here .ids) (here .heads) in
               omega (arith, q, end .few);
         },
         g .held,
@@ -482,7 +494,7 @@ apply-style-ref-returns-5 t c =
     } in
     let o = rw (c .enum-told2 .given .1) at (c6 .apply-style-ref .ensures) in
     applied-over _ _ _ _ _ _ _ _ _ _ _ entry _ _ _ _ (c17 .chain-of .ensures) _ _ (o .kept ∙ c15 .loop .inv .grown .kept)
-    (full-in _ _ _ _ _ _ _ _ _ _ (omega arith) (c17 .chain-of .ensures .within) _ _ _ _ (c15 .loop .inv) _ _ w _
+    (full-in _ _ _ _ _ _ _ _ _ _ _ (omega arith) (c17 .chain-of .ensures .within) _ _ _ _ (c15 .loop .inv) _ _ w _
     (c6 .apply-style-ref .last .1 .1 .1 .1 .1 .1 .1 .1 .1 .1 .0) o)
 
 apply-style-ref-enum-known-t : (t : ℕ) → apply-style-ref-lts.Need-enum-known-t (claims t) (apply-style-ref-at t) apply-style-ref.Post
@@ -507,7 +519,7 @@ apply-style-ref-loop-again t c =
     let c16 = c14 .before .before in
     let c18 = c16 .before .before in
     let w = rw (c12 .x .given .1) at (c14 .next-word .ensures) in
-    step-in _ _ _ _ _ _ _ _ _ _ (omega arith) (c18 .chain-of .ensures .within) _ _ _ _ (c16 .loop .inv) _ _ w _ _ _ (rw (c .before .t .given .1)
+    along-step _ _ _ _ _ _ _ _ _ _ _ _ _ (c16 .loop .inv) _ _ w (chain-here _ (c18 .chain-of .result)) _ _ _ (rw (c .before .t .given .1)
     at (c7 .apply-style-ref .ensures))
 
 pub +apply-style-ref-spec : {M : Type 1} → statement M

@@ -1,17 +1,20 @@
 -- `apply_refs` meets its contract. The loop's invariant is `Along` the words of the value. Assumes nothing.
-use Rattle.styles.proofs.Along.{part-length, Along, along-start, along-done, word-end, word-within, step-in, full-in}
+use Rattle.styles.proofs.Along.{part-length, Along, along-start, along-step, along-done, word-end, word-within, full-in}
+use Rattle.styles.proofs.Applying.{stands-name}
 use Prim.Native.Nat.{_+_, _-_, _≤_}
 use mathlib.Core.Path.{_≡_, refl, sym, _∙_}
 use native.Mathlib.Omega.{arith}
 use borrow.Author.Needs.{needs}
 use lib.ListN.{length}
 use Rattle.scan.specs.Part.{part, stringAt}
+use Rattle.track.specs.Tables.{span}
+use Rattle.styles.specs.Places.{row}
 use Rattle.styles.proofs.apply.apply_refs.Statement.{statement}
 use Rattle.styles.proofs.apply.apply_refs.Tie as tie
 
 abbrev Inv-loop : tie.InvT-loop
 Inv-loop text styles sizes strings n own source from len ids₀ heads₀ to s₀ p₀ ids heads s p = Along text styles sizes strings n (part from to own)
-    ids₀ s₀ p ids heads s
+    ids₀ s₀ (row source (span from len)) p ids heads s
 
 abbrev μ-loop : tie.MeasureT-loop
 μ-loop text styles sizes strings n own source from len ids₀ heads₀ to s₀ p₀ ids heads s p = length (part from to own) - p
@@ -21,7 +24,7 @@ add-to c = omega (arith, c .before .before .before .before .before .before .befo
 
 loop-holds : tie.Need-loop-holds Inv-loop μ-loop
 unfolding stringAt
-loop-holds c = along-start _ _ _ _ _ _ _ _ _ (c .before .before .before .before .before .before .before .pre .2)
+loop-holds c = along-start _ _ _ _ _ _ _ _ _ _ (c .before .before .before .before .before .before .before .pre .2)
 
 sub-next-word : tie.Need-sub-next-word Inv-loop μ-loop
 sub-next-word c = omega arith
@@ -54,8 +57,9 @@ unfolding stringAt
 returns c = record {
   grown = c .before .before .before .before .loop .inv .grown;
   tidy = c .before .before .before .before .loop .inv .tidy;
-  is = along-done _ _ _ _ _ _ _ _ _ _ _ _ (c .before .before
-      .before .before .loop .inv) (rw (c .enum-told .given .1) at (c .before .before .next-word .ensures));
+  is = along-done _ _ _ _ _ _ _ _ _ _ _ _ _ (c .before .before .before .before .loop .inv)
+      (stands-name _ _ _ _ _ _ (c .before .before .before .before .before .before .before .before .before .before .before .before .pre .1))
+      (rw (c .enum-told .given .1) at (c .before .before .next-word .ensures));
 }
 
 enum-known-x : tie.Need-enum-known-x Inv-loop μ-loop
@@ -92,12 +96,12 @@ apply-style-ref-requires c κs =
       record {
         known = p .1 .known;
         is = p .1 .is;
-        within = word-within _ _ _ _ _ _ _ _ _ _ (omega arith) (p .1 .within) _ _ _ _ (c .before .before .before .before .before .before .before
+        within = word-within _ _ _ _ _ _ _ _ _ _ _ (omega arith) (p .1 .within) _ _ _ _ (c .before .before .before .before .before .before .before
             .before .loop .inv) _ _ w (c .before .before .before .before .before .before .before .before .loop .ids) (c .before .before .before
             .before .before .before .before .before .loop .heads);
         few = omega (
           arith,
-          word-end _ _ _ _ _ _ _ _ _ _ (omega arith) (p .1 .within) _ _ _ _ (c .before .before .before .before .before .before
+          word-end _ _ _ _ _ _ _ _ _ _ _ (omega arith) (p .1 .within) _ _ _ _ (c .before .before .before .before .before .before
               .before .before .loop .inv) _ _ w (c .before .before .before .before .before .before .before .before .loop .ids) (c .before .before
               .before .before .before .before .before .before .loop .heads),
           p .1 .few,
@@ -137,7 +141,7 @@ returns-2 c =
     record {
       kept = o .kept ∙ c .before .before .before .before .before .before .before .before .before .before .before .before .before .before .before
           .loop .inv .grown .kept;
-      over = full-in _ _ _ _ _ _ _ _ _ _ (omega arith) (c .before .before .before .before .before .before .before .before .before .before .before
+      over = full-in _ _ _ _ _ _ _ _ _ _ _ (omega arith) (c .before .before .before .before .before .before .before .before .before .before .before
           .before .before .before .before .before .before .before .before .before .before .before .before .pre .1 .within) _ _ _ _ (c .before
           .before .before .before .before .before .before .before .before .before .before .before .before .before .before .loop .inv) _ _ w _ (c
           .before .before .before .before .before .before .apply-style-ref .last .1 .1 .1 .1 .1 .1 .1 .1 .1 .1 .0) o;
@@ -153,13 +157,15 @@ loop-less c =
     omega (arith, w .within-text, w .some-byte, w .after)
 
 loop-again : tie.Need-loop-again Inv-loop μ-loop
+unfolding stringAt
 loop-again c =
     let w = rw (c .before .before .before .before .before .before .before .before .before .before .before .before .x .given .1) at (c .before
     .before .before .before .before .before .before .before .before .before .before .before .before .before .next-word .ensures) in
-    step-in _ _ _ _ _ _ _ _ _ _ (omega arith) (c .before .before .before .before .before .before .before .before .before .before .before .before
-    .before .before .before .before .before .before .before .before .before .before .before .before .pre .1 .within) _ _ _ _ (c .before .before
-    .before .before .before .before .before .before .before .before .before .before .before .before .before .before .loop .inv) _ _ w _ _ _ (rw
-    (c .before .t .given .1) at (c .before .before .before .before .before .before .before .apply-style-ref .ensures))
+    let c7 = c .before .before .before .before .before .before .before in
+    let c16 = c7 .before .before .before .before .before .before .before .before .before in
+    let c24 = c16 .before .before .before .before .before .before .before .before in
+    along-step _ _ _ _ _ _ _ _ _ _ _ _ _ (c16 .loop .inv) _ _ w (stands-name _ _ _ _ _ _ (c24 .pre .1)) _ _ _
+    (rw (c .before .t .given .1) at (c7 .apply-style-ref .ensures))
 
 pub apply-refs-spec : {M : Type 1} → statement M
 apply-refs-spec =

@@ -2,7 +2,7 @@
 use mathlib.Core.Path.{_≡_, sym, _∙_}
 use mathlib.Core.List.{[]}
 use native.Mathlib.Omega.{arith}
-use Rattle.styles.proofs.Lookups.{chain-row-within, chain-row, chain-none}
+use Rattle.styles.proofs.Lookups.{chain-row-within, chain-at, no-chain-at}
 use borrow.Author.Needs.{needs}
 use Rattle.styles.proofs.apply.chain_of.Statement.{statement}
 use Rattle.styles.proofs.apply.chain_of.Tie as tie
@@ -71,15 +71,14 @@ returns c =
           .chains _ (chain-row-within _ [] [] _ _ _ _ h));
       few = rw (c .before .get .ensures, c .get2 .ensures) (c .before .before .before .before .before .before .before .before .before .pre .few _
           (chain-row-within _ [] [] _ _ _ _ h));
-      is = λ f e. rw (c .before .get .ensures, c .get2 .ensures) (chain-row _ f e _ _ _ _ h);
+      is = chain-at _ _ _ _ _ h _ (c .before .get .ensures) (c .get2 .ensures);
     }
 
 returns-2 : tie.Need-returns-2
 returns-2 c = record {
   within = omega arith;
   few = omega arith;
-  is = λ f e. chain-none _ f e _ _ _ (sym (c .before .before .find-chain .ensures) ∙
-      c .enum-told .given .1);
+  is = no-chain-at _ _ _ _ (sym (c .before .before .find-chain .ensures) ∙ c .enum-told .given .1);
 }
 
 pub chain-of-spec : {M : Type 1} → statement M

@@ -2,7 +2,7 @@
 use mathlib.Core.Path.{_≡_, refl, sym, _∙_}
 use mathlib.Core.List.{[]}
 use native.Mathlib.Omega.{arith}
-use Rattle.styles.proofs.Lookups.{own-row-within, own-row, own-none}
+use Rattle.styles.proofs.Lookups.{own-row-within, own-at, no-own-at}
 use Rattle.styles.proofs.Tidying.{tidy-over, tidy-style}
 use borrow.Author.Needs.{needs}
 use Rattle.styles.proofs.apply.own_style.Statement.{statement}
@@ -37,7 +37,7 @@ returns c =
     record {
       count = refl;
       tidy = λ d. rw (c .overlay-style .ensures, k .style-at .ensures) (tidy-over _ _ d (tidy-style _ _ _));
-      is = λ e x t. own-row _ _ e _ _ _ _ h x t (a .w) _ refl refl (c .overlay-style .ensures ∙ rw (k .style-at .ensures));
+      is = λ t. own-at _ _ _ _ _ _ h t (a .w) _ refl refl (c .overlay-style .ensures ∙ rw (k .style-at .ensures));
     }
 
 returns-2 : tie.Need-returns-2
@@ -45,8 +45,7 @@ returns-2 c =
     record {
       count = refl;
       tidy = λ d. d;
-      is = λ e x t. own-none _ _ e _ _ _ (sym (c .before .before .find-style .ensures)
-          ∙ c .enum-told .given .1) _;
+      is = λ t. no-own-at _ _ _ _ _ (sym (c .before .before .find-style .ensures) ∙ c .enum-told .given .1) _;
     }
 
 pub own-style-spec : {M : Type 1} → statement M

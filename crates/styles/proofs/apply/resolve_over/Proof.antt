@@ -71,7 +71,7 @@ returns-3 c =
     let c16 = c13 .before .before .before in
     let c19 = c16 .before .before .before in
     let c20 = c19 .before in
-    is-answered _ _ _ _ _ _ _ _ _ _ _ (c19 .ids .given) (c13 .clear .ensures) _ _ _ _ (rw (c16 .b .given .1) at (c20 .resolve-pair .ensures)) _
+    is-answered _ _ _ _ _ _ _ _ _ _ _ (c19 .ids .given) (c13 .clear .ensures) _ _ _ _ _ _ _ (rw (c16 .b .given .1) at (c20 .resolve-pair .ensures)) _
     (rw (c5 .a .given .1) at (c9 .resolve-pair2 .ensures)) _ _ (rw (c3 .style-is-unstyled .ensures) at (c .before .before .lay-over .ensures)) (c
     .lay-over2 .ensures)
 

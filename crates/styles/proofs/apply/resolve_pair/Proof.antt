@@ -1,5 +1,6 @@
 -- `resolve_pair` meets its contract. Assumes nothing.
 use mathlib.Core.Path.{refl}
+use Rattle.styles.proofs.Applying.{stands-name}
 use Rattle.styles.proofs.Answering.{held-none, pairs-over-first, pairs-over, pairs}
 use borrow.Author.Needs.{needs}
 use Rattle.styles.proofs.apply.resolve_pair.Statement.{statement}
@@ -61,8 +62,9 @@ returns-2 c =
     let c9 = c5 .before .before .before .before in
     let c14 = c9 .before .before .before .before .before in
     let c17 = c14 .before .before .before in
-    pairs-over _ _ _ _ _ _ _ _ _ refl refl (c17 .blank .ensures) _ _ _ (rw (c9 .a .given .1) at (c14 .apply-refs .ensures)) _ _ (rw
-    (c .enum-told2 .given .1) at (c5 .apply-refs2 .ensures))
+    let c24 = c17 .before .before .before .before .before .before .before in
+    pairs-over _ _ _ _ _ _ _ _ _ refl refl (c17 .blank .ensures) _ _ _ (stands-name _ _ _ _ _ _ (c24 .pre .1)) _
+    (rw (c9 .a .given .1) at (c14 .apply-refs .ensures)) _ _ (rw (c .enum-told2 .given .1) at (c5 .apply-refs2 .ensures))
 
 same-length-3 : tie.Need-same-length-3
 same-length-3 c = search needs
@@ -75,7 +77,9 @@ returns-3 c =
     let c15 = c11 .before .before .before .before in
     let c20 = c15 .before .before .before .before .before in
     let c23 = c20 .before .before .before in
-    pairs _ _ _ _ _ _ _ _ _ refl refl (c23 .blank .ensures) _ _ _ (rw (c15 .a .given .1) at (c20 .apply-refs .ensures)) _ _ _ (rw
+    let c30 = c23 .before .before .before .before .before .before .before in
+    pairs _ _ _ _ _ _ _ _ _ refl refl (c23 .blank .ensures) _ _ _ (stands-name _ _ _ _ _ _ (c30 .pre .1)) _ (rw (c15 .a .given .1) at
+    (c20 .apply-refs .ensures)) _ _ _ (stands-name _ _ _ _ _ _ (c30 .pre .2)) _ (rw
     (c6 .b .given .1) at (c11 .apply-refs2 .ensures)) _ (c3 .clear-links .ensures) _ refl refl refl
 
 pub resolve-pair-spec : {M : Type 1} → statement M
