@@ -1,7 +1,7 @@
 -- Laws of the colour names: the rows of the program's two tables hold the entries of `colorTable`. Assumes nothing.
 use Prim.Native.Nat.{ℕ, zero, suc, _+_, _-_, _≤_, _<_}
 use mathlib.Core.Path.{_≡_, refl, sym, ap, _∙_}
-use mathlib.Core.Bool.{Bool, true, false, cond, _&&_, false≢true}
+use mathlib.Core.Bool.{Bool, true, false, cond, _&&_}
 use mathlib.Core.List.{List, [], _∷_, _++_}
 use native.Mathlib.Omega.{arith}
 use native.Mathlib.Nat.{add-zero, add-suc, suc-add, zero-add}
@@ -10,15 +10,12 @@ use lib.Seq.{drop-drop}
 use Rattle.scan.specs.Loop.{go, loop}
 use Rattle.scan.specs.Bytes.{runEnd, runLength}
 use Rattle.scan.specs.Names.{sameBytes, sameFolded}
+use Rattle.scan.proofs.Every.{both}
 use Rattle.scan.proofs.Naming.{same-eq}
 use Rattle.colors.specs.declared.read.Rgba.{Rgba}
 use Rattle.colors.specs.declared.read.Color.{Color}
 use Rattle.colors.specs.Named.{NamedColor, _means_, colorTable, namedIn}
 use Rattle.colors.specs.Steps.{front, rowColor}
-
-both : {a b : Bool} → (a && b) ≡ true → (a ≡ true) × (b ≡ true)
-both {a = true} e = (refl, e)
-both {a = false} e = absurd (false≢true e)
 
 abbrev channels : Rgba → List ℕ
 channels c = c .r ∷ c .g ∷ c .b ∷ c .a ∷ []

@@ -14,6 +14,7 @@ use lib.Dec.{eqb}
 use lib.ListN.{length, getD}
 use lib.Seq.{getD-append-add}
 use borrow.Author.Tests.{eq-eqb, ne-eqb, le-leb, lt-leb}
+use Rattle.scan.proofs.Every.{both}
 use Rattle.unicode.proofs.Utf8Laws.{by-test}
 use Rattle.times.specs.declared.offset.TimingCtx.{TimingCtx}
 use Rattle.track.specs.declared.strings.Span.{Span}
@@ -192,10 +193,6 @@ no-more (track.break x) e = absurd (let z : _≡_ {A = ℕ} 0 1 = cc in omega ar
 no-more (track.timestamp s x) e = absurd (let z : _≡_ {A = ℕ} 0 1 = cc in omega arith)
 no-more (track.wrap w c x) e = absurd (let z : _≡_ {A = ℕ} 0 1 = cc in omega arith)
 
-both : (a b : Bool) → (a && b) ≡ true → b ≡ true
-both true b e = e
-both false b e = absurd (let z : _≡_ {A = ℕ} 0 1 = cc in omega arith)
-
 wrapped-none : (f : Segments Span) → wrapped [] f ≡ f
 unfolding wrapped
 wrapped-none f = refl
@@ -246,7 +243,7 @@ unwrapped first end pre rest (track.wrap w c x) t t′ s b d =
     let k : 0 < end = omega (arith, s .count) in
     let i : end - 1 - end ≡ 0 = omega arith in
     let j : end - (end - 1) ≡ 1 = omega (arith, k) in
-    let o : x ≡ track.done = no-more x (both (isBareFont w) (noSegments x) b) in
+    let o : x ≡ track.done = no-more x (both {a = isBareFont w} b .1) in
     rw (b, i, j) (stands-unwrap pre rest first end w c t t′ (rw o at s) d)
 
 module _ (first end : ℕ) (ws : List (Wrapper Span)) (t t₁ : Three) where
@@ -330,7 +327,7 @@ texts-dissolved (track.break x) = refl
 texts-dissolved (track.timestamp z x) = refl
 texts-dissolved (track.wrap w c x) =
     by-test (isBareFont w && noSegments x)
-    (λ e. rw (e, no-texts x (both (isBareFont w) (noSegments x) e)) (sym (append-nil (textsIn c)))) (λ e. rw e)
+    (λ e. rw (e, no-texts x (both {a = isBareFont w} e .1)) (sym (append-nil (textsIn c)))) (λ e. rw e)
 
 texts-par : (l : List (Wrapper Placed)) (f : Segments Placed) → textsIn (paragraphOf l f) ≡ textsIn f
 unfolding paragraphOf spanOf
@@ -357,7 +354,8 @@ wrap-given ws place first end s s′ Added.Full h =
     let r = rw (spans-par ws f, rows-spans (paragraphOf ws f)) at (h pre rest (spansIn f) x) in
     rw (lt-leb (first + segmentRows (paragraphOf ws f)) 16384 r)
 
-pub wrap-dressed : (l : List (Attr Placed)) (ws : List (Wrapper Placed)) (place first end : ℕ) (s s′ : Three) (a : Added) → is ws ≡ wrappersOf withPlaces l
+pub wrap-dressed : (l : List (Attr Placed)) (ws : List (Wrapper Placed)) (place first end : ℕ) (s s′ : Three) (a : Added) → is ws ≡ wrappersOf
+    withPlaces l
     → Paragraphed first end (wrappersBy ws) s s′ a → StyledGiven (dressing place first l) first end s s′ (styledIn a place)
 wrap-dressed l ws place first end s s′ (Added.Next m) e h =
     λ pre rest f x.

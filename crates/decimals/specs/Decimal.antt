@@ -12,6 +12,7 @@ use lib.ListN.{length, take, drop}
 use lib.Dec.{eqb, leb, ltb}
 use Rattle.scan.specs.Bytes.{digitByte, runLength}
 use Rattle.scan.specs.Names.{sameFolded}
+use Rattle.scan.specs.Text.{ascii}
 use Rattle.numerals.specs.Numerals.{valueFrom}
 use Rattle.decimals.specs.declared.read.Digits.{Digits}
 use Rattle.decimals.specs.declared.read.Decimal.{Decimal}
@@ -70,9 +71,7 @@ isExponent (b ∷ s) = (eqb b 101 || eqb b 69) && onlyDigits (unsigned s)
 -- inf, infinity, nan
 unfoldable pub isWord : List ℕ → Bool
 isWord s =
-    sameFolded s (105 ∷ 110 ∷ 102 ∷ [])
-    || sameFolded s (105 ∷ 110 ∷ 102 ∷ 105 ∷ 110 ∷ 105 ∷ 116 ∷ 121 ∷ [])
-    || sameFolded s (110 ∷ 97 ∷ 110 ∷ [])
+    sameFolded s (ascii "inf") || sameFolded s (ascii "infinity") || sameFolded s (ascii "nan")
 
 -- ---- document 01, "Times and numbers"
 

@@ -31,7 +31,7 @@ use Rattle.names.specs.Lists.{names, nameOf}
 use Rattle.track.specs.Track.{Bytes}
 use Rattle.track.specs.Tables.{extraAt}
 use Rattle.track.specs.Meaning.{bytesAt}
-use Rattle.written.specs.Ascii.{ascii}
+use Rattle.scan.specs.Text.{ascii}
 use Rattle.written.specs.Attributes.{contains, attrText}
 use Rattle.writer.specs.Rows.{over, extraText, ExtrasReady}
 use Rattle.document.specs.Roots.{someRow, ittsFrom, ittsOne, ittsRows}
@@ -202,7 +202,8 @@ module _ (list : Listed) (e z : List ℕ) where
     name-itts g = one-itts ∙ rw (le-leb (ittsFrom list) (extraAt e i .number) g) refl
 
     pub value-itts :
-        extraAt e i .number < ittsFrom list → (r k : ℕ) → Found mark (bytesAt z (extraAt e i .value)) 0 r → k ≡ length (bytesAt z (extraAt e i .value))
+        extraAt e i .number < ittsFrom list → (r k : ℕ) → Found mark (bytesAt z (extraAt e i .value)) 0 r → k ≡ length
+            (bytesAt z (extraAt e i .value))
         → ittsOne list e z i ≡ ltb r k
     value-itts g r k f q =
         one-itts ∙ rw (lt-leb (ittsFrom list) (extraAt e i .number) g, q, f .is) (contains-seek (bytesAt z (extraAt e i .value)) 0)

@@ -15,7 +15,8 @@ use Rattle.decimals.proofs.Sizes.{size-says}
 use Rattle.decimals.proofs.Tests.{both}
 use Rattle.names.specs.declared.tables.Listed.{Listed}
 use Rattle.names.specs.declared.tables.Listed.the-variants.{InlineExtra, RegionAttr, StyleExtra}
-use Rattle.track.specs.Tables.{Tables, cell, paramAt, styleAt, lookAt, sizeAt, regionAt, cueAt, optional, paramCount, styleCount, regionCount, cueCount, sizeCell}
+use Rattle.track.specs.Tables.{Tables, cell, paramAt, styleAt, lookAt, sizeAt, regionAt, cueAt, optional, paramCount, styleCount, regionCount,
+    cueCount, sizeCell}
 use Rattle.track.specs.Meaning.{isTrack, isSizeAt}
 use Rattle.track.specs.Steps.{isFull}
 use Rattle.track.proofs.Spans.{span-within}
@@ -62,7 +63,8 @@ module _ (T : Tables) (f : isFull T ≡ true) (h : isTrack T ≡ true) where
 
       style-kept : ExtrasReady StyleExtra (T .extras) (T .strings) (cell 27 (T .styles) i 25) (cell 27 (T .styles) i 26)
       style-kept =
-          extras-ready StyleExtra (T .extras) z′ (T .strings) (cell 27 (T .styles) i 25) (cell 27 (T .styles) i 26) (style-is .extras) (long T f h .extras) few
+          extras-ready StyleExtra (T .extras) z′ (T .strings) (cell 27 (T .styles) i 25) (cell 27 (T .styles) i 26) (style-is .extras)
+              (long T f h .extras) few
 
       style-chain : cell 27 (T .styles) i 2 + cell 27 (T .styles) i 3 ≤ length (T .strings)
       style-chain = omega (arith, span-within z′ (cell 27 (T .styles) i 2) (cell 27 (T .styles) i 3) (style-is .chain), few)
@@ -86,7 +88,8 @@ module _ (T : Tables) (f : isFull T ≡ true) (h : isTrack T ≡ true) where
 
       region-kept : ExtrasReady RegionAttr (T .extras) (T .strings) (cell 4 (T .regions) i 2) (cell 4 (T .regions) i 3)
       region-kept =
-          extras-ready RegionAttr (T .extras) z′ (T .strings) (cell 4 (T .regions) i 2) (cell 4 (T .regions) i 3) (region-is .extras) (long T f h .extras) few
+          extras-ready RegionAttr (T .extras) z′ (T .strings) (cell 4 (T .regions) i 2) (cell 4 (T .regions) i 3) (region-is .extras)
+              (long T f h .extras) few
 
       region-row : RegionReady (regionTables (T .regions) (T .extras) (T .strings)) i
       unfolding regionAt

@@ -14,7 +14,7 @@ use Rattle.track.specs.Track.{Bytes}
 use Rattle.track.specs.Track as track
 use Rattle.track.specs.Tables.{Tables, regionAt, rowsFrom}
 use Rattle.track.specs.Meaning.{bytesAt, regionIn}
-use Rattle.written.specs.Ascii.{ascii}
+use Rattle.scan.specs.Text.{ascii}
 use Rattle.written.specs.Attributes.{attrsText, regionAttrs}
 use Rattle.written.specs.Written.{regionText, lines, layoutLines}
 use Rattle.writer.specs.Puts.{quoted, Puts}

@@ -21,13 +21,15 @@ use Rattle.track.specs.Track as track
 use Rattle.track.specs.Tables.{Tables, cell, styleAt, regionAt, cueAt, paramAt, rowsFrom, paramCount, styleCount, regionCount, cueCount}
 use Rattle.track.specs.Meaning.{bytesAt, extraIn, paramIn, styleIn, regionIn, cueIn, trackAt}
 use Rattle.track.specs.Meaning as meaning
-use Rattle.written.specs.Ascii.{ascii}
-use Rattle.written.specs.Attributes.{attrText, attrsText, joined, given, listed, extraAttrs, isImsc, paramAttr, some-of, contains, holdsItts, usesItts, langOf, rootAttrs}
+use Rattle.scan.specs.Text.{ascii}
+use Rattle.written.specs.Attributes.{attrText, attrsText, joined, given, listed, extraAttrs, isImsc, paramAttr, some-of, contains, holdsItts,
+    usesItts, langOf, rootAttrs}
 use Rattle.written.specs.Written.{tag, stylingLines, layoutLines}
 use Rattle.writer.specs.Puts.{quoted}
 use Rattle.writer.specs.Rows.{over, extraText}
 use Rattle.writer.proofs.AttrLaws.{attrs-joined, attrs-last, attrs-one, attrs-given, attrs-extras}
-use Rattle.document.specs.Roots.{someRow, imscRow, flagged, prefixText, paramText, ittsRows, ittsRow, ittsText, langText, namespaces, rootText, headText}
+use Rattle.document.specs.Roots.{someRow, imscRow, flagged, prefixText, paramText, ittsRows, ittsRow, ittsText, langText, namespaces,
+    rootText, headText}
 use Rattle.document.proofs.SomeRows.{some-rows, some-same}
 
 -- ---- parameters
@@ -41,7 +43,8 @@ params-are T zero i = refl
 params-are T (suc n) i =
     let x = paramAt (T .params) i in
     ap₂ _++_
-    (prefix-then (imscRow (T .params) (T .strings) i) (bytesAt (T .strings) (x .name)) (quoted (ascii "=\"") (escaped true (bytesAt (T .strings) (x .value)))))
+    (prefix-then (imscRow (T .params) (T .strings) i) (bytesAt (T .strings) (x .name))
+        (quoted (ascii "=\"") (escaped true (bytesAt (T .strings) (x .value)))))
     (params-are T n (i + 1))
 
 -- ---- the namespace itts
@@ -80,7 +83,8 @@ module _ (T : Tables) where
   unfolding trackAt langText escaped
   lang-is = attrs-one (attr (ascii "xml:lang") (langOf (trackAt T .lang))) ∙ go (eqb (getD (T .head) 5 0) 1) refl
     where
-      go : (b : Bool) → eqb (getD (T .head) 5 0) 1 ≡ b → attrText (attr (ascii "xml:lang") (langOf (trackAt T .lang))) ≡ langText (T .head) (T .strings)
+      go : (b : Bool) → eqb (getD (T .head) 5 0) 1 ≡ b → attrText (attr (ascii "xml:lang") (langOf (trackAt T .lang))) ≡ langText (T .head)
+          (T .strings)
       go true e = rw e refl
       go false e = rw e refl
 
@@ -119,7 +123,8 @@ module _ (T : Tables) where
       (attrs-last _ _ lang-is)))))))
       ∙ regroup start
       (cond (someRow (λ (i : ℕ). flagged false (imscRow (T .params) (T .strings) i)) (paramCount (T .head)) 0) (declared "ttp" "#parameter") [])
-      (cond (someRow (λ (i : ℕ). flagged true (imscRow (T .params) (T .strings) i)) (paramCount (T .head)) 0) (declared "ittp" "/profile/imsc1#parameter") [])
+      (cond (someRow (λ (i : ℕ). flagged true (imscRow (T .params) (T .strings) i)) (paramCount (T .head)) 0)
+          (declared "ittp" "/profile/imsc1#parameter") [])
       (cond (ittsText (T .head) (T .styles) (T .regions) (T .cues) (T .extras) (T .strings)) (declared "itts" "/profile/imsc1#styling") [])
       (over (paramText (T .params) (T .strings)) (paramCount (T .head)) 0) (langText (T .head) (T .strings)) (ascii ">\n")
 

@@ -33,7 +33,7 @@ use Rattle.records.specs.declared.find.Found.{Found}
 use Rattle.records.specs.Find.{isNamed, firstWith, findChain, findExtras, chainFrom, extrasFrom, foundIn}
 use Rattle.records.proofs.FoundRows.{with-first, chain-found, extras-found}
 use Rattle.records.proofs.Finding.{namedWith}
-use Rattle.written.specs.Ascii.{ascii}
+use Rattle.scan.specs.Text.{ascii}
 use Rattle.written.specs.Attributes.{attrText, attrsText, joined, given, optional, extraAttrs, sizeText, alignAttrs, styleAttrs}
 use Rattle.written.specs.Written.{styleText, lines, stylingLines}
 use Rattle.written.proofs.Values.{rgba-itself, size-itself}
@@ -59,7 +59,8 @@ module _ (T : Tables) (name : Bytes) (n : ℕ) where
   abbrev keptRow : Found
   keptRow = firstWith (T .styles) (T .strings) name 27 26 n 0
 
-  chain-row : (f : Found) → chainRow ≡ f → attrsText (optional (attr (ascii "style")) (chainFrom (foundIn (styleIn T) f))) ≡ chainText (T .styles) (T .strings) f
+  chain-row : (f : Found) → chainRow ≡ f → attrsText (optional (attr (ascii "style")) (chainFrom (foundIn (styleIn T) f))) ≡ chainText (T .styles)
+      (T .strings) f
   unfolding chainText styleIn styleAt cell optional attrsText
   chain-row Found.Nothing e = refl
   chain-row (Found.Row j) e = rw (row-has (T .styles) (T .strings) name 3 n j e) (append-nil _)
@@ -77,11 +78,13 @@ module _ (T : Tables) (name : Bytes) (n : ℕ) where
 
 -- ---- values that are escaped as themselves
 color-attr : (k : Bytes) (b : Bool) (c : Rgba)
-    → attrsText (optional (λ (x : Rgba). attr k (rgbaText x)) (meaning.given b c)) ≡ cond b (ascii " " ++ (k ++ (ascii "=\"" ++ (rgbaText c ++ ascii "\"")))) []
+    → attrsText (optional (λ (x : Rgba). attr k (rgbaText x)) (meaning.given b c)) ≡ cond b
+        (ascii " " ++ (k ++ (ascii "=\"" ++ (rgbaText c ++ ascii "\"")))) []
 color-attr k b c = attrs-optional (λ (x : Rgba). attr k (rgbaText x)) b c ∙ rw (rgba-itself c) refl
 
 size-attr : (b : Bool) (s : Size)
-    → attrsText (optional (λ (x : Size). attr (ascii "tts:fontSize") (sizeText x)) (meaning.given b s)) ≡ cond b (quoted (ascii " tts:fontSize=\"") (sizeText s)) []
+    → attrsText (optional (λ (x : Size). attr (ascii "tts:fontSize") (sizeText x)) (meaning.given b s)) ≡ cond b
+        (quoted (ascii " tts:fontSize=\"") (sizeText s)) []
 size-attr b s = attrs-optional (λ (x : Size). attr (ascii "tts:fontSize") (sizeText x)) b s ∙ rw (size-itself s) refl
 
 align-attr : (a : Align) → attrsText (alignAttrs a) ≡ alignText a

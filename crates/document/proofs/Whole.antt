@@ -8,7 +8,7 @@ use Rattle.scan.specs.declared.table.Written.{Written}
 use Rattle.track.specs.Track.{Bytes}
 use Rattle.track.specs.Tables.{Tables, rowsFrom, styleCount, regionCount, cueCount}
 use Rattle.track.specs.Meaning.{styleIn, regionIn, cueIn, trackAt}
-use Rattle.written.specs.Ascii.{ascii}
+use Rattle.scan.specs.Text.{ascii}
 use Rattle.written.specs.Attributes.{rootAttrs}
 use Rattle.written.specs.Written.{tag, lines, cueText, headLines, writtenOf}
 use Rattle.writer.specs.Puts.{Puts}

@@ -16,7 +16,7 @@ use Rattle.track.specs.Track.{Bytes, Style, Region, Cue}
 use Rattle.track.specs.Tables.{Tables, cell, paramAt, paramCount, styleCount, regionCount, cueCount}
 use Rattle.track.specs.Meaning.{bytesAt}
 use Rattle.records.specs.Find.{isEmpty}
-use Rattle.written.specs.Ascii.{ascii}
+use Rattle.scan.specs.Text.{ascii}
 use Rattle.written.specs.Attributes.{contains}
 use Rattle.written.specs.Written.{stylingLines, layoutLines, lines, cueText}
 use Rattle.writer.specs.Puts.{quoted}

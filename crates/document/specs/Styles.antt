@@ -17,7 +17,7 @@ use Rattle.track.specs.Tables.{Tables, cell, styleAt}
 use Rattle.track.specs.Meaning.{bytesAt, isColor}
 use Rattle.records.specs.declared.find.Found.{Found}
 use Rattle.records.specs.Find.{Named}
-use Rattle.written.specs.Ascii.{ascii}
+use Rattle.scan.specs.Text.{ascii}
 use Rattle.written.specs.Attributes.{sizeText}
 use Rattle.writer.specs.Puts.{quoted}
 use Rattle.writer.specs.Rows.{over, extraText, ExtrasReady}

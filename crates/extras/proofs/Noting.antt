@@ -56,7 +56,8 @@ module _ (list : Listed) (s : List ℕ) where
 
 -- the value of a name, the first attribute being in row k
 first-valued : (u z : List ℕ) (k n : ℕ) (l : List Attr) (y : Head u z k n l) (name : List ℕ)
-    → valued withPlaces name (attrsIn z l) ≡ cond (sameFolded (nameAt u z k) name) (some (valueAt u z k)) (valued withPlaces name (attrsIn z (y .others)))
+    → valued withPlaces name (attrsIn z l) ≡ cond (sameFolded (nameAt u z k) name) (some (valueAt u z k))
+        (valued withPlaces name (attrsIn z (y .others)))
 unfolding valued attribute firstThat attrsIn
 first-valued u z k n l y name =
     let a : Attr = y .head in

@@ -167,8 +167,8 @@ abbrev pub EffectiveStyle : Tables → ℕ → List ℕ → Resolved → List �
 EffectiveStyle T i lent answer left = Queried [] T lent (askedCue i) (λ k. ByCue k i) (PlacedCue T i) [] (span 0 0) answer left
 
 -- ---- what every choice has in common: "the ids reached, each once, in an order left open"
--- Two outcomes, l and m being what is left: the answers are equal, the rows but for their order, and all other cells. `proofs/Determined` proves it of
--- any two that meet one of the promises.
+-- Two outcomes, l and m being what is left: the answers are equal, the rows but for their order, and all other cells. `proofs/Determined` proves it
+-- of any two that meet one of the promises.
 pub record EqualButOrder (a b : Resolved) (l m : List ℕ) : Type 0 where
   pub answer : a ≡ b
   pub rows : (x : Row) → (x ∈ rowsIn l (countOf a)) ↔ (x ∈ rowsIn m (countOf b))

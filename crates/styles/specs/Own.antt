@@ -1,9 +1,7 @@
 -- What a region says of itself by its kept attributes (the Rust's `apply_tts_attrs` on them). Definitions alone.
 -- textDecoration is not among them: `REGION_ATTR_ORDER` has it not.
 use Prim.Native.Nat.{ℕ}
-use Prim.Native.Char.{code}
 use Prim.Native.String.{String}
-use Prim.Native.String as string
 use mathlib.Core.Bool.{Bool, true, false, cond, _||_}
 use mathlib.Core.List.{List, [], _∷_}
 use mathlib.Core.Option.{Option, none, some}
@@ -11,6 +9,7 @@ use lib.ListN.{take}
 use lib.Dec.{eqb}
 use Rattle.scan.specs.Bytes.{digitByte, runLength}
 use Rattle.scan.specs.Names.{sameBytes, sameFolded}
+pub use Rattle.scan.specs.Text.{ascii}
 use Rattle.unicode.specs.White.{trimmed}
 use Rattle.colors.specs.declared.read.Rgba.{Rgba}
 use Rattle.colors.specs.declared.read.Color.{Color}
@@ -33,10 +32,6 @@ pub data Read (A : Type 0) : Type 0 where
 abbrev pub next : {A B : Type 0} → Read A → (A → Read B) → Read B
 next (is x) f = f x
 next (refused n) f = refused n
-
-abbrev pub ascii : String → Bytes
-ascii string.[] = []
-ascii (string._∷_ c s) = code c ∷ ascii s
 
 -- ---- the value of the first kept attribute of this name; S stands for its bytes, or where they stand
 abbrev pub valueFrom : {S : Type 0} → Option (Extra S) → Option S

@@ -15,7 +15,10 @@ use Rattle.scan.specs.Bytes.{blank, textByte, nameByte, attrNameByte, other, ru
 use Rattle.scan.specs.Marks.{startsAt, seek, past}
 use Rattle.unicode.specs.Utf8.{utf8End}
 use Rattle.tree.specs.Trees.{Attr, Forest, nil, text, section, elem, join, Span, attrSpans, spans, InOrder}
-use Rattle.tree.specs.Read.{Out, got, nothing, bad, gt, equals, closeMark, commentMark, commentEnd, cdataMark, cdataEnd, piMark, piEnd, declMark, quoteByte, skip, AttrOut, attr, flaw, quoted, bare, valueAt, attrAt, TagOut, opened, shut, torn, TagState, slash, attrNext, tagTurn, tagFrom, startAt, Reader, commentTurn, pastComments, textAt, sectionAt, nodeHere, nodeAt, State, nodeNext, closeAt, innerTurn, outerTurn, rowOf, fresh, enclose, tagged, elementBy, elementOf, contentOf, prologTurn, prologEnd, meaning}
+use Rattle.tree.specs.Read.{Out, got, nothing, bad, gt, equals, closeMark, commentMark, commentEnd, cdataMark, cdataEnd, piMark, piEnd,
+    declMark, quoteByte, skip, AttrOut, attr, flaw, quoted, bare, valueAt, attrAt, TagOut, opened, shut, torn, TagState, slash, attrNext, tagTurn,
+    tagFrom, startAt, Reader, commentTurn, pastComments, textAt, sectionAt, nodeHere, nodeAt, State, nodeNext, closeAt, innerTurn, outerTurn,
+    rowOf, fresh, enclose, tagged, elementBy, elementOf, contentOf, prologTurn, prologEnd, meaning}
 use Rattle.scan.proofs.Searches.{seek-ind}
 use Rattle.scan.proofs.Runs.{run-low, run-high}
 use Rattle.tree.proofs.Tags.{starts-some}
@@ -50,14 +53,16 @@ in-rest (x ∷ a) b lo hi i = in-lower b lo (x .place + x .len) hi (omega (arith
 
 -- every string lies within the bounds, and two of them lie apart
 module _ (none : Span) where
-  pub span-within : (l : List Span) (lo hi i : ℕ) → InOrder lo l hi → i < length l → (lo ≤ getD l i none .place) × (getD l i none .place + getD l i none .len ≤ hi)
+  pub span-within : (l : List Span) (lo hi i : ℕ) → InOrder lo l hi → i < length l → (lo ≤ getD l i none .place) ×
+      (getD l i none .place + getD l i none .len ≤ hi)
   span-within [] lo hi i o h = absurd (omega arith)
   span-within (x ∷ l) lo hi zero o h = (o .0, in-whole l (x .place + x .len) hi (o .1))
   span-within (x ∷ l) lo hi (suc i) o h =
       let r = span-within l (x .place + x .len) hi i (o .1) (omega arith) in
       (omega (arith, o .0, r .0), r .1)
 
-  pub span-apart : (l : List Span) (lo hi i j : ℕ) → InOrder lo l hi → i < j → j < length l → getD l i none .place + getD l i none .len ≤ getD l j none .place
+  pub span-apart : (l : List Span) (lo hi i j : ℕ) → InOrder lo l hi → i < j → j < length l → getD l i none .place + getD l i none .len ≤ getD l j
+      none .place
   span-apart [] lo hi i j o g h = absurd (omega arith)
   span-apart (x ∷ l) lo hi zero zero o g h = absurd (omega arith)
   span-apart (x ∷ l) lo hi zero (suc j) o g h = span-within l (x .place + x .len) hi j (o .1) (omega arith) .0
@@ -109,7 +114,8 @@ unfolding startsAt
 starts-whole s p [] h e = omega arith
 starts-whole s p (b ∷ m) h e = at (λ g f. starts-whole s (p + 1) m g f) (ltb p (length s)) (eqb (getD s p 0) b) refl refl
   where
-    at : (p + 1 ≤ length s → startsAt s (p + 1) m ≡ true → p + 1 + length m ≤ length s) → (x y : Bool) → ltb p (length s) ≡ x → eqb (getD s p 0) b ≡ y → p + suc (length m) ≤ length s
+    at : (p + 1 ≤ length s → startsAt s (p + 1) m ≡ true → p + 1 + length m ≤ length s) → (x y : Bool) → ltb p (length s) ≡ x → eqb (getD s p 0) b
+        ≡ y → p + suc (length m) ≤ length s
     at k true true v w = let r : p + 1 + length m ≤ length s = k (omega (arith, ltb-true p (length s) v)) (rw (v, w) at e) in omega arith
     at k true false v w = absurd (true≢false (sym (rw (v, w) at e)))
     at k false y v w = absurd (true≢false (sym (rw v at e)))
@@ -120,7 +126,8 @@ Sought m s p r = (p ≤ r) × (r ≤ length s) × (r < length s → r + length m
 
 seek-in : (m s : List ℕ) (p : ℕ) → p ≤ length s → Sought m s p (seek m s p)
 seek-in m s p h =
-    seek-ind m s (λ i. (p ≤ i) × (i ≤ length s)) (Sought m s p) (λ i l e j. (omega arith, omega arith)) (λ i l e j. (j .0, j .1, λ g. starts-whole s i m (j .1) e))
+    seek-ind m s (λ i. (p ≤ i) × (i ≤ length s)) (Sought m s p) (λ i l e j. (omega arith, omega arith))
+        (λ i l e j. (j .0, j .1, λ g. starts-whole s i m (j .1) e))
     (λ i l j. (j .0, j .1, λ g. absurd (omega arith))) p (omega arith, h)
 
 past-in : (m s : List ℕ) (p : ℕ) → p ≤ length s → (seek m s p ≤ past m s p) × (past m s p ≤ length s)
@@ -135,7 +142,8 @@ unfoldable AttrIn : ℕ → List ℕ → AttrOut → Type 0
 AttrIn lo s (attr y q) = (q ≤ length s) × InOrder lo (attrSpans (y ∷ [])) q
 AttrIn lo s (flaw n q) = Unit {0}
 
-attr-leaf : (s : List ℕ) (p e v m r : ℕ) → p ≤ e → e ≤ v → v + m ≤ r → r ≤ length s → AttrIn p s (attr (record { name = p; nameLen = e - p; value = v; valueLen = m }) r)
+attr-leaf : (s : List ℕ) (p e v m r : ℕ) → p ≤ e → e ≤ v → v + m ≤ r → r ≤ length s → AttrIn p s
+    (attr (record { name = p; nameLen = e - p; value = v; valueLen = m }) r)
 unfolding AttrIn attrSpans
 attr-leaf s p e v m r a b c d = (d, (omega arith, (omega arith, c)))
 
@@ -169,7 +177,8 @@ module _ (s : List ℕ) (p e : ℕ) (h : p ≤ e) where
       let v : ℕ = skip s (q + 1) in
       let a : q + 1 ≤ v = run-low blank s (q + 1) in
       by-cond (AttrIn p s) (ltb v (length s)) _ _
-      (λ w. by-cond (AttrIn p s) (quoteByte (getD s v 0)) _ _ (λ x. quoted-in (getD s v 0) v (omega arith) (ltb-true v (length s) w)) (λ x. bare-in v (omega arith) (ltb-true v (length s) w)))
+      (λ w. by-cond (AttrIn p s) (quoteByte (getD s v 0)) _ _ (λ x. quoted-in (getD s v 0) v (omega arith) (ltb-true v (length s) w))
+          (λ x. bare-in v (omega arith) (ltb-true v (length s) w)))
       (λ w. flaw-leaf s p 9 q)
 
 attr-in : (s : List ℕ) (p : ℕ) → p ≤ length s → AttrIn p s (attrAt s p)
@@ -180,7 +189,8 @@ attr-in s p h =
     let b : e ≤ length s = run-high attrNameByte s p h in
     let q : ℕ = skip s e in
     let d : e ≤ q = run-low blank s e in
-    by-cond (AttrIn p s) (startsAt s q equals) _ _ (λ w. value-in s p e a q d (starts-some s q 61 [] w)) (λ w. attr-leaf s p e e 0 q a (omega arith) (omega arith) (run-high blank s e b))
+    by-cond (AttrIn p s) (startsAt s q equals) _ _ (λ w. value-in s p e a q d (starts-some s q 61 [] w))
+        (λ w. attr-leaf s p e e 0 q a (omega arith) (omega arith) (run-high blank s e b))
 
 -- ---- a start tag
 spans-attrs : (a b : List Attr) → attrSpans (a ++ b) ≡ attrSpans a ++ attrSpans b
@@ -200,11 +210,14 @@ slash-in : (lo : ℕ) (s : List ℕ) (p : ℕ) (x : TagState) → p < length s �
 unfolding slash TagIn
 slash-in lo s p x h i =
     by-cond (TagIn lo s) (startsAt s (skip s (p + 1)) gt) _ _
-    (λ w. (omega (arith, starts-some s (skip s (p + 1)) 62 [] w), in-higher (attrSpans (x .list)) lo p (skip s (p + 1) + 1) (omega (arith, run-low blank s (p + 1))) (i .1))) (λ w. tt)
+    (λ w. (omega (arith, starts-some s (skip s (p + 1)) 62 [] w), in-higher (attrSpans (x .list)) lo p (skip s (p + 1) + 1)
+        (omega (arith, run-low blank s (p + 1))) (i .1))) (λ w. tt)
 
-next-in : (lo : ℕ) (s : List ℕ) (p : ℕ) (x : TagState) (o : AttrOut) → AttrIn p s o → TagInv lo s p x → Turned (TagInv lo s) (TagIn lo s) (attrNext x o)
+next-in : (lo : ℕ) (s : List ℕ) (p : ℕ) (x : TagState) (o : AttrOut) → AttrIn p s o → TagInv lo s p x → Turned (TagInv lo s) (TagIn lo s)
+    (attrNext x o)
 unfolding attrNext AttrIn TagIn
-next-in lo s p x (attr y q) d i = (d .0, rw (spans-attrs (x .list) (y ∷ [])) (in-append (attrSpans (x .list)) (attrSpans (y ∷ [])) lo p q (i .1) (d .1)))
+next-in lo s p x (attr y q) d i = (d .0, rw (spans-attrs (x .list) (y ∷ []))
+    (in-append (attrSpans (x .list)) (attrSpans (y ∷ [])) lo p q (i .1) (d .1)))
 next-in lo s p x (flaw n q) d i = tt
 
 opened-in : (lo : ℕ) (s : List ℕ) (p : ℕ) (x : TagState) → p < length s → TagInv lo s p x → TagIn lo s (opened (x .list) (p + 1) (x .count))
@@ -220,11 +233,13 @@ unfolding tagTurn
 tag-turn-in lo s p x h i =
     by-cond (Turned (TagInv lo s) (TagIn lo s)) (eqb (getD s p 0) 62) _ _ (λ e. opened-in lo s p x h i)
     (λ e. by-cond (Turned (TagInv lo s) (TagIn lo s)) (eqb (getD s p 0) 47) _ _ (λ f. slash-in lo s p x h i)
-    (λ f. by-cond (Turned (TagInv lo s) (TagIn lo s)) (ltb (x .count) 8192) _ _ (λ g. next-in lo s p x (attrAt s p) (attr-in s p (omega arith)) i) (λ g. torn-in lo s 7 p)))
+    (λ f. by-cond (Turned (TagInv lo s) (TagIn lo s)) (ltb (x .count) 8192) _ _ (λ g. next-in lo s p x (attrAt s p) (attr-in s p (omega arith)) i)
+        (λ g. torn-in lo s 7 p)))
 
 tag-in : (s : List ℕ) (p a : ℕ) → p ≤ length s → TagIn p s (tagFrom s p (record { list = []; count = a }))
 unfolding tagFrom attrSpans
-tag-in s p a h = loop-keep (length s) (tagTurn s) _ (TagInv p s) (TagIn p s) (tag-turn-in p s) (λ q y i. torn-in p s 10 q) p (record { list = []; count = a }) (h, omega arith)
+tag-in s p a h = loop-keep (length s) (tagTurn s) _ (TagInv p s) (TagIn p s) (tag-turn-in p s) (λ q y i. torn-in p s 10 q) p
+    (record { list = []; count = a }) (h, omega arith)
 
 tag-lower : (lo m : ℕ) (s : List ℕ) (o : TagOut) → lo ≤ m → TagIn m s o → TagIn lo s o
 unfolding TagIn
@@ -236,7 +251,8 @@ start-in : (s : List ℕ) (p e a : ℕ) → e ≤ length s → TagIn e s (startA
 unfolding startAt
 start-in s p e a h =
     by-cond (TagIn e s) (eqb e (p + 1)) _ _ (λ w. torn-in e s 6 p)
-    (λ w. tag-lower e (skip s e) s (tagFrom s (skip s e) (record { list = []; count = a })) (run-low blank s e) (tag-in s (skip s e) a (run-high blank s e h)))
+    (λ w. tag-lower e (skip s e) s (tagFrom s (skip s e) (record { list = []; count = a })) (run-low blank s e)
+        (tag-in s (skip s e) a (run-high blank s e h)))
 
 -- ---- a node
 unfoldable OutIn : ℕ → List ℕ → Out → Type 0
@@ -267,7 +283,8 @@ unfolding OutIn
 nothing-in lo s q h g = (h, g)
 
 -- a text or a section of n bytes at v
-leaf-in : (lo : ℕ) (s : List ℕ) (v n q k a : ℕ) → lo ≤ v → v + n ≤ q → q ≤ length s → (OutIn lo s (got (text v n nil) q k a)) × (OutIn lo s (got (section v n nil) q k a))
+leaf-in : (lo : ℕ) (s : List ℕ) (v n q k a : ℕ) → lo ≤ v → v + n ≤ q → q ≤ length s → (OutIn lo s (got (text v n nil) q k a)) ×
+    (OutIn lo s (got (section v n nil) q k a))
 unfolding OutIn spans
 leaf-in lo s v n q k a h g l = ((l, (h, g)), (l, (h, g)))
 
@@ -276,7 +293,8 @@ unfolding textAt
 text-in s p k a h =
     let e : ℕ = runEnd textByte s p in
     let b : p ≤ e = run-low textByte s p in
-    by-cond (OutIn p s) (ltb k 8192) _ _ (λ w. leaf-in p s p (e - p) e (k + 1) a (omega arith) (omega arith) (run-high textByte s p h) .0) (λ w. bad-in p s 5 p)
+    by-cond (OutIn p s) (ltb k 8192) _ _ (λ w. leaf-in p s p (e - p) e (k + 1) a (omega arith) (omega arith) (run-high textByte s p h) .0)
+        (λ w. bad-in p s 5 p)
 
 section-in : (s : List ℕ) (p k a : ℕ) → p + 9 ≤ length s → OutIn p s (sectionAt s p k a)
 unfolding sectionAt
@@ -284,13 +302,15 @@ section-in s p k a h =
     let e : ℕ = seek cdataEnd s (p + 9) in
     let b : Sought cdataEnd s (p + 9) e = seek-in cdataEnd s (p + 9) h in
     let d : (e ≤ past cdataEnd s (p + 9)) × (past cdataEnd s (p + 9) ≤ length s) = past-in cdataEnd s (p + 9) h in
-    by-cond (OutIn p s) (ltb k 8192) _ _ (λ w. leaf-in p s (p + 9) (e - (p + 9)) (past cdataEnd s (p + 9)) (k + 1) a (omega arith) (omega arith) (d .1) .1) (λ w. bad-in p s 5 p)
+    by-cond (OutIn p s) (ltb k 8192) _ _ (λ w. leaf-in p s (p + 9) (e - (p + 9)) (past cdataEnd s (p + 9)) (k + 1) a (omega arith) (omega arith)
+        (d .1) .1) (λ w. bad-in p s 5 p)
 
 comments-in : (s : List ℕ) (p : ℕ) → p ≤ length s → (p ≤ pastComments s p) × (pastComments s p ≤ length s)
 unfolding pastComments
 comments-in s p h =
     loop-keep (length s) (commentTurn s) _ (λ i x. (p ≤ i) × (i ≤ length s)) (λ r. (p ≤ r) × (r ≤ length s))
-    (λ i x l j. by-cond (Turned {S = Unit {0}} (λ k y. (p ≤ k) × (k ≤ length s)) (λ r. (p ≤ r) × (r ≤ length s))) (startsAt s i commentMark) _ _ (λ e. beyond i l j) (λ e. j))
+    (λ i x l j. by-cond (Turned {S = Unit {0}} (λ k y. (p ≤ k) × (k ≤ length s)) (λ r. (p ≤ r) × (r ≤ length s))) (startsAt s i commentMark) _ _
+        (λ e. beyond i l j) (λ e. j))
     (λ i x j. j) p tt (omega arith, h)
   where
     beyond : (i : ℕ) → i < length s → (p ≤ i) × (i ≤ length s) → (p ≤ past commentEnd s i) × (past commentEnd s i ≤ length s)
@@ -345,7 +365,8 @@ unfolding closeAt
 close-in lo s p x h i =
     let g : ℕ = runEnd (other 62) s p in
     let b : p ≤ g = run-low (other 62) s p in
-    by-cond (OutIn lo s) (ltb g (length s)) _ _ (λ w. got-in lo s p (g + 1) x (omega arith) (omega (arith, ltb-true g (length s) w)) i) (λ w. bad-in lo s 11 p)
+    by-cond (OutIn lo s) (ltb g (length s)) _ _ (λ w. got-in lo s p (g + 1) x (omega arith) (omega (arith, ltb-true g (length s) w)) i)
+        (λ w. bad-in lo s 11 p)
 
 module _ (s : List ℕ) (el : Reader) (keeps : Keeps s el) (lo : ℕ) where
   outer-in : (p : ℕ) (x : State) → p < length s → RowInv lo s p x → Turned (RowInv lo s) (OutIn lo s) (outerTurn s el p x)
@@ -358,13 +379,16 @@ module _ (s : List ℕ) (el : Reader) (keeps : Keeps s el) (lo : ℕ) where
       by-cond (Turned (RowInv lo s) (OutIn lo s)) (startsAt s p closeMark) _ _ (λ w. close-in lo s p x h i)
       (λ w. node-next-in lo s p x (nodeAt s el p (x .nodes) (x .attrs)) (node-in s el p (x .nodes) (x .attrs) keeps (omega arith)) i)
 
-row-in : (s : List ℕ) (turn : ℕ → State → Next State Out) (p k a : ℕ) → ((q : ℕ) (x : State) → q < length s → RowInv p s q x → Turned (RowInv p s) (OutIn p s) (turn q x))
+row-in : (s : List ℕ) (turn : ℕ → State → Next State Out) (p k a : ℕ) →
+    ((q : ℕ) (x : State) → q < length s → RowInv p s q x → Turned (RowInv p s) (OutIn p s) (turn q x))
     → p ≤ length s → OutIn p s (rowOf s turn p (fresh k a))
 unfolding rowOf spans
-row-in s turn p k a t h = loop-keep (length s) turn _ (RowInv p s) (OutIn p s) t (λ q y i. got-in p s q q y (omega arith) (i .0) i) p (fresh k a) (h, omega arith)
+row-in s turn p k a t h = loop-keep (length s) turn _ (RowInv p s) (OutIn p s) t (λ q y i. got-in p s q q y (omega arith) (i .0) i) p (fresh k a)
+    (h, omega arith)
 
 -- ---- elements
-elem-in : (s : List ℕ) (p n m q k a : ℕ) (l : List Attr) (f : Forest) → m ≤ length s → q ≤ length s → InOrder (p + 1 + n) (attrSpans l) m → InOrder m (spans f) q
+elem-in : (s : List ℕ) (p n m q k a : ℕ) (l : List Attr) (f : Forest) → m ≤ length s → q ≤ length s → InOrder (p + 1 + n) (attrSpans l) m → InOrder
+    m (spans f) q
     → OutIn p s (got (elem p n l f nil) q k a)
 unfolding OutIn spans
 elem-in s p n m q k a l f h g i j = (g, (omega arith, rw append-nil (in-append (attrSpans l) (spans f) (p + 1 + n) m q i j)))
@@ -373,36 +397,43 @@ none-in : (q : ℕ) → InOrder q (spans nil) q
 unfolding spans
 none-in q = omega arith
 
-enclose-in : (s : List ℕ) (p n m : ℕ) (l : List Attr) (o : Out) → m ≤ length s → p ≤ m → InOrder (p + 1 + n) (attrSpans l) m → OutIn m s o → OutIn p s (enclose p n l o)
+enclose-in : (s : List ℕ) (p n m : ℕ) (l : List Attr) (o : Out) → m ≤ length s → p ≤ m → InOrder (p + 1 + n) (attrSpans l) m → OutIn m s o → OutIn
+    p s (enclose p n l o)
 unfolding enclose
 enclose-in s p n m l (got f q k a) h g i d = elem-in s p n m q k a l f h (got-end m s f q k a d) i (got-order m s f q k a d)
 enclose-in s p n m l (nothing q) h g i d = out-lower p m s (nothing q) g d
 enclose-in s p n m l (bad x q) h g i d = bad-in p s x q
 
-tagged-in : (s : List ℕ) (inner : Reader) (p n k e : ℕ) (o : TagOut) → p + 1 + n ≤ e → ((q j b : ℕ) → q ≤ length s → OutIn q s (inner q j b)) → TagIn e s o → OutIn p s (tagged inner p n k o)
+tagged-in : (s : List ℕ) (inner : Reader) (p n k e : ℕ) (o : TagOut) → p + 1 + n ≤ e → ((q j b : ℕ) → q ≤ length s → OutIn q s (inner q j b)) →
+    TagIn e s o → OutIn p s (tagged inner p n k o)
 unfolding tagged TagIn
 tagged-in s inner p n k e (opened l q a) h t i =
     let w : e ≤ q = in-whole (attrSpans l) e q (i .1) in
     enclose-in s p n q l (inner q (k + 1) a) (i .0) (omega arith) (in-lower (attrSpans l) (p + 1 + n) e q h (i .1)) (t q (k + 1) a (i .0))
-tagged-in s inner p n k e (shut l q a) h t i = elem-in s p n q q (k + 1) a l nil (i .0) (i .0) (in-lower (attrSpans l) (p + 1 + n) e q h (i .1)) (none-in q)
+tagged-in s inner p n k e (shut l q a) h t i = elem-in s p n q q (k + 1) a l nil (i .0) (i .0) (in-lower (attrSpans l) (p + 1 + n) e q h (i .1))
+    (none-in q)
 tagged-in s inner p n k e (torn m q) h t i = bad-in p s m q
 
-by-in : (s : List ℕ) (inner : Reader) (p k a : ℕ) → p < length s → ((q j b : ℕ) → q ≤ length s → OutIn q s (inner q j b)) → OutIn p s (elementBy s inner p k a)
+by-in : (s : List ℕ) (inner : Reader) (p k a : ℕ) → p < length s → ((q j b : ℕ) → q ≤ length s → OutIn q s (inner q j b)) → OutIn p s
+    (elementBy s inner p k a)
 unfolding elementBy
 by-in s inner p k a h t =
     let e : ℕ = runEnd nameByte s (p + 1) in
     let b : p + 1 ≤ e = run-low nameByte s (p + 1) in
-    by-cond (OutIn p s) (ltb k 8192) _ _ (λ w. tagged-in s inner p (e - (p + 1)) k e (startAt s p e a) (omega arith) t (start-in s p e a (run-high nameByte s (p + 1) (omega arith)))) (λ w. bad-in p s 5 p)
+    by-cond (OutIn p s) (ltb k 8192) _ _ (λ w. tagged-in s inner p (e - (p + 1)) k e (startAt s p e a) (omega arith) t
+        (start-in s p e a (run-high nameByte s (p + 1) (omega arith)))) (λ w. bad-in p s 5 p)
 
 element-in : (d : ℕ) (s : List ℕ) → Keeps s (elementOf d s)
 unfolding elementOf
 element-in zero s p k a h = bad-in p s 4 p
-element-in (suc d) s p k a h = by-in s (contentOf d s) p k a h (λ q j b g. row-in s (innerTurn s (elementOf d s)) q j b (inner-in s (elementOf d s) (element-in d s) q) g)
+element-in (suc d) s p k a h = by-in s (contentOf d s) p k a h (λ q j b g. row-in s (innerTurn s (elementOf d s)) q j b
+    (inner-in s (elementOf d s) (element-in d s) q) g)
 
 -- ---- the whole text
 prolog-in : (s : List ℕ) → prologEnd s ≤ length s
 unfolding prologEnd prologTurn
-prolog-in s = loop-keep (length s) (prologTurn s) _ (λ i x. i ≤ length s) (λ r. r ≤ length s) turns (λ i x j. j) (skip s 0) tt (run-high blank s 0 (omega arith))
+prolog-in s = loop-keep (length s) (prologTurn s) _ (λ i x. i ≤ length s) (λ r. r ≤ length s) turns (λ i x j. j) (skip s 0) tt
+    (run-high blank s 0 (omega arith))
   where
     on : (m : List ℕ) (i : ℕ) → i ≤ length s → skip s (past m s i) ≤ length s
     on m i j = run-high blank s (past m s i) (past-in m s i j .1)

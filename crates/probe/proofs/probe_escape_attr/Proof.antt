@@ -14,7 +14,8 @@ same-length : tie.Need-same-length
 same-length c = search needs
 
 returns : tie.Need-returns
-returns c = rw (c .place-of .ensures) (filled-in-part _ _ (c .before .before .before .escape-attr .last .1 .0) (c .before .before .before .escape-attr .result) (c .before .before .before .escape-attr .ensures))
+returns c = rw (c .place-of .ensures) (filled-in-part _ _ (c .before .before .before .escape-attr .last .1 .0)
+    (c .before .before .before .escape-attr .result) (c .before .before .before .escape-attr .ensures))
 
 pub probe-escape-attr-spec : {M : Type 1} → statement M
 probe-escape-attr-spec =

@@ -591,7 +591,8 @@ collect-div-returns-3 t c =
     let said = ap (λ v. momentSaid (Moment.Is v)) (laws.toZ-ofZ w64 x (record { sfits = c24 .known-told2 .given .0 .1 })) in
     div-came _ _ _ _ _ (a .ws) _ _
     (seven (v .0) (v .1 .0) (v .1 .1 .0) (v .1 .1 .1 .0) (v .1 .1 .1 .1 .0) (v .1 .1 .1 .1 .1 .0) (v .1 .1 .1 .1 .1 .1 .0))
-    (e .result) (e .ensures) (a .reference) (toZ w64 (ofZ w64 x)) (λ l o. said ∙ (rw (c25 .start .given .1) at (h l o))) (c .before .before .inner .given .0 .0)
+    (e .result) (e .ensures) (a .reference) (toZ w64 (ofZ w64 x)) (λ l o. said ∙ (rw (c25 .start .given .1) at (h l o)))
+        (c .before .before .inner .given .0 .0)
     (rw (c .before .before .inner .given .1) at (d .ensures)) (c .close-div .result) (c .close-div .ensures)
 
 collect-element-slice-aggregate-is-element : (t : ℕ) → collect-element-lts.Need-slice-aggregate-is-element (element t)

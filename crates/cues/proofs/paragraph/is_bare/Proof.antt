@@ -96,8 +96,10 @@ returns-5 c =
     let p = c .before .before .before .before .before .before .before .before .before .pre in
     (
       λ pre rest f l e n.
-          bare-read t pre rest f (a .first) (a .end) l e n (omega (arith, n, p .0, c .before .before .before .before .before .before .before .if1 .left))
-          (omega (arith, n, c .before .before .before .before .before .if2 .left, c .before .before .before .before .before .before .get .ensures)) (c .before .before .before .if3 .left) (c .before .if4 .left),
+          bare-read t pre rest f (a .first) (a .end) l e n (omega (arith, n, p .0, c .before .before .before .before .before .before .before .if1
+              .left))
+          (omega (arith, n, c .before .before .before .before .before .if2 .left, c .before .before .before .before .before .before .get .ensures))
+              (c .before .before .before .if3 .left) (c .before .if4 .left),
       λ h. omega (arith, p .0, c .before .before .before .before .before .before .before .if1 .left),
     )
 

@@ -44,7 +44,8 @@ returns c =
     let u = three (v .0) (v .1 .0) (v .1 .1 .0) in
     let ws = wrappersFrom (a .w) in
     let m = c .before .before .m .given .0 .0 in
-    let h = rw (c .before .before .m .given .1) at (c .before .before .before .before .before .before .before .before .before .put-wrappers .ensures) in
+    let h = rw (c .before .before .m .given .1) at (c .before .before .before .before .before .before .before .before .before .put-wrappers
+        .ensures) in
     par-more (a .first) (a .end) ws t u m (h .0) (h .1) (h .2) (λ e. omega (arith, e, c .if1 .taken))
 
 -- src/paragraph.rt:54:16
@@ -53,11 +54,13 @@ is-bare-requires c κs = search needs
 
 -- src/paragraph.rt:55:17
 drop-segment-requires : tie.Need-drop-segment-requires
-drop-segment-requires c κs = (c .before .before .before .before .is-bare .ensures .1 (c .before .before .before .if2 .taken), search needs, search needs, search needs)
+drop-segment-requires c κs = (c .before .before .before .before .is-bare .ensures .1 (c .before .before .before .if2 .taken), search needs, search
+    needs, search needs)
 
 -- src/paragraph.rt:56:36
 sub-t27 : tie.Need-sub-t27
-sub-t27 c = omega (arith, c .before .before .before .before .before .before .before .before .before .before .is-bare .ensures .1 (c .before .before .before .before .before .before .before .before .before .if2 .taken))
+sub-t27 c = omega (arith, c .before .before .before .before .before .before .before .before .before .before .is-bare .ensures .1
+    (c .before .before .before .before .before .before .before .before .before .if2 .taken))
 
 -- src/paragraph.rt:56:17
 same-length-4 : tie.Need-same-length-4
@@ -74,19 +77,25 @@ same-length-6 c = search needs
 -- src/paragraph.rt:56:17
 returns-2 : tie.Need-returns-2
 returns-2 c =
-    let a = c .before .before .before .before .before .before .before .before .before .before .before .before .before .before .before .before .before .before .before .before .before .before .before .before .before .before .before .args in
-    let v = c .before .before .before .before .before .before .before .before .before .before .before .before .before .before .before .before .before .before .before .before .before .put-wrappers .last in
+    let a = c .before .before .before .before .before .before .before .before .before .before .before .before .before .before .before .before
+        .before .before .before .before .before .before .before .before .before .before .before .args in
+    let v = c .before .before .before .before .before .before .before .before .before .before .before .before .before .before .before .before
+        .before .before .before .before .before .put-wrappers .last in
     let t = three (a .segments .now) (a .reveal .now) (a .sizes .now) in
     let u = three (v .0) (v .1 .0) (v .1 .1 .0) in
     let ws = wrappersFrom (a .w) in
     let m = c .before .before .before .before .before .before .before .before .before .before .before .before .before .before .m .given .0 .0 in
-    let h = rw (c .before .before .before .before .before .before .before .before .before .before .before .before .before .before .m .given .1) at (c .before .before .before .before .before .before .before .before .before .before .before .before .before .before .before .before .before .before .before .before .before .put-wrappers .ensures) in
+    let h = rw (c .before .before .before .before .before .before .before .before .before .before .before .before .before .before .m .given .1) at
+        (c .before .before .before .before .before .before .before .before .before .before .before .before .before .before .before .before .before
+        .before .before .before .before .put-wrappers .ensures) in
     let x = c .before .before .before .before .before .drop-segment .last in
     let y = three (x .0) (x .1 .0) (x .1 .1 .0) in
     let e = c .before .before .before .before .before .drop-segment .ensures in
-    let b = rw (c .before .before .before .before .before .before .before .before .before .if2 .taken) at (c .before .before .before .before .before .before .before .before .before .before .is-bare .ensures .0) in
+    let b = rw (c .before .before .before .before .before .before .before .before .before .if2 .taken) at
+        (c .before .before .before .before .before .before .before .before .before .before .is-bare .ensures .0) in
     let d : Dropped (a .first) (a .end) u y = record { in-cells = e .0; in-times = e .1 .0; in-floats = e .1 .1 } in
-    par-drop (a .first) (a .end) ws t u m (h .0) (h .1) (h .2) (c .before .before .before .before .before .before .before .before .before .before .before .before .if1 .left) b y d
+    par-drop (a .first) (a .end) ws t u m (h .0) (h .1) (h .2) (c .before .before .before .before .before .before .before .before .before .before
+        .before .before .if1 .left) b y d
 
 -- src/paragraph.rt:35:1
 same-length-7 : tie.Need-same-length-7
@@ -109,7 +118,8 @@ returns-3 c =
     let u = three (v .0) (v .1 .0) (v .1 .1 .0) in
     let ws = wrappersFrom (a .w) in
     let h = rw (c .enum-told .given .1) at (c .before .before .before .before .before .before .before .put-wrappers .ensures) in
-    par-full (a .first) (a .end) ws t u (c .before .before .before .before .before .before .before .before .before .before .before .before .before .pre .1) (h .1)
+    par-full (a .first) (a .end) ws t u (c .before .before .before .before .before .before .before .before .before .before .before .before .before
+        .pre .1) (h .1)
 
 -- src/paragraph.rt:35:1
 same-length-10 : tie.Need-same-length-10
@@ -126,13 +136,15 @@ same-length-12 c = search needs
 -- src/paragraph.rt:35:1
 returns-4 : tie.Need-returns-4
 returns-4 c =
-    let a = c .before .before .before .before .before .before .before .before .before .before .before .before .before .before .before .before .before .before .args in
+    let a = c .before .before .before .before .before .before .before .before .before .before .before .before .before .before .before .before
+        .before .before .args in
     let v = c .before .before .before .before .before .before .before .before .before .before .before .before .put-wrappers .last in
     let t = three (a .segments .now) (a .reveal .now) (a .sizes .now) in
     let u = three (v .0) (v .1 .0) (v .1 .1 .0) in
     let ws = wrappersFrom (a .w) in
     let m = c .before .before .before .before .before .m .given .0 .0 in
-    let h = rw (c .before .before .before .before .before .m .given .1) at (c .before .before .before .before .before .before .before .before .before .before .before .before .put-wrappers .ensures) in
+    let h = rw (c .before .before .before .before .before .m .given .1) at
+        (c .before .before .before .before .before .before .before .before .before .before .before .before .put-wrappers .ensures) in
     let b = rw (c .if2 .left) at (c .before .is-bare .ensures .0) in
     par-same (a .first) (a .end) ws t u m (h .0) (h .1) (h .2) (c .before .before .before .if1 .left) b
 

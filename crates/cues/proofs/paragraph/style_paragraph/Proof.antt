@@ -37,7 +37,8 @@ returns c =
     let a = c .before .before .before .before .before .before .before .before .before .before .before .before .before .before .before .args in
     let v = c .before .before .before .before .before .wrap-paragraph .last .1 .1 in
     styled-some ctx (a .e .place) (a .first) (a .end) (attrsIn (a .strings .now) l) (three (a .segments .now) (a .reveal .now) (a .sizes .now))
-    (sym (c .before .before .before .before .before .before .before .before .before .before .p-has-modelled-inline-style .ensures l o) ∙ c .before .before .before .before .before .before .before .before .before .if1 .taken) (three (v .0) (v .1 .0) (v .1 .1 .0))
+    (sym (c .before .before .before .before .before .before .before .before .before .before .p-has-modelled-inline-style .ensures l o) ∙ c .before
+        .before .before .before .before .before .before .before .before .if1 .taken) (three (v .0) (v .1 .0) (v .1 .1 .0))
     (c .before .before .before .before .before .wrap-paragraph .result) (c .before .before .before .before .before .wrap-paragraph .ensures l o)
 
 -- src/paragraph.rt:123:1

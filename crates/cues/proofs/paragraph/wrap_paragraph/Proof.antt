@@ -34,7 +34,8 @@ around-requires c κs = search needs
 put-paragraph-requires : tie.Need-put-paragraph-requires
 put-paragraph-requires c κs =
     let p = c .before .before .before .before .before .before .before .before .before .before .before .before .pre in
-    let w = rw (c .before .before .before .before .before .w .given .1) at (c .before .before .before .before .before .before .before .wrappers-of .ensures .0) in
+    let w = rw (c .before .before .before .before .before .w .given .1) at
+        (c .before .before .before .before .before .before .before .wrappers-of .ensures .0) in
     let f = c .around .ensures .0 in
     (p .1, p .2, p .3 .in-cells, p .3 .in-times, p .3 .in-floats, rw f (omega (arith, w, p .4), omega (arith, w, p .4)))
 
@@ -65,16 +66,22 @@ same-length-3 c = search needs
 returns-2 : tie.Need-returns-2
 returns-2 c =
     λ l o.
-    let a = c .before .before .before .before .before .before .before .before .before .before .before .before .before .before .before .before .before .before .before .args in
+    let a = c .before .before .before .before .before .before .before .before .before .before .before .before .before .before .before .before
+        .before .before .before .args in
     let z = a .strings .now in
     let w = c .before .before .before .before .before .before .before .before .before .before .before .before .w .given .0 .0 in
-    let e = rw (c .before .before .before .before .before .before .before .before .before .before .before .before .w .given .1) at (c .before .before .before .before .before .before .before .before .before .before .before .before .before .before .wrappers-of .ensures .1 l o) in
-    let fits = rw (c .before .before .before .before .before .before .before .before .before .before .before .before .w .given .1) at (c .before .before .before .before .before .before .before .before .before .before .before .before .before .before .wrappers-of .ensures .0) in
+    let e = rw (c .before .before .before .before .before .before .before .before .before .before .before .before .w .given .1) at
+        (c .before .before .before .before .before .before .before .before .before .before .before .before .before .before .wrappers-of .ensures .1
+        l o) in
+    let fits = rw (c .before .before .before .before .before .before .before .before .before .before .before .before .w .given .1) at
+        (c .before .before .before .before .before .before .before .before .before .before .before .before .before .before .wrappers-of .ensures
+        .0) in
     let v = c .before .before .before .before .before .before .put-paragraph .last in
     rw (c .answer .ensures)
     (wrap-dressed (attrsIn z l) (wrappersIn z w) (a .e .place) (a .first) (a .end) (three (a .segments .now) (a .reveal .now) (a .sizes .now))
     (three (v .0) (v .1 .0) (v .1 .1 .0)) (c .before .before .before .before .before .before .put-paragraph .result) e
-    (rw (c .before .before .before .before .before .before .before .around .ensures .1 z fits) at (c .before .before .before .before .before .before .put-paragraph .ensures)))
+    (rw (c .before .before .before .before .before .before .before .around .ensures .1 z fits) at
+        (c .before .before .before .before .before .before .put-paragraph .ensures)))
 
 pub wrap-paragraph-spec : {M : Type 1} → statement M
 wrap-paragraph-spec =

@@ -37,15 +37,19 @@ enum-known-end c = search needs
 returns : tie.Need-returns
 returns c =
     let s = c .before .before .before .before .before in
-    let e = rw (c .before .r .given .1, toZ-ofZ (s .fits .reference), laws.toZ-ofZ w64 _ (record { sfits = c .before .before .before .before .struct-told .given .1 .0 .1 })) at (c .before .before .before .add .ensures) in
+    let e = rw (c .before .r .given .1, toZ-ofZ (s .fits .reference), laws.toZ-ofZ w64 _
+        (record { sfits = c .before .before .before .before .struct-told .given .1 .0 .1 })) at (c .before .before .before .add .ensures) in
     rw (s .pre, ← e)
 
 -- src/sums.rt:128:1
 returns-2 : tie.Need-returns-2
 returns-2 c =
     let s = c .before .before .before .before .before .before .before .before .before in
-    let e = rw (c .before .before .before .before .before .start .given .1, toZ-ofZ (s .fits .reference), laws.toZ-ofZ w64 _ (record { sfits = c .before .before .before .before .before .before .before .before .struct-told .given .1 .0 .1 })) at (c .before .before .before .before .before .before .before .add .ensures) in
-    let from = laws.toZ-ofZ w64 (c .before .before .before .before .before .start .given .0 .0) (record { sfits = c .before .before .before .before .known-told2 .given .0 .1 }) in
+    let e = rw (c .before .before .before .before .before .start .given .1, toZ-ofZ (s .fits .reference), laws.toZ-ofZ w64 _
+        (record { sfits = c .before .before .before .before .before .before .before .before .struct-told .given .1 .0 .1 })) at
+        (c .before .before .before .before .before .before .before .add .ensures) in
+    let from = laws.toZ-ofZ w64 (c .before .before .before .before .before .start .given .0 .0)
+        (record { sfits = c .before .before .before .before .known-told2 .given .0 .1 }) in
     let g = rw (c .before .r2 .given .1, toZ-ofZ (s .fits .reference), from) at (c .before .before .before .end-of .ensures) in
     rw (s .pre, ← e, ← g)
 
@@ -53,8 +57,11 @@ returns-2 c =
 returns-3 : tie.Need-returns-3
 returns-3 c =
     let s = c .before .before .before .before .before .before .before .before .before in
-    let e = rw (c .before .before .before .before .before .start .given .1, toZ-ofZ (s .fits .reference), laws.toZ-ofZ w64 _ (record { sfits = c .before .before .before .before .before .before .before .before .struct-told .given .1 .0 .1 })) at (c .before .before .before .before .before .before .before .add .ensures) in
-    let from = laws.toZ-ofZ w64 (c .before .before .before .before .before .start .given .0 .0) (record { sfits = c .before .before .before .before .known-told2 .given .0 .1 }) in
+    let e = rw (c .before .before .before .before .before .start .given .1, toZ-ofZ (s .fits .reference), laws.toZ-ofZ w64 _
+        (record { sfits = c .before .before .before .before .before .before .before .before .struct-told .given .1 .0 .1 })) at
+        (c .before .before .before .before .before .before .before .add .ensures) in
+    let from = laws.toZ-ofZ w64 (c .before .before .before .before .before .start .given .0 .0)
+        (record { sfits = c .before .before .before .before .known-told2 .given .0 .1 }) in
     let to = laws.toZ-ofZ w64 (c .before .end .given .0 .0) (record { sfits = c .known-told4 .given .0 .1 }) in
     let g = rw (c .before .end .given .1, toZ-ofZ (s .fits .reference), from) at (c .before .before .before .end-of .ensures) in
     rw (s .pre, ← e, ← g, from, to)

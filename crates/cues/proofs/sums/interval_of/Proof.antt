@@ -25,7 +25,8 @@ enum-known-begin c = search needs
 
 -- src/sums.rt:194:30
 begun-requires : tie.Need-begun-requires
-begun-requires c κs = (c .before .before .before .before .before .before .before .pre, rw (c .before .begin .given .1) at (c .before .before .before .time-given .ensures .0))
+begun-requires c κs = (c .before .before .before .before .before .before .before .pre, rw (c .before .begin .given .1) at
+    (c .before .before .before .time-given .ensures .0))
 
 -- src/sums.rt:181:1
 returns : tie.Need-returns

@@ -42,7 +42,8 @@ returns-2 c =
     λ l o.
     let e = rw (c .before .before .before .b .given .1) at (c .before .before .before .before .before .time-given .ensures .1 l o) in
     let zero = rw (c .before .before .before .b .given .1) at (c .before .before .before .before .before .time-given .ensures .0) in
-    let g = rw (toZ-ofZ (c .before .before .before .before .before .before .before .before .before .fits .reference), laws.toZ-ofZ w64 _ (record { sfits = c .before .struct-told .given .1 .0 .1 })) at (c .add .ensures) in
+    let g = rw (toZ-ofZ (c .before .before .before .before .before .before .before .before .before .fits .reference), laws.toZ-ofZ w64 _
+        (record { sfits = c .before .struct-told .given .1 .0 .1 })) at (c .add .ensures) in
     rw (← e, zero) g
 
 pub start-of-spec : {M : Type 1} → statement M

@@ -49,7 +49,9 @@ same-length c = search needs
 
 -- src/calls.rt:65:1
 returns : tie.Need-returns
-returns c = fit-bytes _ _ _ (c .before .before .before .before .before .before .before .before .before .before .before .before .before .before .before .before .before .before .before .pre .1) (c .before .before .before .before .before .before .before .limit .ensures) _ _ (rw (c .before .n .given .1) at (c .before .before .before .before .before .write-document .ensures))
+returns c = fit-bytes _ _ _ (c .before .before .before .before .before .before .before .before .before .before .before .before .before .before
+    .before .before .before .before .before .pre .1) (c .before .before .before .before .before .before .before .limit .ensures) _ _
+    (rw (c .before .n .given .1) at (c .before .before .before .before .before .write-document .ensures))
 
 -- src/calls.rt:65:1
 same-length-2 : tie.Need-same-length-2
@@ -58,8 +60,12 @@ same-length-2 c = search needs
 -- src/calls.rt:65:1
 returns-2 : tie.Need-returns-2
 returns-2 c =
-    let p = rw (c .before .before .before .before .before .enum-told .given .1) at (c .before .before .before .before .before .before .before .before .before .write-document .ensures) in
-    fit-full _ _ _ (c .before .before .before .before .before .before .before .before .before .before .before .before .before .before .before .before .before .before .before .before .before .before .before .pre .1) (c .before .before .before .before .before .before .before .before .before .before .before .limit .ensures) _ _ _ (c .refused .ensures) p (c .before .before .before .clear-bytes .ensures)
+    let p = rw (c .before .before .before .before .before .enum-told .given .1) at
+        (c .before .before .before .before .before .before .before .before .before .write-document .ensures) in
+    fit-full _ _ _ (c .before .before .before .before .before .before .before .before .before .before .before .before .before .before .before
+        .before .before .before .before .before .before .before .before .pre .1)
+        (c .before .before .before .before .before .before .before .before .before .before .before .limit .ensures) _ _ _ (c .refused .ensures) p
+        (c .before .before .before .clear-bytes .ensures)
 
 pub fill-spec : {M : Type 1} → statement M
 fill-spec =

@@ -29,7 +29,8 @@ loop-holds c = searching-start _ _ _
 
 -- src/itts.rt:46:12
 is-itts-requires : tie.Need-is-itts-requires Inv-loop μ-loop
-is-itts-requires c κs = extras-one _ _ _ _ _ _ (c .before .before .before .before .pre) (c .before .loop .inv .after) (omega (arith, c .loop-test .taken))
+is-itts-requires c κs = extras-one _ _ _ _ _ _ (c .before .before .before .before .pre) (c .before .loop .inv .after)
+    (omega (arith, c .loop-test .taken))
 
 -- src/itts.rt:47:13
 returns : tie.Need-returns Inv-loop μ-loop
@@ -47,7 +48,8 @@ loop-less c = search needs
 
 -- src/itts.rt:45:5
 loop-again : tie.Need-loop-again Inv-loop μ-loop
-loop-again c = searching-step _ _ _ _ (c .before .before .before .loop .inv) (omega (arith, c .before .before .loop-test .taken)) (sym (c .before .is-itts .ensures) ∙ c .if1 .left)
+loop-again c = searching-step _ _ _ _ (c .before .before .before .loop .inv) (omega (arith, c .before .before .loop-test .taken))
+    (sym (c .before .is-itts .ensures) ∙ c .if1 .left)
 
 -- src/itts.rt:39:1
 returns-2 : tie.Need-returns-2 Inv-loop μ-loop

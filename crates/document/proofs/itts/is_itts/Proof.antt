@@ -23,13 +23,15 @@ itts-from-requires c κs = search needs
 -- src/itts.rt:31:9
 returns : tie.Need-returns
 returns c =
-    let n = c .before .before .before .before .before .before .pre .named (c .before .before .before .before .before .before .args .i) (omega arith) (omega arith) in
+    let n = c .before .before .before .before .before .before .pre .named (c .before .before .before .before .before .before .args .i)
+        (omega arith) (omega arith) in
     sym (name-itts _ _ _ _ n (rw (c .before .before .itts-from .ensures, c .before .before .before .extra-at .ensures) at (c .if1 .taken)))
 
 -- src/itts.rt:35:35
 add-find-seq : tie.Need-add-find-seq
 add-find-seq c =
-    let h = rw (← (c .before .before .before .extra-at .ensures)) at (c .before .before .before .before .before .before .pre .within (c .before .before .before .before .before .before .args .i) (omega arith) (omega arith)) in
+    let h = rw (← (c .before .before .before .extra-at .ensures)) at (c .before .before .before .before .before .before .pre .within
+        (c .before .before .before .before .before .before .args .i) (omega arith) (omega arith)) in
     search (needs, h)
 
 -- src/itts.rt:35:20
@@ -43,7 +45,8 @@ part-find-seq-start c = search needs
 -- src/itts.rt:35:20
 part-find-seq-end : tie.Need-part-find-seq-end
 part-find-seq-end c =
-    let h = rw (← (c .before .before .before .extra-at .ensures)) at (c .before .before .before .before .before .before .pre .within (c .before .before .before .before .before .before .args .i) (omega arith) (omega arith)) in
+    let h = rw (← (c .before .before .before .extra-at .ensures)) at (c .before .before .before .before .before .before .pre .within
+        (c .before .before .before .before .before .before .args .i) (omega arith) (omega arith)) in
     search (needs, h)
 
 -- src/itts.rt:35:51
@@ -58,9 +61,12 @@ find-seq-requires c κs = search needs
 returns-2 : tie.Need-returns-2
 unfolding stringAt
 returns-2 c =
-    let n = c .before .before .before .before .before .before .before .before .before .pre .named (c .before .before .before .before .before .before .before .before .before .args .i) (omega arith) (omega arith) in
-    let w = c .before .before .before .before .before .before .before .before .before .pre .within (c .before .before .before .before .before .before .before .before .before .args .i) (omega arith) (omega arith) in
-    let g = rw (c .before .before .before .before .before .itts-from .ensures, c .before .before .before .before .before .before .extra-at .ensures) at (c .before .before .before .if1 .left) in
+    let n = c .before .before .before .before .before .before .before .before .before .pre .named
+        (c .before .before .before .before .before .before .before .before .before .args .i) (omega arith) (omega arith) in
+    let w = c .before .before .before .before .before .before .before .before .before .pre .within
+        (c .before .before .before .before .before .before .before .before .before .args .i) (omega arith) (omega arith) in
+    let g = rw (c .before .before .before .before .before .itts-from .ensures, c .before .before .before .before .before .before .extra-at
+        .ensures) at (c .before .before .before .if1 .left) in
     let f = rw (c .before .before .before .before .before .before .extra-at .ensures) at (c .find-seq .ensures) in
     rw (c .before .before .before .before .before .before .extra-at .ensures) (sym (value-itts _ _ _ _ n g _ _ f (sym (string-long _ _ _ w))))
 

@@ -35,7 +35,8 @@ any-itts-requires-2 c κs = rw (c .get2 .ensures) (c .before .before .before .be
 returns-2 : tie.Need-returns-2
 unfolding ittsText
 returns-2 c =
-    let a = rw (c .before .before .before .before .before .get .ensures) at (sym (c .before .before .before .before .any-itts .ensures) ∙ c .before .before .before .if1 .left) in
+    let a = rw (c .before .before .before .before .before .get .ensures) at
+        (sym (c .before .before .before .before .any-itts .ensures) ∙ c .before .before .before .if1 .left) in
     let b = rw (c .before .before .get2 .ensures) at (sym (c .before .any-itts2 .ensures) ∙ c .if2 .taken) in
     rw (a, b) refl
 
@@ -45,14 +46,17 @@ get-requires-3 c κs = search needs
 
 -- src/itts.rt:102:5
 any-itts-requires-3 : tie.Need-any-itts-requires-3
-any-itts-requires-3 c κs = rw (c .get3 .ensures) (c .before .before .before .before .before .before .before .before .before .before .before .before .before .pre .3)
+any-itts-requires-3 c κs = rw (c .get3 .ensures) (c .before .before .before .before .before .before .before .before .before .before .before .before
+    .before .pre .3)
 
 -- src/itts.rt:80:1
 returns-3 : tie.Need-returns-3
 unfolding ittsText
 returns-3 c =
-    let a = rw (c .before .before .before .before .before .before .before .get .ensures) at (sym (c .before .before .before .before .before .before .any-itts .ensures) ∙ c .before .before .before .before .before .if1 .left) in
-    let b = rw (c .before .before .before .before .get2 .ensures) at (sym (c .before .before .before .any-itts2 .ensures) ∙ c .before .before .if2 .left) in
+    let a = rw (c .before .before .before .before .before .before .before .get .ensures) at
+        (sym (c .before .before .before .before .before .before .any-itts .ensures) ∙ c .before .before .before .before .before .if1 .left) in
+    let b = rw (c .before .before .before .before .get2 .ensures) at (sym (c .before .before .before .any-itts2 .ensures) ∙ c .before .before .if2
+        .left) in
     let d = rw (c .before .get3 .ensures) at (c .any-itts3 .ensures) in
     rw (a, b) d
 

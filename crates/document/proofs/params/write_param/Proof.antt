@@ -41,7 +41,8 @@ part-put-start c = search needs
 -- src/params.rt:67:33
 part-put-end : tie.Need-part-put-end
 part-put-end c =
-    let h = rw (← (c .before .before .before .before .before .before .before .param-at .ensures)) at (c .before .before .before .before .before .before .before .before .before .before .before .before .pre .0 .name) in
+    let h = rw (← (c .before .before .before .before .before .before .before .param-at .ensures)) at
+        (c .before .before .before .before .before .before .before .before .before .before .before .before .pre .0 .name) in
     search (needs, h)
 
 -- src/params.rt:67:9
@@ -54,7 +55,10 @@ slice-aggregate-span-attr c = search needs
 
 -- src/params.rt:68:5
 span-attr-requires : tie.Need-span-attr-requires
-span-attr-requires c κs = (c .before .before .before .before .put .ensures .room, rw (c .before .before .before .before .before .before .before .before .before .before .before .before .before .param-at .ensures) (c .before .before .before .before .before .before .before .before .before .before .before .before .before .before .before .before .before .before .pre .0 .value))
+span-attr-requires c κs = (c .before .before .before .before .put .ensures .room, rw
+    (c .before .before .before .before .before .before .before .before .before .before .before .before .before .param-at .ensures)
+    (c .before .before .before .before .before .before .before .before .before .before .before .before .before .before .before .before .before
+    .before .pre .0 .value))
 
 -- src/params.rt:57:1
 same-length : tie.Need-same-length
@@ -63,7 +67,11 @@ same-length c = search needs
 -- src/params.rt:57:1
 returns : tie.Need-returns
 unfolding paramText stringAt
-returns c =     rw (c .before .before .before .before .before .before .before .before .before .before .before .before .before .before .before .before .before .is-imsc .ensures, c .before .before .before .before .before .before .before .before .before .before .before .before .before .before .before .before .param-at .ensures) at (puts-then (c .before .before .before .before .before .before .before .before .before .before .before .before .put-prefix .ensures) (puts-then (c .before .before .before .before .before .before .before .put .ensures) (c .before .before .span-attr .ensures)))
+returns c =     rw (c .before .before .before .before .before .before .before .before .before .before .before .before .before .before .before
+    .before .before .is-imsc .ensures, c .before .before .before .before .before .before .before .before .before .before .before .before .before
+    .before .before .before .param-at .ensures) at (puts-then (c .before .before .before .before .before .before .before .before .before .before
+    .before .before .put-prefix .ensures) (puts-then (c .before .before .before .before .before .before .before .put .ensures)
+    (c .before .before .span-attr .ensures)))
 
 pub write-param-spec : {M : Type 1} → statement M
 write-param-spec =

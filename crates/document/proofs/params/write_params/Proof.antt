@@ -34,7 +34,8 @@ returns c = rowed-full _ _ _ _ _ _ _ _ (c .before .before .before .loop .inv) (c
 
 -- src/params.rt:82:9
 write-param-requires : tie.Need-write-param-requires Inv-loop μ-loop
-write-param-requires c κs = (c .before .before .before .before .before .before .before .before .pre .0 (c .before .before .before .before .loop .i) (omega (arith, c .before .before .before .loop-test .taken)), c .before .before .before .before .loop .inv .puts .room)
+write-param-requires c κs = (c .before .before .before .before .before .before .before .before .pre .0 (c .before .before .before .before .loop .i)
+    (omega (arith, c .before .before .before .loop-test .taken)), c .before .before .before .before .loop .inv .puts .room)
 
 -- src/params.rt:83:9
 add-i : tie.Need-add-i Inv-loop μ-loop
@@ -46,7 +47,8 @@ loop-less c = search needs
 
 -- src/params.rt:78:5
 loop-again : tie.Need-loop-again Inv-loop μ-loop
-loop-again c = rowed-step _ _ _ _ _ _ _ _ (c .before .before .before .before .before .before .before .loop .inv) (omega (arith, c .before .before .before .before .before .before .loop-test .taken)) _ _ (c .before .before .write-param .ensures)
+loop-again c = rowed-step _ _ _ _ _ _ _ _ (c .before .before .before .before .before .before .before .loop .inv)
+    (omega (arith, c .before .before .before .before .before .before .loop-test .taken)) _ _ (c .before .before .write-param .ensures)
 
 -- src/params.rt:72:1
 same-length-2 : tie.Need-same-length-2 Inv-loop μ-loop

@@ -6,7 +6,8 @@ use Rattle.document.proofs.regions.write_layout.Statement.{statement}
 use Rattle.document.proofs.regions.write_layout.Tie as tie
 
 returns : tie.Need-returns
-returns c = rw (layout-none _ (c .before .before .before .before .before .args .n) (c .if1 .taken)) (puts-none _ _ (c .before .before .before .before .before .pre .1))
+returns c = rw (layout-none _ (c .before .before .before .before .before .args .n) (c .if1 .taken))
+    (puts-none _ _ (c .before .before .before .before .before .pre .1))
 
 slice-aggregate-put : tie.Need-slice-aggregate-put
 slice-aggregate-put c = search needs
@@ -27,7 +28,10 @@ same-length : tie.Need-same-length
 same-length c = search needs
 
 returns-2 : tie.Need-returns-2
-returns-2 c = rw (layout-some _ (c .before .before .before .before .before .before .before .before .before .before .before .before .before .before .before .before .before .before .before .args .n) (c .before .before .before .before .before .before .before .before .before .before .before .before .before .before .if1 .left)) (puts-then (c .before .before .before .before .before .before .before .before .before .before .before .put .ensures) (puts-then (c .before .before .before .before .before .before .before .write-regions .ensures) (c .before .before .put2 .ensures)))
+returns-2 c = rw (layout-some _ (c .before .before .before .before .before .before .before .before .before .before .before .before .before .before
+    .before .before .before .before .before .args .n) (c .before .before .before .before .before .before .before .before .before .before .before
+    .before .before .before .if1 .left)) (puts-then (c .before .before .before .before .before .before .before .before .before .before .before .put
+    .ensures) (puts-then (c .before .before .before .before .before .before .before .write-regions .ensures) (c .before .before .put2 .ensures)))
 
 pub write-layout-spec : {M : Type 1} → statement M
 write-layout-spec =

@@ -12,10 +12,13 @@ slice-aggregate-span-attr : tie.Need-slice-aggregate-span-attr
 slice-aggregate-span-attr c = search needs
 
 span-attr-requires : tie.Need-span-attr-requires
-span-attr-requires c κs = (c .before .before .before .before .before .before .before .before .before .pre .1, rw (c .before .before .before .before .region-at .ensures) (c .before .before .before .before .before .before .before .before .before .pre .0 .id))
+span-attr-requires c κs = (c .before .before .before .before .before .before .before .before .before .pre .1, rw
+    (c .before .before .before .before .region-at .ensures) (c .before .before .before .before .before .before .before .before .before .pre .0 .id))
 
 write-extras-requires : tie.Need-write-extras-requires
-write-extras-requires c κs = (c .before .before .before .span-attr .ensures .room, rw (c .before .before .before .before .before .before .before .before .region-at .ensures) (c .before .before .before .before .before .before .before .before .before .before .before .before .before .pre .0 .extras))
+write-extras-requires c κs = (c .before .before .before .span-attr .ensures .room, rw
+    (c .before .before .before .before .before .before .before .before .region-at .ensures)
+    (c .before .before .before .before .before .before .before .before .before .before .before .before .before .pre .0 .extras))
 
 slice-aggregate-put : tie.Need-slice-aggregate-put
 slice-aggregate-put c = search needs
@@ -27,7 +30,10 @@ same-length : tie.Need-same-length
 same-length c = search needs
 
 returns : tie.Need-returns
-returns c = region-puts _ _ _ (c .before .before .before .before .before .before .before .before .before .before .before .before .before .before .before .before .region-at .ensures) _ _ _ _ (puts-then (c .before .before .before .before .before .before .before .before .before .before .before .span-attr .ensures) (puts-then (c .before .before .before .before .before .before .before .write-extras .ensures) (c .before .before .put .ensures)))
+returns c = region-puts _ _ _ (c .before .before .before .before .before .before .before .before .before .before .before .before .before .before
+    .before .before .region-at .ensures) _ _ _ _ (puts-then (c .before .before .before .before .before .before .before .before .before .before
+    .before .span-attr .ensures) (puts-then (c .before .before .before .before .before .before .before .write-extras .ensures)
+    (c .before .before .put .ensures)))
 
 pub write-region-spec : {M : Type 1} → statement M
 write-region-spec =

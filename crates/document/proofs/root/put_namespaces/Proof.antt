@@ -20,7 +20,8 @@ any-param-requires c κs = rw (c .get .ensures) (c .before .before .before .befo
 
 -- src/root.rt:36:9
 any-param-requires-2 : tie.Need-any-param-requires-2
-any-param-requires-2 c κs = rw (c .before .get .ensures) (c .before .before .before .before .before .before .before .before .before .before .pre .0 .params)
+any-param-requires-2 c κs = rw (c .before .get .ensures) (c .before .before .before .before .before .before .before .before .before .before .pre .0
+    .params)
 
 -- src/root.rt:37:9
 uses-itts-requires : tie.Need-uses-itts-requires
@@ -50,9 +51,16 @@ same-length c = search needs
 returns : tie.Need-returns
 unfolding namespaces
 returns c =
-    let a = rw (c .before .before .before .before .before .before .before .before .before .before .before .before .before .before .before .before .before .before .before .before .get .ensures) at (c .before .before .before .before .before .before .before .before .before .before .before .before .before .before .before .before .before .before .before .any-param .ensures) in
-    let b = rw (c .before .before .before .before .before .before .before .before .before .before .before .before .before .before .before .before .before .before .before .before .get .ensures) at (c .before .before .before .before .before .before .before .before .before .before .before .before .before .before .before .before .before .before .any-param2 .ensures) in
-    rw (a, b, c .before .before .before .before .before .before .before .before .before .before .before .before .before .before .before .before .before .uses-itts .ensures) at (puts-then (c .before .before .before .before .before .before .before .before .before .before .before .before .before .before .put-if .ensures) (puts-then (c .before .before .before .before .before .before .before .before .put-if2 .ensures) (c .before .before .put-if3 .ensures)))
+    let a = rw (c .before .before .before .before .before .before .before .before .before .before .before .before .before .before .before .before
+        .before .before .before .before .get .ensures) at (c .before .before .before .before .before .before .before .before .before .before
+        .before .before .before .before .before .before .before .before .before .any-param .ensures) in
+    let b = rw (c .before .before .before .before .before .before .before .before .before .before .before .before .before .before .before .before
+        .before .before .before .before .get .ensures) at (c .before .before .before .before .before .before .before .before .before .before
+        .before .before .before .before .before .before .before .before .any-param2 .ensures) in
+    rw (a, b, c .before .before .before .before .before .before .before .before .before .before .before .before .before .before .before .before
+        .before .uses-itts .ensures) at (puts-then (c .before .before .before .before .before .before .before .before .before .before .before
+        .before .before .before .put-if .ensures) (puts-then (c .before .before .before .before .before .before .before .before .put-if2 .ensures)
+        (c .before .before .put-if3 .ensures)))
 
 pub put-namespaces-spec : {M : Type 1} → statement M
 put-namespaces-spec =

@@ -11,7 +11,9 @@ use Rattle.writer.proofs.put.Reads as put-reads
 
 -- src/root.rt:109:13
 returns : tie.Need-returns
-returns c = rw (head-none _ _ (c .before .before .before .before .before .before .before .before .args .n) (c .before .before .before .before .before .before .before .before .args .m) (c .before .if1 .taken) (c .if2 .taken)) (puts-none _ _ (c .before .before .before .before .before .before .before .before .pre .2))
+returns c = rw (head-none _ _ (c .before .before .before .before .before .before .before .before .args .n)
+    (c .before .before .before .before .before .before .before .before .args .m) (c .before .if1 .taken) (c .if2 .taken))
+    (puts-none _ _ (c .before .before .before .before .before .before .before .before .pre .2))
 
 -- src/root.rt:112:34
 slice-aggregate-put : tie.Need-slice-aggregate-put
@@ -44,8 +46,16 @@ same-length c = search needs
 -- src/root.rt:88:1
 returns-2 : tie.Need-returns-2
 returns-2 c =
-    let p = puts-then (c .before .before .before .before .before .before .before .before .before .before .before .before .before .before .before .put .ensures) (puts-then (c .before .before .before .before .before .before .before .before .before .before .before .write-styling .ensures) (puts-then (c .before .before .before .before .before .before .before .write-layout .ensures) (c .before .before .put2 .ensures))) in
-    rw (headed-by _ _ (c .before .before .before .before .before .before .before .before .before .before .before .before .before .before .before .before .before .before .before .before .before .before .before .before .before .args .n) (c .before .before .before .before .before .before .before .before .before .before .before .before .before .before .before .before .before .before .before .before .before .before .before .before .before .args .m) (λ x. (x .0 .taken, x .1 .left)) (λ x. x .left) (c .before .before .before .before .before .before .before .before .before .before .before .before .before .before .before .before .before .before .if1 .came)) p
+    let p = puts-then (c .before .before .before .before .before .before .before .before .before .before .before .before .before .before .before
+        .put .ensures) (puts-then (c .before .before .before .before .before .before .before .before .before .before .before .write-styling
+        .ensures) (puts-then (c .before .before .before .before .before .before .before .write-layout .ensures)
+        (c .before .before .put2 .ensures))) in
+    rw (headed-by _ _ (c .before .before .before .before .before .before .before .before .before .before .before .before .before .before .before
+        .before .before .before .before .before .before .before .before .before .before .args .n)
+        (c .before .before .before .before .before .before .before .before .before .before .before .before .before .before .before .before .before
+        .before .before .before .before .before .before .before .before .args .m) (λ x. (x .0 .taken, x .1 .left)) (λ x. x .left)
+        (c .before .before .before .before .before .before .before .before .before .before .before .before .before .before .before .before .before
+        .before .if1 .came)) p
 
 pub write-head-spec : {M : Type 1} → statement M
 write-head-spec =

@@ -31,7 +31,9 @@ same-length c = search needs
 
 returns : tie.Need-returns
 unfolding flagsText
-returns c = puts-then (c .before .before .before .before .before .before .before .before .before .before .before .before .before .before .before .before .put-if .ensures) (puts-then (c .before .before .before .before .before .before .before .before .before .before .before .put-if2 .ensures) (puts-then (c .before .before .before .before .before .before .put-if3 .ensures) (c .before .before .put-align .ensures)))
+returns c = puts-then (c .before .before .before .before .before .before .before .before .before .before .before .before .before .before .before
+    .before .put-if .ensures) (puts-then (c .before .before .before .before .before .before .before .before .before .before .before .put-if2
+    .ensures) (puts-then (c .before .before .before .before .before .before .put-if3 .ensures) (c .before .before .put-align .ensures)))
 
 pub put-flags-spec : {M : Type 1} → statement M
 put-flags-spec =

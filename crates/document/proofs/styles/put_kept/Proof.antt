@@ -92,8 +92,11 @@ get-requires-2 c κs =
 write-extras-requires : tie.Need-write-extras-requires
 unfolding stringAt cell
 write-extras-requires c κs =
-    let b = row-within _ _ _ _ _ _ (sym (c .before .before .before .before .before .before .find-extras .ensures) ∙ c .before .before .before .before .j .given .1) in
-    (c .before .before .before .before .before .before .before .before .before .before .before .before .before .pre .0, rw (c .before .before .get .ensures, c .before .get2 .ensures) (c .before .before .before .before .before .before .before .before .before .before .before .before .before .pre .2 _ b))
+    let b = row-within _ _ _ _ _ _ (sym (c .before .before .before .before .before .before .find-extras .ensures) ∙ c .before .before .before
+        .before .j .given .1) in
+    (c .before .before .before .before .before .before .before .before .before .before .before .before .before .pre .0, rw
+        (c .before .before .get .ensures, c .before .get2 .ensures) (c .before .before .before .before .before .before .before .before .before
+        .before .before .before .before .pre .2 _ b))
 
 -- src/styles.rt:92:1
 returns : tie.Need-returns
@@ -110,8 +113,10 @@ same-length c = search needs
 returns-2 : tie.Need-returns-2
 unfolding keptText stringAt cell
 returns-2 c =
-    let h = sym (c .before .before .before .before .before .before .before .before .before .find-extras .ensures) ∙ c .before .before .before .before .before .before .before .j .given .1 in
-    rw h (rw (c .before .before .before .before .before .get .ensures, c .before .before .before .before .get2 .ensures) at (c .before .before .write-extras .ensures))
+    let h = sym (c .before .before .before .before .before .before .before .before .before .find-extras .ensures) ∙ c .before .before .before
+        .before .before .before .before .j .given .1 in
+    rw h (rw (c .before .before .before .before .before .get .ensures, c .before .before .before .before .get2 .ensures) at
+        (c .before .before .write-extras .ensures))
 
 pub put-kept-spec : {M : Type 1} → statement M
 put-kept-spec =

@@ -31,7 +31,10 @@ same-length c = search needs
 
 returns : tie.Need-returns
 unfolding lookText
-returns c = puts-then (c .before .before .before .before .before .before .before .before .before .before .before .before .before .before .before .before .before .before .rgba-attr .ensures) (puts-then (c .before .before .before .before .before .before .before .before .before .before .before .before .before .rgba-attr2 .ensures) (puts-then (c .before .before .before .before .before .before .before .optional-attr .ensures) (c .before .before .size-attr .ensures)))
+returns c = puts-then (c .before .before .before .before .before .before .before .before .before .before .before .before .before .before .before
+    .before .before .before .rgba-attr .ensures) (puts-then (c .before .before .before .before .before .before .before .before .before .before
+    .before .before .before .rgba-attr2 .ensures) (puts-then (c .before .before .before .before .before .before .before .optional-attr .ensures)
+    (c .before .before .size-attr .ensures)))
 
 pub put-look-spec : {M : Type 1} → statement M
 put-look-spec =

@@ -38,7 +38,8 @@ same-length c = search needs
 
 -- src/styles.rt:169:13
 returns : tie.Need-returns Inv-loop μ-loop
-returns c = rw (lines-over _ _ (c .before .before .before .before .before .before .before .before .before .args .n) 0) (rowed-full _ _ _ _ _ _ _ _ (c .before .before .before .loop .inv) (c .before .is-full .ensures (c .if1 .taken)))
+returns c = rw (lines-over _ _ (c .before .before .before .before .before .before .before .before .before .args .n) 0)
+    (rowed-full _ _ _ _ _ _ _ _ (c .before .before .before .loop .inv) (c .before .is-full .ensures (c .if1 .taken)))
 
 -- src/styles.rt:171:38
 slice-aggregate-put : tie.Need-slice-aggregate-put Inv-loop μ-loop
@@ -50,7 +51,9 @@ put-requires c κs = c .before .before .before .before .before .loop .inv .puts 
 
 -- src/styles.rt:172:13
 write-style-requires : tie.Need-write-style-requires Inv-loop μ-loop
-write-style-requires c κs = (c .before .before .before .before .before .before .before .before .before .before .before .before .before .before .before .pre .0, omega (arith, c .before .before .before .before .before .before .before .before .loop-test .taken), c .before .before .before .put .ensures .room)
+write-style-requires c κs = (c .before .before .before .before .before .before .before .before .before .before .before .before .before .before
+    .before .pre .0, omega (arith, c .before .before .before .before .before .before .before .before .loop-test .taken), c .before .before .before
+    .put .ensures .room)
 
 -- src/styles.rt:173:34
 slice-aggregate-put-2 : tie.Need-slice-aggregate-put-2 Inv-loop μ-loop
@@ -71,8 +74,11 @@ loop-less c = search needs
 -- src/styles.rt:167:5
 loop-again : tie.Need-loop-again Inv-loop μ-loop
 loop-again c =
-    let p = puts-then (c .before .before .before .before .before .before .before .before .before .before .before .put .ensures) (puts-then (c .before .before .before .before .before .before .before .write-style .ensures) (c .before .before .put2 .ensures)) in
-    rowed-step _ _ _ _ _ _ _ _ (c .before .before .before .before .before .before .before .before .before .before .before .before .before .before .before .before .before .loop .inv) (omega (arith, c .before .before .before .before .before .before .before .before .before .before .before .before .before .before .before .before .loop-test .taken)) _ _ p
+    let p = puts-then (c .before .before .before .before .before .before .before .before .before .before .before .put .ensures)
+        (puts-then (c .before .before .before .before .before .before .before .write-style .ensures) (c .before .before .put2 .ensures)) in
+    rowed-step _ _ _ _ _ _ _ _ (c .before .before .before .before .before .before .before .before .before .before .before .before .before .before
+        .before .before .before .loop .inv) (omega (arith, c .before .before .before .before .before .before .before .before .before .before
+        .before .before .before .before .before .before .loop-test .taken)) _ _ p
 
 -- src/styles.rt:150:1
 same-length-2 : tie.Need-same-length-2 Inv-loop μ-loop
@@ -80,7 +86,8 @@ same-length-2 c = search needs
 
 -- src/styles.rt:150:1
 returns-2 : tie.Need-returns-2 Inv-loop μ-loop
-returns-2 c = rw (lines-over _ _ (c .before .before .before .before .before .before .before .args .n) 0) (rowed-done _ _ _ _ _ _ _ _ (c .before .loop .inv) (omega (arith, c .loop-test .left)))
+returns-2 c = rw (lines-over _ _ (c .before .before .before .before .before .before .before .args .n) 0)
+    (rowed-done _ _ _ _ _ _ _ _ (c .before .loop .inv) (omega (arith, c .loop-test .left)))
 
 pub write-styles-spec : {M : Type 1} → statement M
 write-styles-spec =

@@ -10,7 +10,8 @@ use Rattle.writer.proofs.put.Reads as put-reads
 
 -- src/styles.rt:195:9
 returns : tie.Need-returns
-returns c = rw (styling-none _ (c .before .before .before .before .before .before .args .n) (c .if1 .taken)) (puts-none _ _ (c .before .before .before .before .before .before .pre .1))
+returns c = rw (styling-none _ (c .before .before .before .before .before .before .args .n) (c .if1 .taken))
+    (puts-none _ _ (c .before .before .before .before .before .before .pre .1))
 
 -- src/styles.rt:197:34
 slice-aggregate-put : tie.Need-slice-aggregate-put
@@ -39,8 +40,11 @@ same-length c = search needs
 -- src/styles.rt:180:1
 returns-2 : tie.Need-returns-2
 returns-2 c =
-    let p = puts-then (c .before .before .before .before .before .before .before .before .before .before .before .put .ensures) (puts-then (c .before .before .before .before .before .before .before .write-styles .ensures) (c .before .before .put2 .ensures)) in
-    rw (styling-some _ (c .before .before .before .before .before .before .before .before .before .before .before .before .before .before .before .before .before .before .before .before .args .n) (c .before .before .before .before .before .before .before .before .before .before .before .before .before .before .if1 .left)) p
+    let p = puts-then (c .before .before .before .before .before .before .before .before .before .before .before .put .ensures)
+        (puts-then (c .before .before .before .before .before .before .before .write-styles .ensures) (c .before .before .put2 .ensures)) in
+    rw (styling-some _ (c .before .before .before .before .before .before .before .before .before .before .before .before .before .before .before
+        .before .before .before .before .before .args .n) (c .before .before .before .before .before .before .before .before .before .before
+        .before .before .before .before .if1 .left)) p
 
 pub write-styling-spec : {M : Type 1} → statement M
 write-styling-spec =
