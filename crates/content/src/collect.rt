@@ -23,7 +23,10 @@ use styling::WsMode;
 use times::Sum;
 use times::TimingCtx;
 use track::Span;
+use tree::ELEMENT;
+use tree::NODE_CELLS;
 use tree::Refusal;
+use tree::SECTION;
 
 // How many rows of segments there are, and whether what follows stands at a boundary.
 pub struct Run {
@@ -35,10 +38,6 @@ pub enum Collecting {
     Is(Run),
     Refused(Refusal),
 }
-
-const ELEMENT: u32 = 2;
-
-const SECTION: u32 = 3;
 
 // The bytes of a section's opening: a section begins before its string.
 const OPENING: usize = 9;
@@ -63,8 +62,8 @@ fn node_place(nodes: &[u32], k: usize) -> usize
     requires { ⌜ k * 6 + 6 ≤ length (now nodes) ⌝ }
     ensures { λ r. ⌜ r ≡ placeOf (now (nodes .entry)) k ⌝ }
 {
-    let place = scan::get(nodes, k * 6 + 2);
-    if nodes[k * 6] != SECTION {
+    let place = scan::get(nodes, k * NODE_CELLS + 2);
+    if nodes[k * NODE_CELLS] != SECTION {
         return place;
     }
     if place < OPENING {
@@ -110,8 +109,8 @@ fn collect_text(
         (three (now (segments .entry)) (now (reveal .entry)) (now (sizes .entry))) (now (texts .entry))
         (three (now (segments .exit)) (now (reveal .exit)) (now (sizes .exit))) (now (texts .exit)) r ⌝ }
 {
-    let place = scan::get(nodes, k * 6 + 2);
-    let len = scan::get(nodes, k * 6 + 3);
+    let place = scan::get(nodes, k * NODE_CELLS + 2);
+    let len = scan::get(nodes, k * NODE_CELLS + 3);
     let c = write_text(strings, texts, place, len, ws, run.boundary);
     if c.len == 0 {
         return Collecting::Is(Run {
@@ -277,7 +276,7 @@ fn collect_node(
         (three (now (segments .entry)) (now (reveal .entry)) (now (sizes .entry))) (now (texts .entry))
         (three (now (segments .exit)) (now (reveal .exit)) (now (sizes .exit))) (now (texts .exit)) r ⌝ }
 {
-    if nodes[k * 6] != ELEMENT {
+    if nodes[k * NODE_CELLS] != ELEMENT {
         return collect_text(nodes, strings, segments, reveal, sizes, texts, k, ws, run);
     }
     let e = xml::element_at(nodes, k);
@@ -422,7 +421,7 @@ pub fn collect_segments_inner(
                 s = t;
             }
         }
-        k = scan::get(nodes, k * 6 + 1);
+        k = scan::get(nodes, k * NODE_CELLS + 1);
     }
     Collecting::Is(s)
 }

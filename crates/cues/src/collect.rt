@@ -8,8 +8,8 @@ use crate::lines::Lining;
 use crate::sums::Moment;
 use styling::WsMode;
 use times::TimingCtx;
-
-const ELEMENT: u32 = 2;
+use tree::ELEMENT;
+use tree::NODE_CELLS;
 
 // The later of two times.
 fn later(a: i64, b: i64) -> i64
@@ -277,8 +277,8 @@ pub fn collect_cues(
     let mut reference = begin;
     let mut k = from;
     while k < end {
-        let next = scan::get(nodes, k * 6 + 1);
-        if nodes[k * 6] != ELEMENT {
+        let next = scan::get(nodes, k * NODE_CELLS + 1);
+        if nodes[k * NODE_CELLS] != ELEMENT {
             k = next;
             continue;
         }

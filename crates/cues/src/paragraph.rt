@@ -16,6 +16,8 @@ use inline::Wrappers;
 use records::Added;
 use styling::Wrapping;
 use styling::WsMode;
+use track::FONT;
+use track::SEGMENT_CELLS;
 use track::Span;
 use tree::Refusal;
 
@@ -31,8 +33,6 @@ pub struct Part {
     pub span: Span,
 }
 
-const FONT: u32 = 9;
-
 // Are the rows from `first` up to `end` a font without family and size, and what it wraps?
 fn is_bare(segments: &[u32], first: usize, end: usize) -> bool
     requires { ⌜ (first ≤ end) × (end * 8 ≤ length (now segments)) ⌝ }
@@ -42,7 +42,7 @@ fn is_bare(segments: &[u32], first: usize, end: usize) -> bool
     if first == end {
         return false;
     }
-    let at = first * 8;
+    let at = first * SEGMENT_CELLS;
     if scan::get(segments, at + 1) != end - first {
         return false;
     }

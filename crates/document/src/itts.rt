@@ -8,6 +8,9 @@ ghost use Rattle.names.specs.declared.tables.Listed.the-variants.{StyleExtra, I
 ghost use Rattle.track.specs.Tables.{styleCount, regionCount, cueCount};
 ghost use Rattle.document.specs.Roots.{someRow, ittsFrom, ittsOne, ittsRows, ittsRow, ittsText, OwnersReady};
 use names::Listed;
+use track::CUE_CELLS;
+use track::REGION_CELLS;
+use track::STYLE_CELLS;
 
 fn itts_from(list: Listed) -> usize
     ensures { λ r. ⌜ r ≡ ittsFrom list ⌝ }
@@ -93,11 +96,35 @@ pub fn uses_itts(
         ⌜ r ≡ ittsText (now (head .entry)) (now (styles .entry)) (now (regions .entry)) (now (cues .entry)) (now (extras .entry))
         (now (strings .entry)) ⌝ }
 {
-    if any_itts(Listed::StyleExtra, styles, extras, strings, 27, 25, scan::get(head, 1)) {
+    if any_itts(
+        Listed::StyleExtra,
+        styles,
+        extras,
+        strings,
+        STYLE_CELLS,
+        25,
+        scan::get(head, 1),
+    ) {
         return true;
     }
-    if any_itts(Listed::RegionAttr, regions, extras, strings, 4, 2, scan::get(head, 2)) {
+    if any_itts(
+        Listed::RegionAttr,
+        regions,
+        extras,
+        strings,
+        REGION_CELLS,
+        2,
+        scan::get(head, 2),
+    ) {
         return true;
     }
-    any_itts(Listed::InlineExtra, cues, extras, strings, 11, 9, scan::get(head, 3))
+    any_itts(
+        Listed::InlineExtra,
+        cues,
+        extras,
+        strings,
+        CUE_CELLS,
+        9,
+        scan::get(head, 3),
+    )
 }

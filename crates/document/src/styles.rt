@@ -15,6 +15,7 @@ use records::Found;
 use scan::Written;
 use track::Align;
 use track::Look;
+use track::STYLE_CELLS;
 use track::Span;
 
 // The colours and the font.
@@ -80,8 +81,8 @@ fn put_chain(
     match records::find_chain(styles, strings, n, &strings[from..end]) {
         Found::Nothing => at,
         Found::Row(j) => {
-            let place = scan::get(styles, j * 27 + 2);
-            let len = scan::get(styles, j * 27 + 3);
+            let place = scan::get(styles, j * STYLE_CELLS + 2);
+            let len = scan::get(styles, j * STYLE_CELLS + 3);
             let x = Span { place, len };
             writer::span_attr(out, at, b" style=\"", strings, x)
         }
@@ -111,8 +112,8 @@ fn put_kept(
     match records::find_extras(styles, strings, n, &strings[from..end]) {
         Found::Nothing => at,
         Found::Row(j) => {
-            let first = scan::get(styles, j * 27 + 25);
-            let count = scan::get(styles, j * 27 + 26);
+            let first = scan::get(styles, j * STYLE_CELLS + 25);
+            let count = scan::get(styles, j * STYLE_CELLS + 26);
             writer::write_extras(out, at, Listed::StyleExtra, extras, strings, first, count)
         }
     }

@@ -19,6 +19,7 @@ use styling::Found;
 use track::Extra;
 use track::Rows;
 use track::Span;
+use tree::ATTR_CELLS;
 
 // The number of `tts:textAlign` among the extras of a style.
 const TEXT_ALIGN: usize = 33;
@@ -53,8 +54,8 @@ fn number_at(attrs: &[u32], strings: &[u8], k: usize, list: Listed) -> Number
     requires { ⌜ NameFits (now attrs) (now strings) k ⌝ }
     ensures { λ r. ⌜ r ≡ numberOf list (nameAt (now (attrs .entry)) (now (strings .entry)) k) ⌝ }
 {
-    let start = scan::get(attrs, k * 4);
-    let end = start + scan::get(attrs, k * 4 + 1);
+    let start = scan::get(attrs, k * ATTR_CELLS);
+    let end = start + scan::get(attrs, k * ATTR_CELLS + 1);
     names::number_of(list, &strings[start..end])
 }
 

@@ -2,6 +2,7 @@
 ghost use Rattle.heads.specs.Steps.{inAll, inStyling, inLayout, inHead, listedStyles, stylesIn, AsksStyles, StylesPost};
 ghost use Rattle.heads.specs.Steps.{listedRegions, regionsIn, AsksRegions, RegionsPost, alone, insideHead, four, AsksHead, HeadPost};
 use crate::styles::Made;
+use tree::NODE_CELLS;
 use tree::Refusal;
 use xml::Found;
 
@@ -59,7 +60,7 @@ fn collect_styles(
                 }
             }
         }
-        k = scan::get(nodes, k * 6 + 1);
+        k = scan::get(nodes, k * NODE_CELLS + 1);
     }
     Counting::Is(Count {
         rows: n,
@@ -109,7 +110,7 @@ fn collect_regions(
                 }
             }
         }
-        k = scan::get(nodes, k * 6 + 1);
+        k = scan::get(nodes, k * NODE_CELLS + 1);
     }
     Counting::Is(Count {
         rows: n,

@@ -6,11 +6,10 @@ ghost use Rattle.styling.specs.Posts.{HasRows, OfRows, spanIn};
 ghost use Rattle.heads.specs.Rows.{regionWith, Placed, RegionMade};
 use crate::styles::Made;
 use styling::Found;
+use track::REGIONS;
 use track::Region;
 use track::Span;
 use tree::Refusal;
-
-const REGIONS: usize = 256;
 
 // The region of this id in the n-th row, its extras from row `at` on; how many they are.
 fn add_named(

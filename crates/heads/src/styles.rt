@@ -7,11 +7,10 @@ ghost use Rattle.heads.specs.Rows.{emptied, styleOfLook, Styled, StyleMa
 use styling::Found;
 use styling::LookSaid;
 use track::Look;
+use track::STYLES;
 use track::Span;
 use track::Style;
 use tree::Refusal;
-
-const STYLES: usize = 256;
 
 // A row more, with so many extras; no id, and so nothing; or a number.
 pub enum Made {

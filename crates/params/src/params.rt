@@ -10,14 +10,15 @@ ghost use Rattle.params.specs.Rows.{ValueFits, SpanIs, Adds, Collects};
 use records::Added;
 use track::Param;
 use track::Span;
+use tree::ATTR_CELLS;
 
 // Is attribute k a parameter?
 fn is_param_at(attrs: &[u32], strings: &[u8], k: usize) -> bool
     requires { ⌜ NameFits (now attrs) (now strings) k ⌝ }
     ensures { λ r. ⌜ r ≡ isParamName (nameAt (now (attrs .entry)) (now (strings .entry)) k) ⌝ }
 {
-    let start = scan::get(attrs, k * 4);
-    let end = start + scan::get(attrs, k * 4 + 1);
+    let start = scan::get(attrs, k * ATTR_CELLS);
+    let end = start + scan::get(attrs, k * ATTR_CELLS + 1);
     crate::seek::is_param(&strings[start..end])
 }
 
@@ -26,8 +27,8 @@ fn name_at(attrs: &[u32], strings: &[u8], k: usize) -> Span
     requires { ⌜ NameFits (now attrs) (now strings) k ⌝ }
     ensures { λ r. ⌜ SpanIs (now (attrs .entry)) (now (strings .entry)) k r ⌝ }
 {
-    let start = scan::get(attrs, k * 4);
-    let len = scan::get(attrs, k * 4 + 1);
+    let start = scan::get(attrs, k * ATTR_CELLS);
+    let len = scan::get(attrs, k * ATTR_CELLS + 1);
     let end = start + len;
     let at = scan::strip_ns(&strings[start..end]);
     Span {

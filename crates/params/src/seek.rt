@@ -3,6 +3,7 @@ ghost use mathlib.Core.Path.{_≡_};
 ghost use Rattle.styling.specs.Posts.{HasRows, OfRows, NameFits, nameAt};
 ghost use Rattle.params.specs.Named.{isParamName, soughtBy, Meets};
 use styling::Found;
+use tree::ATTR_CELLS;
 
 // The name whole, or a parameter's name without its prefix.
 pub enum Sought {
@@ -44,8 +45,8 @@ fn is_row(attrs: &[u32], strings: &[u8], k: usize, sought: Sought, name: &[u8]) 
     requires { ⌜ NameFits (now attrs) (now strings) k ⌝ }
     ensures { λ r. ⌜ r ≡ soughtBy sought (now (name .entry)) (nameAt (now (attrs .entry)) (now (strings .entry)) k) ⌝ }
 {
-    let start = scan::get(attrs, k * 4);
-    let end = start + scan::get(attrs, k * 4 + 1);
+    let start = scan::get(attrs, k * ATTR_CELLS);
+    let end = start + scan::get(attrs, k * ATTR_CELLS + 1);
     is_sought(&strings[start..end], sought, name)
 }
 

@@ -3,9 +3,8 @@ ghost use mathlib.Core.Path.{_≡_};
 ghost use Rattle.track.specs.Check.{refusedAs};
 ghost use Rattle.queries.specs.Steps.{isShort, checkText, queryCheck};
 use track::Check;
+use tree::BYTES;
 use tree::Refusal;
-
-const TEXT_BYTES: usize = 65536;
 
 fn refused(number: u32) -> Check
     ensures { λ r. ⌜ r ≡ refusedAs number ⌝ }
@@ -30,7 +29,7 @@ fn check_text(text: &[u8], check: Check) -> Check
     if is_short(check) {
         return refused(1);
     }
-    if TEXT_BYTES < text.len() {
+    if BYTES < text.len() {
         return refused(2);
     }
     if unicode::utf8_end(text) < text.len() {

@@ -12,6 +12,7 @@ use decimals::Decimal;
 use decimals::Size;
 use scan::Class;
 use track::Align;
+use track::EXTRA_CELLS;
 use track::Look;
 use track::Span;
 
@@ -72,10 +73,10 @@ pub fn value_of(extras: &[u32], first: usize, many: usize, number: usize) -> Val
     let end = first + many;
     let mut i = first;
     while i < end {
-        if scan::get(extras, i * 3) == number {
+        if scan::get(extras, i * EXTRA_CELLS) == number {
             return Value {
                 has: true,
-                span: track::span_at(extras, i * 3 + 1),
+                span: track::span_at(extras, i * EXTRA_CELLS + 1),
             };
         }
         i += 1;

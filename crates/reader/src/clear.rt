@@ -3,27 +3,27 @@ ghost use Rattle.track.specs.Tables.{lengths};
 ghost use Rattle.promised.proofs.Promises.{RestLong, RestZero};
 ghost use Rattle.reader.specs.Steps.{rest, Tells, Prepared};
 
-const HEAD: usize = 10;
+const HEAD: usize = track::HEAD_CELLS;
 
-const PARAMS: usize = 256;
+const PARAMS: usize = track::PARAMS * track::PARAM_CELLS;
 
-const STYLES: usize = 6912;
+const STYLES: usize = track::STYLES * track::STYLE_CELLS;
 
-const REGIONS: usize = 1024;
+const REGIONS: usize = track::REGIONS * track::REGION_CELLS;
 
-const CUES: usize = 22528;
+const CUES: usize = track::CUES * track::CUE_CELLS;
 
-const TIMES: usize = 4096;
+const TIMES: usize = track::CUES * 2;
 
-const SEGMENTS: usize = 131072;
+const SEGMENTS: usize = track::SEGMENTS * track::SEGMENT_CELLS;
 
-const REVEAL: usize = 16384;
+const REVEAL: usize = track::SEGMENTS;
 
-const SIZES: usize = 16640;
+const SIZES: usize = track::SEGMENTS + track::STYLES;
 
-const EXTRAS: usize = 24576;
+const EXTRAS: usize = track::EXTRAS * track::EXTRA_CELLS;
 
-const TEXTS: usize = 65536;
+const TEXTS: usize = tree::BYTES;
 
 // Every cell is 0.
 pub fn clear_track(

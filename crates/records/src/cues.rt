@@ -7,15 +7,15 @@ ghost use Rattle.track.specs.Tables.{cueAt};
 ghost use Rattle.track.specs.Layout.{cueCells};
 ghost use Rattle.records.specs.Posts.{SmallSpan, SmallRows, AddPost, TimesPost};
 use crate::cells::Added;
+use track::CUES;
+use track::CUE_CELLS;
 use track::Cue;
-
-const CUES: usize = 2048;
 
 pub fn cue_at(cues: &[u32], times: &[i64], i: usize) -> Cue
     requires { ⌜ (i * 11 + 11 ≤ length (now cues)) × (i * 2 + 2 ≤ length (now times)) ⌝ }
     ensures { λ r. ⌜ r ≡ cueAt (now (cues .entry)) (now (times .entry)) i ⌝ }
 {
-    let at = i * 11;
+    let at = i * CUE_CELLS;
     Cue {
         start: times[i * 2],
         end: times[i * 2 + 1],
@@ -56,7 +56,7 @@ pub fn add_cue(cues: &mut [u32], times: &mut [i64], n: usize, x: Cue) -> Added
     }
     let start = x.start;
     let end = x.end;
-    put_cue(cues, n * 11, x);
+    put_cue(cues, n * CUE_CELLS, x);
     times[n * 2] = start;
     times[n * 2 + 1] = end;
     Added::Next(n + 1)

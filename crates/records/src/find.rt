@@ -6,6 +6,8 @@ ghost use Prim.Native.Nat.{ℕ, _+_, _*_, _≤_, _<_};
 ghost use lib.ListN.{length, getD};
 ghost use Rattle.track.specs.Meaning.{isSpan};
 ghost use Rattle.records.specs.Find.{isNamed, firstRow, firstWith, Named};
+use track::STYLE_CELLS;
+use track::REGION_CELLS;
 
 pub enum Found {
     Row(usize),
@@ -66,7 +68,7 @@ pub fn find_style(styles: &[u32], strings: &[u8], n: usize, name: &[u8]) -> Foun
     requires { ⌜ Named (now styles) (now strings) 27 n ⌝ }
     ensures { λ r. ⌜ r ≡ firstRow (now (styles .entry)) (now (strings .entry)) (now (name .entry)) 27 n 0 ⌝ }
 {
-    find_row(styles, strings, 27, n, name)
+    find_row(styles, strings, STYLE_CELLS, n, name)
 }
 
 // The first style of this name that has a chain.
@@ -74,7 +76,7 @@ pub fn find_chain(styles: &[u32], strings: &[u8], n: usize, name: &[u8]) -> Foun
     requires { ⌜ Named (now styles) (now strings) 27 n ⌝ }
     ensures { λ r. ⌜ r ≡ firstWith (now (styles .entry)) (now (strings .entry)) (now (name .entry)) 27 3 n 0 ⌝ }
 {
-    find_with(styles, strings, 27, 3, n, name)
+    find_with(styles, strings, STYLE_CELLS, 3, n, name)
 }
 
 // The first style of this name that has extras.
@@ -82,7 +84,7 @@ pub fn find_extras(styles: &[u32], strings: &[u8], n: usize, name: &[u8]) -> Fou
     requires { ⌜ Named (now styles) (now strings) 27 n ⌝ }
     ensures { λ r. ⌜ r ≡ firstWith (now (styles .entry)) (now (strings .entry)) (now (name .entry)) 27 26 n 0 ⌝ }
 {
-    find_with(styles, strings, 27, 26, n, name)
+    find_with(styles, strings, STYLE_CELLS, 26, n, name)
 }
 
 // The first region of this id.
@@ -90,5 +92,5 @@ pub fn find_region(regions: &[u32], strings: &[u8], n: usize, id: &[u8]) -> Foun
     requires { ⌜ Named (now regions) (now strings) 4 n ⌝ }
     ensures { λ r. ⌜ r ≡ firstRow (now (regions .entry)) (now (strings .entry)) (now (id .entry)) 4 n 0 ⌝ }
 {
-    find_row(regions, strings, 4, n, id)
+    find_row(regions, strings, REGION_CELLS, n, id)
 }

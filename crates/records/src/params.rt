@@ -7,16 +7,17 @@ ghost use Rattle.track.specs.Tables.{paramAt, extraAt};
 ghost use Rattle.track.specs.Layout.{paramCells, extraCells};
 ghost use Rattle.records.specs.Posts.{SmallSpan, AddPost};
 use crate::cells::Added;
+use track::EXTRA_CELLS;
 use track::Extra;
+use track::PARAMS;
+use track::PARAM_CELLS;
 use track::Param;
-
-const PARAMS: usize = 64;
 
 pub fn param_at(params: &[u32], i: usize) -> Param
     requires { ⌜ i * 4 + 4 ≤ length (now params) ⌝ }
     ensures { λ r. ⌜ r ≡ paramAt (now (params .entry)) i ⌝ }
 {
-    let at = i * 4;
+    let at = i * PARAM_CELLS;
     Param {
         name: track::span_at(params, at),
         value: track::span_at(params, at + 2),
@@ -33,8 +34,8 @@ pub fn add_param(params: &mut [u32], n: usize, x: Param) -> Added
     }
     let name = x.name;
     let value = x.value;
-    crate::cells::put_span(params, n * 4, name);
-    crate::cells::put_span(params, n * 4 + 2, value);
+    crate::cells::put_span(params, n * PARAM_CELLS, name);
+    crate::cells::put_span(params, n * PARAM_CELLS + 2, value);
     Added::Next(n + 1)
 }
 
@@ -42,7 +43,7 @@ pub fn extra_at(extras: &[u32], i: usize) -> Extra
     requires { ⌜ i * 3 + 3 ≤ length (now extras) ⌝ }
     ensures { λ r. ⌜ r ≡ extraAt (now (extras .entry)) i ⌝ }
 {
-    let at = i * 3;
+    let at = i * EXTRA_CELLS;
     Extra {
         number: scan::get(extras, at),
         value: track::span_at(extras, at + 1),
@@ -54,7 +55,7 @@ pub fn put_extra(extras: &mut [u32], i: usize, x: Extra)
     requires { ⌜ (i * 3 + 3 ≤ length (now extras)) × (x .number < 2 ^ 32) × SmallSpan (x .value) ⌝ }
     ensures { λ _. ⌜ now (extras .exit) ≡ sets (now (extras .entry)) (i * 3) (extraCells x) ⌝ }
 {
-    let at = i * 3;
+    let at = i * EXTRA_CELLS;
     let value = x.value;
     extras[at] = x.number as u32;
     crate::cells::put_span(extras, at + 1, value);

@@ -11,12 +11,21 @@ ghost use Rattle.track.specs.Layout.{fontCells, segmentCells, segmentTime, segm
 ghost use Rattle.records.specs.Posts.{SmallSpan, SmallSegment, AddPost, ValuePost, TimePost};
 ghost use Rattle.records.specs.Siblings.{shifted, pulled, withoutCells};
 use crate::cells::Added;
+use track::BOLD;
+use track::BREAK;
+use track::COLOR;
+use track::FONT;
 use track::Font;
+use track::ITALIC;
 use track::Rgb;
+use track::SEGMENTS;
+use track::SEGMENT_CELLS;
+use track::STRIKE;
 use track::Segment;
 use track::Span;
-
-const SEGMENTS: usize = 16384;
+use track::TEXT;
+use track::TIMESTAMP;
+use track::UNDERLINE;
 
 // Kind and number of rows, with the other cells zero.
 fn put_kind(segments: &mut [u32], at: usize, kind: u32, rows: usize)
@@ -26,7 +35,7 @@ fn put_kind(segments: &mut [u32], at: usize, kind: u32, rows: usize)
     segments[at] = kind;
     segments[at + 1] = rows as u32;
     let mut i = 2;
-    while i < 8 {
+    while i < SEGMENT_CELLS {
         segments[at + i] = 0;
         i += 1;
     }
@@ -49,23 +58,23 @@ fn put_cells(segments: &mut [u32], at: usize, rows: usize, s: Segment)
 {
     match s {
         Segment::Text(x) => {
-            put_kind(segments, at, 1, rows);
+            put_kind(segments, at, TEXT, rows);
             crate::cells::put_span(segments, at + 2, x);
         }
-        Segment::Break => put_kind(segments, at, 2, rows),
-        Segment::Timestamp(t) => put_kind(segments, at, 3, rows),
-        Segment::Bold => put_kind(segments, at, 4, rows),
-        Segment::Italic => put_kind(segments, at, 5, rows),
-        Segment::Underline => put_kind(segments, at, 6, rows),
-        Segment::Strike => put_kind(segments, at, 7, rows),
+        Segment::Break => put_kind(segments, at, BREAK, rows),
+        Segment::Timestamp(t) => put_kind(segments, at, TIMESTAMP, rows),
+        Segment::Bold => put_kind(segments, at, BOLD, rows),
+        Segment::Italic => put_kind(segments, at, ITALIC, rows),
+        Segment::Underline => put_kind(segments, at, UNDERLINE, rows),
+        Segment::Strike => put_kind(segments, at, STRIKE, rows),
         Segment::Color(c) => {
-            put_kind(segments, at, 8, rows);
+            put_kind(segments, at, COLOR, rows);
             segments[at + 2] = c.r as u32;
             segments[at + 3] = c.g as u32;
             segments[at + 4] = c.b as u32;
         }
         Segment::Font(x) => {
-            put_kind(segments, at, 9, rows);
+            put_kind(segments, at, FONT, rows);
             put_font(segments, at + 2, x);
         }
     }
@@ -109,7 +118,7 @@ pub fn put_segment(
     ensures { λ _. ⌜ now (reveal .exit) ≡ sets (now (reveal .entry)) i (segmentTime s ∷ []) ⌝ }
     ensures { λ _. ⌜ now (sizes .exit) ≡ sets (now (sizes .entry)) i (segmentSize s ∷ []) ⌝ }
 {
-    put_cells(segments, i * 8, rows, s);
+    put_cells(segments, i * SEGMENT_CELLS, rows, s);
     reveal[i] = time_of(s);
     sizes[i] = size_of(s);
 }
@@ -130,8 +139,8 @@ pub fn add_text(
     if SEGMENTS <= n {
         return Added::Full;
     }
-    put_kind(segments, n * 8, 1, 1);
-    crate::cells::put_span(segments, n * 8 + 2, x);
+    put_kind(segments, n * SEGMENT_CELLS, TEXT, 1);
+    crate::cells::put_span(segments, n * SEGMENT_CELLS + 2, x);
     reveal[n] = 0;
     sizes[n] = 0.0;
     Added::Next(n + 1)
@@ -147,7 +156,7 @@ pub fn add_break(segments: &mut [u32], reveal: &mut [i64], sizes: &mut [f32], n:
     if SEGMENTS <= n {
         return Added::Full;
     }
-    put_kind(segments, n * 8, 2, 1);
+    put_kind(segments, n * SEGMENT_CELLS, BREAK, 1);
     reveal[n] = 0;
     sizes[n] = 0.0;
     Added::Next(n + 1)
@@ -201,7 +210,12 @@ pub fn shift_segments(
     ensures { λ _. ⌜ now (reveal .exit) ≡ shifted at end by (now (reveal .entry)) ⌝ }
     ensures { λ _. ⌜ now (sizes .exit) ≡ shifted at end by (now (sizes .entry)) ⌝ }
 {
-    shift_cells(segments, at * 8, end * 8, by * 8);
+    shift_cells(
+        segments,
+        at * SEGMENT_CELLS,
+        end * SEGMENT_CELLS,
+        by * SEGMENT_CELLS,
+    );
     shift_times(reveal, at, end, by);
     shift_sizes(sizes, at, end, by);
 }
@@ -253,8 +267,13 @@ pub fn drop_segment(
     ensures { λ _. ⌜ now (reveal .exit) ≡ withoutCells (pos 0) 1 at end (now (reveal .entry)) ⌝ }
     ensures { λ _. ⌜ now (sizes .exit) ≡ withoutCells zeroFloat 1 at end (now (sizes .entry)) ⌝ }
 {
-    pull_cells(segments, at * 8, end * 8, 8);
-    put_kind(segments, end * 8 - 8, 0, 0);
+    pull_cells(
+        segments,
+        at * SEGMENT_CELLS,
+        end * SEGMENT_CELLS,
+        SEGMENT_CELLS,
+    );
+    put_kind(segments, end * SEGMENT_CELLS - SEGMENT_CELLS, 0, 0);
     pull_times(reveal, at, end, 1);
     reveal[end - 1] = 0;
     pull_sizes(sizes, at, end, 1);

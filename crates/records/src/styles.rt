@@ -12,15 +12,15 @@ ghost use Rattle.records.specs.Posts.{SmallSpan, SmallRows, AddPost, Val
 use crate::cells::Added;
 use track::Align;
 use track::Look;
+use track::REGIONS;
+use track::REGION_CELLS;
 use track::Region;
+use track::STYLES;
+use track::STYLE_CELLS;
 use track::Style;
 
-const STYLES: usize = 256;
-
-const REGIONS: usize = 256;
-
 // The f32 of a style's size stands after those of the segments.
-const SIZES: usize = 16384;
+const SIZES: usize = track::SEGMENTS;
 
 fn align_at(c: u32) -> Align
     ensures { λ r. ⌜ r ≡ alignAt c ⌝ }
@@ -75,7 +75,7 @@ pub fn style_at(styles: &[u32], sizes: &[f32], i: usize) -> Style
         × (isColor (now styles) (i * 27 + 9) ≡ true) ⌝ }
     ensures { λ r. ⌜ r ≡ styleAt (now (styles .entry)) (now (sizes .entry)) i ⌝ }
 {
-    let at = i * 27;
+    let at = i * STYLE_CELLS;
     let look = look_at(styles, at, sizes[SIZES + i]);
     Style {
         name: track::span_at(styles, at),
@@ -147,7 +147,7 @@ pub fn add_style(styles: &mut [u32], sizes: &mut [f32], n: usize, x: Style) -> A
         return Added::Full;
     }
     let look = x.look;
-    put_style(styles, n * 27, x);
+    put_style(styles, n * STYLE_CELLS, x);
     sizes[SIZES + n] = size_value(look);
     Added::Next(n + 1)
 }
@@ -156,7 +156,7 @@ pub fn region_at(regions: &[u32], i: usize) -> Region
     requires { ⌜ i * 4 + 4 ≤ length (now regions) ⌝ }
     ensures { λ r. ⌜ r ≡ regionAt (now (regions .entry)) i ⌝ }
 {
-    let at = i * 4;
+    let at = i * REGION_CELLS;
     Region {
         id: track::span_at(regions, at),
         extras: crate::cells::rows_at(regions, at + 2),
@@ -173,7 +173,7 @@ pub fn add_region(regions: &mut [u32], n: usize, x: Region) -> Added
     }
     let id = x.id;
     let extras = x.extras;
-    crate::cells::put_span(regions, n * 4, id);
-    crate::cells::put_rows(regions, n * 4 + 2, extras);
+    crate::cells::put_span(regions, n * REGION_CELLS, id);
+    crate::cells::put_rows(regions, n * REGION_CELLS + 2, extras);
     Added::Next(n + 1)
 }

@@ -10,6 +10,7 @@ ghost use Rattle.styles.specs.Places.{row, Walks};
 ghost use Rattle.styles.specs.Steps.{Chained, Ready, Stands, ChainOf, OwnStyle, Visits, ApplyPost, LaysOver, PairPost, AnswerPost};
 use records::Found;
 use track::Look;
+use track::STYLE_CELLS;
 use track::Span;
 use unicode::Word;
 
@@ -34,8 +35,8 @@ fn chain_of(styles: &[u32], strings: &[u8], n: usize, name: &[u8]) -> Span
 {
     match records::find_chain(styles, strings, n, name) {
         Found::Row(i) => Span {
-            place: scan::get(styles, i * 27 + 2),
-            len: scan::get(styles, i * 27 + 3),
+            place: scan::get(styles, i * STYLE_CELLS + 2),
+            len: scan::get(styles, i * STYLE_CELLS + 3),
         },
         Found::Nothing => Span { place: 0, len: 0 },
     }

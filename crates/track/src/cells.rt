@@ -5,19 +5,6 @@ ghost use lib.ListN.{length};
 ghost use Rattle.track.specs.Meaning.{isFlag, isByte, areThree, isColor, isSizeAt};
 use decimals::Size;
 
-// How many rows a table may have (document 01, "Limits"), and how many cells its rows have.
-pub const PARAMS: usize = 64;
-
-pub const STYLES: usize = 256;
-
-pub const REGIONS: usize = 256;
-
-pub const CUES: usize = 2048;
-
-pub const SEGMENTS: usize = 16384;
-
-pub const EXTRAS: usize = 8192;
-
 pub fn is_flag(c: u32) -> bool
     ensures { λ r. ⌜ r ≡ isFlag c ⌝ }
 {

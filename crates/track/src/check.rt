@@ -6,12 +6,20 @@ ghost use Rattle.track.specs.Tables.{tables};
 ghost use Rattle.track.specs.Meaning.{withinLimits, isUtf8, bytesMean, rowsMean};
 ghost use Rattle.track.specs.Steps.{refusedAs, rowsFull, restFull};
 ghost use Rattle.track.specs.Check.{Checked};
-use crate::cells::CUES;
-use crate::cells::EXTRAS;
-use crate::cells::PARAMS;
-use crate::cells::REGIONS;
-use crate::cells::SEGMENTS;
-use crate::cells::STYLES;
+use crate::limits::CUES;
+use crate::limits::CUE_CELLS;
+use crate::limits::EXTRAS;
+use crate::limits::EXTRA_CELLS;
+use crate::limits::HEAD_CELLS;
+use crate::limits::PARAMS;
+use crate::limits::PARAM_CELLS;
+use crate::limits::REGIONS;
+use crate::limits::REGION_CELLS;
+use crate::limits::SEGMENTS;
+use crate::limits::SEGMENT_CELLS;
+use crate::limits::STYLES;
+use crate::limits::STYLE_CELLS;
+use tree::BYTES;
 use tree::Refusal;
 
 // What is said of a handed track: it is one; or a number of document 01's list, 1 or 17, with place 0.
@@ -19,10 +27,6 @@ pub enum Check {
     Track,
     Refused(Refusal),
 }
-
-const HEAD: usize = 10;
-
-const BYTES: usize = 65536;
 
 // The counts of the head.
 fn within_limits(head: &[u32]) -> bool
@@ -75,25 +79,25 @@ fn rows_full(
 ) -> bool
     ensures { λ r. ⌜ r ≡ rowsFull head params styles regions cues segments extras ⌝ }
 {
-    if head < HEAD {
+    if head < HEAD_CELLS {
         return false;
     }
-    if params < PARAMS * 4 {
+    if params < PARAMS * PARAM_CELLS {
         return false;
     }
-    if styles < STYLES * 27 {
+    if styles < STYLES * STYLE_CELLS {
         return false;
     }
-    if regions < REGIONS * 4 {
+    if regions < REGIONS * REGION_CELLS {
         return false;
     }
-    if cues < CUES * 11 {
+    if cues < CUES * CUE_CELLS {
         return false;
     }
-    if segments < SEGMENTS * 8 {
+    if segments < SEGMENTS * SEGMENT_CELLS {
         return false;
     }
-    EXTRAS * 3 <= extras
+    EXTRAS * EXTRA_CELLS <= extras
 }
 
 // The same of the other tables.

@@ -3,19 +3,18 @@ ghost use mathlib.Core.Path.{_≡_};
 ghost use Prim.Native.Nat.{_+_, _*_, _≤_};
 ghost use lib.ListN.{length};
 ghost use Rattle.track.specs.Meaning.{cueValues, isCue, areCues};
+use crate::limits::CUE_CELLS;
+use crate::limits::NESTED;
 
 // How many names P_INLINE_EXTRA_ORDER has.
 const INLINE_NAMES: usize = 47;
-
-// How deep segments may be nested.
-pub const NESTED: usize = 512;
 
 // The strings, the flag and the extras of the cue in row i.
 fn cue_values(cues: &[u32], extras: &[u32], strings: &[u8], i: usize) -> bool
     requires { ⌜ (i * 11 + 11 ≤ length (now cues)) × (24576 ≤ length (now extras)) ⌝ }
     ensures { λ r. ⌜ r ≡ cueValues (now (cues .entry)) (now (extras .entry)) (now (strings .entry)) i ⌝ }
 {
-    let at = i * 11;
+    let at = i * CUE_CELLS;
     let style = scan::get(cues, at + 1);
     if !crate::strings::is_optional(strings, scan::get(cues, at), style, scan::get(cues, at + 2)) {
         return false;
@@ -62,10 +61,10 @@ fn is_cue(
     if !cue_values(cues, extras, strings, i) {
         return false;
     }
-    if scan::get(cues, i * 11 + 7) != from {
+    if scan::get(cues, i * CUE_CELLS + 7) != from {
         return false;
     }
-    let n = scan::get(cues, i * 11 + 8);
+    let n = scan::get(cues, i * CUE_CELLS + 8);
     if most - from < n {
         return false;
     }
@@ -93,7 +92,7 @@ pub fn are_cues(
         if !is_cue(cues, extras, segments, sizes, strings, texts, most, from, i) {
             return false;
         }
-        from += scan::get(cues, i * 11 + 8);
+        from += scan::get(cues, i * CUE_CELLS + 8);
         i += 1;
     }
     from == most

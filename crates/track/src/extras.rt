@@ -4,14 +4,15 @@ ghost use mathlib.Core.Path.{_≡_};
 ghost use Prim.Native.Nat.{_+_, _*_, _≤_};
 ghost use lib.ListN.{length};
 ghost use Rattle.track.specs.Meaning.{isExtra, hasExtras};
-use crate::cells::EXTRAS;
+use crate::limits::EXTRAS;
+use crate::limits::EXTRA_CELLS;
 
 // Is row i an extra: the number of one of `most` names, at least `least`, with its value?
 fn is_extra(extras: &[u32], strings: &[u8], most: usize, least: usize, i: usize) -> bool
     requires { ⌜ i * 3 + 3 ≤ length (now extras) ⌝ }
     ensures { λ r. ⌜ r ≡ isExtra (now (extras .entry)) (now (strings .entry)) most least i ⌝ }
 {
-    let at = i * 3;
+    let at = i * EXTRA_CELLS;
     let number = scan::get(extras, at);
     if number < least {
         return false;
@@ -42,7 +43,7 @@ pub fn has_extras(extras: &[u32], strings: &[u8], most: usize, first: usize, n: 
         if !is_extra(extras, strings, most, least, i) {
             return false;
         }
-        least = scan::get(extras, i * 3) + 1;
+        least = scan::get(extras, i * EXTRA_CELLS) + 1;
         i += 1;
     }
     true

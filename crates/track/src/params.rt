@@ -3,6 +3,7 @@ ghost use mathlib.Core.Path.{_≡_};
 ghost use Prim.Native.Nat.{_+_, _*_, _≤_};
 ghost use lib.ListN.{length};
 ghost use Rattle.track.specs.Meaning.{isParam, allRows};
+use crate::limits::PARAM_CELLS;
 use scan::Class;
 
 // Is row i a parameter? Its name has no byte that would end it in a start tag.
@@ -10,7 +11,7 @@ fn is_param(params: &[u32], strings: &[u8], i: usize) -> bool
     requires { ⌜ i * 4 + 4 ≤ length (now params) ⌝ }
     ensures { λ r. ⌜ r ≡ isParam (now (params .entry)) (now (strings .entry)) i ⌝ }
 {
-    let at = i * 4;
+    let at = i * PARAM_CELLS;
     let name = scan::get(params, at);
     let len = scan::get(params, at + 1);
     if !crate::strings::is_span(strings, name, len) {

@@ -7,6 +7,16 @@ ghost use lib.IntN.{ℤ};
 ghost use lib.ListN.{length, getD};
 ghost use Rattle.track.specs.Tables.{fontAt, segmentAt};
 ghost use Rattle.track.specs.Meaning.{areThree, isFont, isSegment, areSegments};
+use crate::limits::BOLD;
+use crate::limits::BREAK;
+use crate::limits::COLOR;
+use crate::limits::FONT;
+use crate::limits::ITALIC;
+use crate::limits::SEGMENT_CELLS;
+use crate::limits::STRIKE;
+use crate::limits::TEXT;
+use crate::limits::TIMESTAMP;
+use crate::limits::UNDERLINE;
 use crate::strings::Span;
 use decimals::Size;
 
@@ -37,30 +47,12 @@ pub enum Segment {
     Font(Font),
 }
 
-const TEXT: u32 = 1;
-
-const BREAK: u32 = 2;
-
-pub const TIMESTAMP: u32 = 3;
-
-const BOLD: u32 = 4;
-
-const ITALIC: u32 = 5;
-
-const UNDERLINE: u32 = 6;
-
-const STRIKE: u32 = 7;
-
-const COLOR: u32 = 8;
-
-const FONT: u32 = 9;
-
 // Is the font in row i one?
 fn is_font(segments: &[u32], sizes: &[f32], strings: &[u8], i: usize) -> bool
     requires { ⌜ (i * 8 + 8 ≤ length (now segments)) × (i + 1 ≤ length (now sizes)) ⌝ }
     ensures { λ r. ⌜ ((y : List ℕ) → r ≡ isFont (now (segments .entry)) (now (sizes .entry)) (now (strings .entry)) y i) ⌝ }
 {
-    let at = i * 8;
+    let at = i * SEGMENT_CELLS;
     let family = scan::get(segments, at + 2);
     let place = scan::get(segments, at + 3);
     if !crate::strings::is_optional(strings, family, place, scan::get(segments, at + 4)) {
@@ -79,7 +71,7 @@ fn is_segment(segments: &[u32], sizes: &[f32], strings: &[u8], texts: &[u8], i: 
     requires { ⌜ (i * 8 + 8 ≤ length (now segments)) × (i + 1 ≤ length (now sizes)) ⌝ }
     ensures { λ r. ⌜ r ≡ isSegment (now (segments .entry)) (now (sizes .entry)) (now (strings .entry)) (now (texts .entry)) i ⌝ }
 {
-    let at = i * 8;
+    let at = i * SEGMENT_CELLS;
     match segments[at] {
         TEXT => {
             let place = scan::get(segments, at + 2);
@@ -116,7 +108,7 @@ pub fn are_segments(
         if !is_segment(segments, sizes, strings, texts, i) {
             return false;
         }
-        let rows = scan::get(segments, i * 8 + 1);
+        let rows = scan::get(segments, i * SEGMENT_CELLS + 1);
         if rows == 0 {
             return false;
         }
@@ -136,7 +128,7 @@ fn font_at(segments: &[u32], sizes: &[f32], i: usize) -> Font
     requires { ⌜ (i * 8 + 8 ≤ length (now segments)) × (i + 1 ≤ length (now sizes)) ⌝ }
     ensures { λ r. ⌜ ((v : List ℤ) → r ≡ fontAt (now (segments .entry)) v (now (sizes .entry)) i) ⌝ }
 {
-    let at = i * 8;
+    let at = i * SEGMENT_CELLS;
     let sign = segments[at + 5];
     let family = crate::parts::optional_at(segments, at + 2);
     let size = crate::parts::size_at(sign, segments[at + 6], segments[at + 7], sizes[i]);
@@ -154,7 +146,7 @@ pub fn segment_at(segments: &[u32], reveal: &[i64], sizes: &[f32], i: usize) -> 
         × (getD (now segments) (i * 8) 0 ≡ 8 → areThree (now segments) (i * 8 + 2) ≡ true) ⌝ }
     ensures { λ r. ⌜ r ≡ segmentAt (now (segments .entry)) (now (reveal .entry)) (now (sizes .entry)) i ⌝ }
 {
-    let at = i * 8;
+    let at = i * SEGMENT_CELLS;
     match segments[at] {
         TEXT => Segment::Text(Span {
             place: scan::get(segments, at + 2),

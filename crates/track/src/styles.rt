@@ -3,6 +3,9 @@ ghost use mathlib.Core.Path.{_≡_};
 ghost use Prim.Native.Nat.{_+_, _*_, _≤_};
 ghost use lib.ListN.{length};
 ghost use Rattle.track.specs.Meaning.{styleStrings, styleValues, styleFlags, isStyle, isRegion, allRows};
+use crate::limits::STYLE_CELLS;
+use crate::limits::REGION_CELLS;
+use crate::limits::SEGMENTS;
 
 // How many names the lists of extras have: STYLE_EXTRA_ORDER and REGION_ATTR_ORDER.
 const STYLE_NAMES: usize = 46;
@@ -70,11 +73,11 @@ fn is_style(styles: &[u32], sizes: &[f32], extras: &[u32], strings: &[u8], i: us
     requires { ⌜ (i * 27 + 27 ≤ length (now styles)) × (16384 + i + 1 ≤ length (now sizes)) × (24576 ≤ length (now extras)) ⌝ }
     ensures { λ r. ⌜ r ≡ isStyle (now (styles .entry)) (now (sizes .entry)) (now (extras .entry)) (now (strings .entry)) i ⌝ }
 {
-    let at = i * 27;
+    let at = i * STYLE_CELLS;
     if !style_strings(styles, strings, at) {
         return false;
     }
-    if !style_values(styles, at, sizes[16384 + i]) {
+    if !style_values(styles, at, sizes[SEGMENTS + i]) {
         return false;
     }
     if !style_flags(styles, at) {
@@ -105,7 +108,7 @@ fn is_region(regions: &[u32], extras: &[u32], strings: &[u8], i: usize) -> bool
     requires { ⌜ (i * 4 + 4 ≤ length (now regions)) × (24576 ≤ length (now extras)) ⌝ }
     ensures { λ r. ⌜ r ≡ isRegion (now (regions .entry)) (now (extras .entry)) (now (strings .entry)) i ⌝ }
 {
-    let at = i * 4;
+    let at = i * REGION_CELLS;
     let id = scan::get(regions, at);
     if !crate::strings::is_span(strings, id, scan::get(regions, at + 1)) {
         return false;

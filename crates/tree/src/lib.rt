@@ -9,4 +9,10 @@ mod rows;
 
 pub use answers::Answer;
 pub use answers::Refusal;
+pub use read::BYTES;
 pub use read::read_tree;
+pub use rows::ATTR_CELLS;
+pub use rows::ELEMENT;
+pub use rows::NODE_CELLS;
+pub use rows::SECTION;
+pub use rows::TEXT;

@@ -11,7 +11,10 @@ use crate::answers::Cursor;
 use crate::answers::Refusal;
 use crate::answers::Step;
 use crate::answers::Tag;
+use crate::rows::ELEMENT;
 use crate::rows::MOST;
+use crate::rows::SECTION;
+use crate::rows::TEXT;
 use scan::Class;
 
 // The place after the comments at pos.
@@ -43,7 +46,7 @@ fn parse_text(src: &[u8], nodes: &mut [u32], pos: usize, k: usize, a: usize) -> 
         });
     }
     let e = scan::over(src, pos, Class::Text);
-    crate::rows::put_node(nodes, k, 1, k + 1, pos, e - pos, 0, 0);
+    crate::rows::put_node(nodes, k, TEXT, k + 1, pos, e - pos, 0, 0);
     Step::Node(Cursor {
         pos: e,
         nodes: k + 1,
@@ -65,7 +68,7 @@ fn parse_section(src: &[u8], nodes: &mut [u32], pos: usize, k: usize, a: usize) 
     }
     let start = pos + 9;
     let e = scan::find_seq(src, start, b"]]>");
-    crate::rows::put_node(nodes, k, 3, k + 1, start, e - start, 0, 0);
+    crate::rows::put_node(nodes, k, SECTION, k + 1, start, e - start, 0, 0);
     let mut q = e;
     if e < src.len() {
         q = e + 3;
@@ -159,7 +162,7 @@ fn parse_element(
         Tag::Refused(r) => Step::Refused(r),
         Tag::Shut(t) => {
             let b = t.attrs;
-            crate::rows::put_node(nodes, k, 2, k + 1, pos, e - start, a, b - a);
+            crate::rows::put_node(nodes, k, ELEMENT, k + 1, pos, e - start, a, b - a);
             Step::Node(Cursor {
                 pos: t.pos,
                 nodes: k + 1,
@@ -171,7 +174,7 @@ fn parse_element(
             match parse_children(src, nodes, attrs, t.pos, k + 1, b, room - 1) {
                 Content::Refused(r) => Step::Refused(r),
                 Content::Done(c) => {
-                    crate::rows::put_node(nodes, k, 2, c.nodes, pos, e - start, a, b - a);
+                    crate::rows::put_node(nodes, k, ELEMENT, c.nodes, pos, e - start, a, b - a);
                     Step::Node(c)
                 }
             }

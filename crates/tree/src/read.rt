@@ -7,12 +7,17 @@ use crate::answers::Cursor;
 use crate::answers::Limits;
 use crate::answers::Refusal;
 use crate::answers::Step;
+use crate::rows::ATTR_CELLS;
+use crate::rows::MOST;
+use crate::rows::NODE_CELLS;
 
-const NODE_CELLS: usize = 49152;
+// The tables' lengths.
+const NODE_TABLE: usize = MOST * NODE_CELLS;
 
-const ATTR_CELLS: usize = 32768;
+const ATTR_TABLE: usize = MOST * ATTR_CELLS;
 
-const BYTES: usize = 65536;
+// At most so many bytes in a text.
+pub const BYTES: usize = 65536;
 
 const DEPTH: usize = 64;
 
@@ -20,13 +25,13 @@ const DEPTH: usize = 64;
 fn test_limits(src: &[u8], nodes: usize, attrs: usize) -> Limits
     ensures { λ r. ⌜ LimitsPost (now (src .entry)) nodes attrs r ⌝ }
 {
-    if nodes < NODE_CELLS {
+    if nodes < NODE_TABLE {
         return Limits::Refused(Refusal {
             number: 1,
             place: 0,
         });
     }
-    if attrs < ATTR_CELLS {
+    if attrs < ATTR_TABLE {
         return Limits::Refused(Refusal {
             number: 1,
             place: 0,

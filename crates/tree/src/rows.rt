@@ -5,14 +5,25 @@ ghost use lib.ListN.{length};
 ghost use lib.Seq.{sets};
 ghost use Rattle.tree.specs.Trees.{row, attrRow};
 
-// At most so many rows in each table.
+// At most so many rows in each table (document 01, "Limits"), and how many cells a row has.
 pub const MOST: usize = 8192;
+
+pub const NODE_CELLS: usize = 6;
+
+pub const ATTR_CELLS: usize = 4;
+
+// Kinds of nodes.
+pub const TEXT: u32 = 1;
+
+pub const ELEMENT: u32 = 2;
+
+pub const SECTION: u32 = 3;
 
 // Kind, row after the subtree, place, length, first attribute, number of attributes.
 pub fn put_node(
     cells: &mut [u32],
     count: usize,
-    kind: usize,
+    kind: u32,
     end: usize,
     place: usize,
     len: usize,
@@ -23,8 +34,8 @@ pub fn put_node(
         × (many < 2 ^ 32) ⌝ }
     ensures { λ _. ⌜ now (cells .exit) ≡ sets (now (cells .entry)) (count * 6) (row kind end place len first many) ⌝ }
 {
-    let at = count * 6;
-    cells[at] = kind as u32;
+    let at = count * NODE_CELLS;
+    cells[at] = kind;
     cells[at + 1] = end as u32;
     cells[at + 2] = place as u32;
     cells[at + 3] = len as u32;
@@ -45,7 +56,7 @@ pub fn put_attr(
     ensures { λ _. ⌜ now (cells .exit) ≡ sets (now (cells .entry)) (count * 4)
         (attrRow (record { name = name; nameLen = «name_len»; value = value; valueLen = «value_len» })) ⌝ }
 {
-    let at = count * 4;
+    let at = count * ATTR_CELLS;
     cells[at] = name as u32;
     cells[at + 1] = name_len as u32;
     cells[at + 2] = value as u32;

@@ -8,6 +8,7 @@ ghost use Rattle.scan.specs.Posts.{Wrote, WroteInPart};
 ghost use Rattle.track.specs.Tables.{segmentAt, segmentsAt};
 ghost use Rattle.walk.specs.Text.{WalkReady, TextWithin, plainText, ownText};
 use scan::Written;
+use track::SEGMENT_CELLS;
 use track::Segment;
 
 // The text of a segment by itself: its bytes, or a line feed for a break; wrappers and timestamps have none.
@@ -47,7 +48,7 @@ pub fn plain_text(
     let mut i = from;
     let mut to = at;
     while i < end {
-        let rows = scan::get(segments, i * 8 + 1);
+        let rows = scan::get(segments, i * SEGMENT_CELLS + 1);
         let s = track::segment_at(segments, reveal, sizes, i);
         match own_text(s, texts, out, to) {
             Written::Full => {

@@ -5,6 +5,8 @@ ghost use lib.ListN.{length};
 ghost use Rattle.scan.specs.Names.{sameFolded};
 ghost use Rattle.xml.specs.Find.{Siblings, OfSiblings, findRow, isElement, HasRow, elementRow};
 ghost use Rattle.xml.specs.Find.{HasRows, OfRows, NameFits, nameAt, attributeRow, findValue};
+use tree::ELEMENT;
+use tree::NODE_CELLS;
 
 // The row of a node, or there is none.
 pub enum Found {
@@ -34,14 +36,12 @@ pub struct Element {
     pub many: usize,
 }
 
-const ELEMENT: u32 = 2;
-
 // The row of an element.
 pub fn element_at(nodes: &[u32], k: usize) -> Element
     requires { ⌜ k * 6 + 6 ≤ length (now nodes) ⌝ }
     ensures { λ r. ⌜ r ≡ elementRow (now (nodes .entry)) k ⌝ }
 {
-    let at = k * 6;
+    let at = k * NODE_CELLS;
     Element {
         place: scan::get(nodes, at + 2),
         name_len: scan::get(nodes, at + 3),
@@ -56,7 +56,7 @@ pub fn is_element(nodes: &[u32], strings: &[u8], k: usize, name: &[u8]) -> bool
     requires { ⌜ HasRow (now nodes) (now strings) k ⌝ }
     ensures { λ r. ⌜ r ≡ isElement (now (nodes .entry)) (now (strings .entry)) (now (name .entry)) k ⌝ }
 {
-    let at = k * 6;
+    let at = k * NODE_CELLS;
     if nodes[at] != ELEMENT {
         return false;
     }
@@ -76,7 +76,7 @@ pub fn find_element(nodes: &[u32], strings: &[u8], from: usize, end: usize, name
         if is_element(nodes, strings, k, name) {
             return Found::Row(k);
         }
-        k = scan::get(nodes, k * 6 + 1);
+        k = scan::get(nodes, k * NODE_CELLS + 1);
     }
     Found::Nothing
 }

@@ -3,7 +3,7 @@ ghost use Rattle.xml.specs.Promise.{tables, Parsed};
 use tree::Answer;
 use tree::Refusal;
 
-const STRING_CELLS: usize = 65536;
+const STRING_CELLS: usize = tree::BYTES;
 
 // The text's tree. A string that stands at a place of the text stands at that place of `strings`: names
 // and sections as they are, texts and values with entities read. After a refusal every cell is 0.

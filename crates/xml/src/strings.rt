@@ -10,10 +10,10 @@ ghost use Rattle.scan.specs.Posts.{Appended, Passes};
 ghost use Rattle.entities.specs.Decode.{decoded};
 ghost use Rattle.xml.specs.Steps.{NodeReady, nodePlace, nodeBytes, nodesRead, nodeStringsRead, AttrReady, valueBytes, attrsRead};
 ghost use Rattle.xml.specs.Steps.{attrWritten, attrStringsRead};
-
-const TEXT: u32 = 1;
-
-const ELEMENT: u32 = 2;
+use tree::TEXT;
+use tree::ELEMENT;
+use tree::NODE_CELLS;
+use tree::ATTR_CELLS;
 
 // A part of the text in which no `&` stands.
 pub struct Plain {
@@ -57,7 +57,7 @@ fn read_node(src: &[u8], p: Plain, nodes: &mut [u32], strings: &mut [u8], k: usi
     ensures { λ _. ⌜ now (strings .exit) ≡ sets (now (strings .entry)) (nodePlace (now (nodes .entry)) k)
         (nodeBytes (now (src .entry)) (now (nodes .entry)) k) ⌝ }
 {
-    let at = k * 6;
+    let at = k * NODE_CELLS;
     let kind = nodes[at];
     let mut start = scan::get(nodes, at + 2);
     let len = scan::get(nodes, at + 3);
@@ -83,7 +83,7 @@ pub fn read_nodes(src: &[u8], nodes: &mut [u32], strings: &mut [u8], count: usiz
     let mut p = Plain { from: 0, end: 0 };
     let mut k = 0;
     while k < count {
-        p = plain_at(src, p, scan::get(nodes, k * 6 + 2));
+        p = plain_at(src, p, scan::get(nodes, k * NODE_CELLS + 2));
         read_node(src, p, nodes, strings, k);
         k += 1;
     }
@@ -96,7 +96,7 @@ fn read_attr(src: &[u8], p: Plain, attrs: &mut [u32], strings: &mut [u8], k: usi
         (length (valueBytes (now (src .entry)) (now (attrs .entry)) k) ∷ []) ⌝ }
     ensures { λ _. ⌜ now (strings .exit) ≡ attrWritten (now (src .entry)) (now (attrs .entry)) (now (strings .entry)) k ⌝ }
 {
-    let at = k * 4;
+    let at = k * ATTR_CELLS;
     let name = scan::get(attrs, at);
     let name_end = name + scan::get(attrs, at + 1);
     scan::copy(&src[name..name_end], strings, name);
@@ -115,7 +115,7 @@ pub fn read_attrs(src: &[u8], attrs: &mut [u32], strings: &mut [u8], count: usiz
     let mut p = Plain { from: 0, end: 0 };
     let mut k = 0;
     while k < count {
-        p = plain_at(src, p, scan::get(attrs, k * 4 + 2));
+        p = plain_at(src, p, scan::get(attrs, k * ATTR_CELLS + 2));
         read_attr(src, p, attrs, strings, k);
         k += 1;
     }

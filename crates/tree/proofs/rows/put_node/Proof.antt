@@ -67,9 +67,6 @@ mul-cells-5 c = search needs
 slice-write-cells-5 : tie.Need-slice-write-cells-5
 slice-write-cells-5 c = simp length-set (omega arith)
 
-cast-cells-6 : tie.Need-cast-cells-6
-cast-cells-6 c = search needs
-
 add-cells-5 : tie.Need-add-cells-5
 add-cells-5 c = search needs
 
@@ -91,26 +88,25 @@ put-node-spec =
     tie.close
     (tie.spec
     mul-at
-    cast-cells
     mul-cells
     slice-write-cells
-    cast-cells-2
+    cast-cells
     add-cells
     mul-cells-2
     slice-write-cells-2
-    cast-cells-3
+    cast-cells-2
     add-cells-2
     mul-cells-3
     slice-write-cells-3
-    cast-cells-4
+    cast-cells-3
     add-cells-3
     mul-cells-4
     slice-write-cells-4
-    cast-cells-5
+    cast-cells-4
     add-cells-4
     mul-cells-5
     slice-write-cells-5
-    cast-cells-6
+    cast-cells-5
     add-cells-5
     mul-cells-6
     slice-write-cells-6
