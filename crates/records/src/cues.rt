@@ -7,8 +7,8 @@ ghost use Rattle.track.specs.Tables.{cueAt};
 ghost use Rattle.track.specs.Layout.{cueCells};
 ghost use Rattle.records.specs.Posts.{SmallSpan, SmallRows, AddPost, TimesPost};
 use crate::cells::Added;
-use track::CUES;
 use track::CUE_CELLS;
+use track::CUES;
 use track::Cue;
 
 pub fn cue_at(cues: &[u32], times: &[i64], i: usize) -> Cue

@@ -6,8 +6,8 @@ ghost use Prim.Native.Nat.{ℕ, _+_, _*_, _≤_, _<_};
 ghost use lib.ListN.{length, getD};
 ghost use Rattle.track.specs.Meaning.{isSpan};
 ghost use Rattle.records.specs.Find.{isNamed, firstRow, firstWith, Named};
-use track::STYLE_CELLS;
 use track::REGION_CELLS;
+use track::STYLE_CELLS;
 
 pub enum Found {
     Row(usize),

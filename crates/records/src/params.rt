@@ -9,8 +9,8 @@ ghost use Rattle.records.specs.Posts.{SmallSpan, AddPost};
 use crate::cells::Added;
 use track::EXTRA_CELLS;
 use track::Extra;
-use track::PARAMS;
 use track::PARAM_CELLS;
+use track::PARAMS;
 use track::Param;
 
 pub fn param_at(params: &[u32], i: usize) -> Param

@@ -12,11 +12,11 @@ ghost use Rattle.records.specs.Posts.{SmallSpan, SmallRows, AddPost, Val
 use crate::cells::Added;
 use track::Align;
 use track::Look;
-use track::REGIONS;
 use track::REGION_CELLS;
+use track::REGIONS;
 use track::Region;
-use track::STYLES;
 use track::STYLE_CELLS;
+use track::STYLES;
 use track::Style;
 
 // The f32 of a style's size stands after those of the segments.

@@ -4,8 +4,8 @@ ghost use mathlib.Core.Path.{_≡_};
 ghost use Prim.Native.Nat.{_+_, _*_, _≤_};
 ghost use lib.ListN.{length};
 ghost use Rattle.track.specs.Meaning.{isExtra, hasExtras};
-use crate::limits::EXTRAS;
 use crate::limits::EXTRA_CELLS;
+use crate::limits::EXTRAS;
 
 // Is row i an extra: the number of one of `most` names, at least `least`, with its value?
 fn is_extra(extras: &[u32], strings: &[u8], most: usize, least: usize, i: usize) -> bool

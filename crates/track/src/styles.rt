@@ -3,9 +3,9 @@ ghost use mathlib.Core.Path.{_≡_};
 ghost use Prim.Native.Nat.{_+_, _*_, _≤_};
 ghost use lib.ListN.{length};
 ghost use Rattle.track.specs.Meaning.{styleStrings, styleValues, styleFlags, isStyle, isRegion, allRows};
-use crate::limits::STYLE_CELLS;
 use crate::limits::REGION_CELLS;
 use crate::limits::SEGMENTS;
+use crate::limits::STYLE_CELLS;
 
 // How many names the lists of extras have: STYLE_EXTRA_ORDER and REGION_ATTR_ORDER.
 const STYLE_NAMES: usize = 46;

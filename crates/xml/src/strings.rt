@@ -10,10 +10,10 @@ ghost use Rattle.scan.specs.Posts.{Appended, Passes};
 ghost use Rattle.entities.specs.Decode.{decoded};
 ghost use Rattle.xml.specs.Steps.{NodeReady, nodePlace, nodeBytes, nodesRead, nodeStringsRead, AttrReady, valueBytes, attrsRead};
 ghost use Rattle.xml.specs.Steps.{attrWritten, attrStringsRead};
-use tree::TEXT;
+use tree::ATTR_CELLS;
 use tree::ELEMENT;
 use tree::NODE_CELLS;
-use tree::ATTR_CELLS;
+use tree::TEXT;
 
 // A part of the text in which no `&` stands.
 pub struct Plain {
