@@ -18,7 +18,7 @@ use Rattle.unicode.proofs.Utf8Laws.{by-test}
 use Rattle.names.specs.declared.tables.Listed.{Listed}
 use Rattle.names.specs.declared.lookup.Number.{Number}
 use Rattle.names.specs.Lists.{names, nameOf}
-use Rattle.names.specs.Numbers.{numberOf}
+use Rattle.names.specs.Numbers.{nameNumber}
 use Rattle.names.proofs.Entries.{at-eq, nothing-at, not-so}
 use Rattle.names.proofs.NameLaws.{folded-number, number-name}
 use Rattle.tree.specs.Trees.{Attr}
@@ -48,10 +48,10 @@ noted-start list y w = record { rest = rest-start y; is = λ i h. rw (w i) }
 -- ---- one attribute
 -- its name is the i-th exactly if i is its number
 module _ (list : Listed) (s : List ℕ) where
-  other : numberOf list s ≡ Number.Nothing → (i : ℕ) → i < length (names list) → sameFolded s (nameOf list i) ≡ false
+  other : nameNumber list s ≡ Number.Nothing → (i : ℕ) → i < length (names list) → sameFolded s (nameOf list i) ≡ false
   other e i h = not-so (sameFolded s (nameOf list i)) (λ g. nothing-at (sym e ∙ folded-number list i h s g))
 
-  same : (i j : ℕ) → numberOf list s ≡ Number.At j → i < length (names list) → sameFolded s (nameOf list i) ≡ true → i ≡ j
+  same : (i j : ℕ) → nameNumber list s ≡ Number.At j → i < length (names list) → sameFolded s (nameOf list i) ≡ true → i ≡ j
   same i j e h g = at-eq (sym (folded-number list i h s g) ∙ e)
 
 -- the value of a name, the first attribute being in row k
@@ -72,7 +72,7 @@ module _ (list : Listed) (u z rows : List ℕ) (k : ℕ) (w : Option Placed) (i 
   abbrev before : Option Placed
   before = noted u z (getD rows i 0) (cond here (some (valueAt u z k)) w)
 
-  kept : (number : Number) → number ≡ numberOf list (nameAt u z k) → NumberFits rows number
+  kept : (number : Number) → number ≡ nameNumber list (nameAt u z k) → NumberFits rows number
       → before ≡ noted u z (getD (withNote rows number (k + 1)) i 0) w
   kept Number.Nothing e f = rw (other list (nameAt u z k) (sym e) i h)
   kept (Number.At j) e f = by-test (eqb (getD rows j 0) 0) new old
@@ -100,7 +100,7 @@ module _ (list : Listed) (u z rows : List ℕ) (k : ℕ) (w : Option Placed) (i 
       old g = by-test here (λ t. let q : i ≡ j = mine t in rw (g, q, g)) (λ t. rw (g, t))
 
 module _ {list : Listed} {u z rows : List ℕ} {k e : ℕ} {l : List Attr} (x : Noted list u z rows k e l) (h : k < e) where
-  pub noted-on : (number : Number) → number ≡ numberOf list (nameAt u z k) → NumberFits rows number → (rows′ : List ℕ)
+  pub noted-on : (number : Number) → number ≡ nameNumber list (nameAt u z k) → NumberFits rows number → (rows′ : List ℕ)
       → rows′ ≡ withNote rows number (k + 1) → Noted list u z rows′ (k + 1) e l
   unfolding rest-on
   noted-on number n f rows′ r =
@@ -140,7 +140,7 @@ fits-on {u = u} {z} {rows} {k} x h w (Number.At j) f rows′ r = λ i. rw r (by-
         (λ e. let q : i ≡ j = eqb-true i j e in rw (q, getD-set-same rows j (k + 1) 0 f) (row-of x h))
         (λ e. rw (getD-set-other rows j i (k + 1) 0 (eqb-false i j e)) (w i))
 
-pub number-fits : (list : Listed) (s rows : List ℕ) → length (names list) ≤ length rows → (number : Number) → number ≡ numberOf list s
+pub number-fits : (list : Listed) (s rows : List ℕ) → length (names list) ≤ length rows → (number : Number) → number ≡ nameNumber list s
     → NumberFits rows number
 number-fits list s rows h Number.Nothing e = tt
 number-fits list s rows h (Number.At i) e = omega (arith, number-name list s i (sym e) .0)
@@ -157,11 +157,11 @@ few-names Listed.RegionAttr = leb-true _ _ refl
 few-names Listed.InlineModelled = leb-true _ _ refl
 few-names Listed.Imsc1Extension = leb-true _ _ refl
 
-pub number-below : (list : Listed) (s : List ℕ) (number : Number) → number ≡ numberOf list s → NumberBelow (length (names list)) number
+pub number-below : (list : Listed) (s : List ℕ) (number : Number) → number ≡ nameNumber list s → NumberBelow (length (names list)) number
 number-below list s Number.Nothing e = tt
 number-below list s (Number.At i) e = number-name list s i (sym e) .0
 
-pub number-under : (list : Listed) (s : List ℕ) (number : Number) → number ≡ numberOf list s → NumberBelow 53 number
+pub number-under : (list : Listed) (s : List ℕ) (number : Number) → number ≡ nameNumber list s → NumberBelow 53 number
 number-under list s Number.Nothing e = tt
 number-under list s (Number.At i) e = omega (arith, number-name list s i (sym e) .0, few-names list)
 

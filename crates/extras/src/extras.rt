@@ -5,7 +5,7 @@ ghost use Prim.Native.Nat.{ℕ, _+_, _*_, _≤_, _<_, _^_};
 ghost use lib.ListN.{length, getD};
 ghost use lib.Seq.{sets};
 ghost use Rattle.names.specs.Lists.{names, nameOf, styleExtra, regionAttr};
-ghost use Rattle.names.specs.Numbers.{numberOf};
+ghost use Rattle.names.specs.Numbers.{nameNumber};
 ghost use Rattle.xml.specs.Reading.{Placed};
 ghost use Rattle.meaning.specs.Nodes.{Attr};
 ghost use Rattle.meaning.specs.Kinds.{withPlaces};
@@ -52,7 +52,7 @@ fn is_kept(list: Listed, i: usize, value: &[u8]) -> bool
 // The number of attribute k in the list.
 fn number_at(attrs: &[u32], strings: &[u8], k: usize, list: Listed) -> Number
     requires { ⌜ NameFits (now attrs) (now strings) k ⌝ }
-    ensures { λ r. ⌜ r ≡ numberOf list (nameAt (now (attrs .entry)) (now (strings .entry)) k) ⌝ }
+    ensures { λ r. ⌜ r ≡ nameNumber list (nameAt (now (attrs .entry)) (now (strings .entry)) k) ⌝ }
 {
     let start = scan::get(attrs, k * ATTR_CELLS);
     let end = start + scan::get(attrs, k * ATTR_CELLS + 1);

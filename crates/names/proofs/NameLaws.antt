@@ -21,7 +21,7 @@ use Rattle.names.specs.declared.tables.Listed.{Listed}
 use Rattle.names.specs.declared.tables.Listed.the-variants.{StyleExtra, InlineExtra, RegionAttr, InlineModelled, Imsc1Extension}
 use Rattle.names.specs.declared.lookup.Number.{Number}
 use Rattle.names.specs.Lists.{names, nameOf, styleExtra, inlineExtra, inlineModelled}
-use Rattle.names.specs.Numbers.{numberOf, containsName}
+use Rattle.names.specs.Numbers.{nameNumber, containsName}
 use Rattle.names.specs.Plain.{plainByte, PlainName}
 use Rattle.names.proofs.Entries.{both, folded-trans, every, every-at, every-as, run-over, differs, distinct, distinct-at, apart, apart-at}
 use Rattle.names.proofs.Entries.{number-back, number-there, number-nowhere, at-eq, nothing-at, not-so, in-there, in-back}
@@ -122,17 +122,17 @@ module _ (list : Listed) (i : ℕ) (h : i < length (names list)) where
   pub names-distinct : (j : ℕ) → j < length (names list) → (i ≡ j → ⊥) → sameFolded (nameOf list i) (nameOf list j) ≡ false
   names-distinct j l ne = distinct-at (names list) (distinct-tested list) i j h l ne
 
-  pub folded-number : (s : List ℕ) → sameFolded s (nameOf list i) ≡ true → numberOf list s ≡ Number.At i
+  pub folded-number : (s : List ℕ) → sameFolded s (nameOf list i) ≡ true → nameNumber list s ≡ Number.At i
   folded-number s e = number-there 0 s (names list) (distinct-tested list) i h e ∙ ap Number.At (zero-add i)
 
-  pub name-number : numberOf list (nameOf list i) ≡ Number.At i
+  pub name-number : nameNumber list (nameOf list i) ≡ Number.At i
   name-number = folded-number (nameOf list i) (sameFolded-refl (nameOf list i))
 
   pub contains-name : containsName list (nameOf list i) ≡ true
   contains-name = in-there (names list) i h
 
 module _ (list : Listed) (s : List ℕ) where
-  pub number-name : (i : ℕ) → numberOf list s ≡ Number.At i → (i < length (names list)) × (sameFolded s (nameOf list i) ≡ true)
+  pub number-name : (i : ℕ) → nameNumber list s ≡ Number.At i → (i < length (names list)) × (sameFolded s (nameOf list i) ≡ true)
   number-name i e =
       let w = number-back 0 s (names list) i e in
       let z : i ≡ w .offset = w .counts ∙ zero-add (w .offset) in
@@ -142,7 +142,7 @@ module _ (list : Listed) (s : List ℕ) where
   contained-name e = in-back s (names list) e
 
   -- a name that is in the list but for the case of letters can be only that entry
-  pub contains-at : (i : ℕ) → numberOf list s ≡ Number.At i → containsName list s ≡ sameBytes s (nameOf list i)
+  pub contains-at : (i : ℕ) → nameNumber list s ≡ Number.At i → containsName list s ≡ sameBytes s (nameOf list i)
   contains-at i e = by (sameBytes s (nameOf list i)) refl
     where
       in-list : i < length (names list)
@@ -155,15 +155,15 @@ module _ (list : Listed) (s : List ℕ) where
           elsewhere : containsName list s ≡ true → ⊥
           elsewhere g =
               let w = contained-name g in
-              let z : w .0 ≡ i = at-eq (sym (ap (numberOf list) (w .2) ∙ name-number list (w .0) (w .1)) ∙ e) in
+              let z : w .0 ≡ i = at-eq (sym (ap (nameNumber list) (w .2) ∙ name-number list (w .0) (w .1)) ∙ e) in
               let q : s ≡ nameOf list i = w .2 ∙ ap (nameOf list) z in
               true≢false (sym (ap (sameBytes s) (sym q) ∙ same-refl s) ∙ f)
 
-  pub contains-nowhere : numberOf list s ≡ Number.Nothing → containsName list s ≡ false
+  pub contains-nowhere : nameNumber list s ≡ Number.Nothing → containsName list s ≡ false
   contains-nowhere e =
       not-so (containsName list s) (λ g.
       let w = contained-name g in
-      nothing-at (sym e ∙ ap (numberOf list) (w .2) ∙ name-number list (w .0) (w .1)))
+      nothing-at (sym e ∙ ap (nameNumber list) (w .2) ∙ name-number list (w .0) (w .1)))
 
 -- ---- two lists against each other
 abbrev pub backgroundColor : List ℕ
@@ -176,13 +176,13 @@ module _ (i : ℕ) (h : i < length inlineModelled) where
   pub modelled-apart : (j : ℕ) → j < length inlineExtra → sameFolded (nameOf InlineModelled i) (nameOf InlineExtra j) ≡ false
   modelled-apart j l = apart-at inlineModelled inlineExtra apart-tested i j h l
 
-  pub modelled-not-extra : numberOf InlineExtra (nameOf InlineModelled i) ≡ Number.Nothing
+  pub modelled-not-extra : nameNumber InlineExtra (nameOf InlineModelled i) ≡ Number.Nothing
   modelled-not-extra =
       number-nowhere 0 (nameOf InlineModelled i) inlineExtra
       (every-at (λ (m : List ℕ). every (differs m) inlineExtra) inlineModelled [] apart-tested i h)
 
 -- no text is a name of both, letters in any case
-pub modelled-or-extra : (s : List ℕ) (i j : ℕ) → numberOf InlineModelled s ≡ Number.At i → numberOf InlineExtra s ≡ Number.At j → ⊥
+pub modelled-or-extra : (s : List ℕ) (i j : ℕ) → nameNumber InlineModelled s ≡ Number.At i → nameNumber InlineExtra s ≡ Number.At j → ⊥
 modelled-or-extra s i j e f =
     let m = number-name InlineModelled s i e in
     let x = number-name InlineExtra s j f in

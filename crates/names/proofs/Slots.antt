@@ -18,7 +18,7 @@ use Rattle.names.specs.declared.tables.Listed.{Listed}
 use Rattle.names.specs.declared.tables.Listed.the-variants.{StyleExtra, InlineExtra, RegionAttr, InlineModelled, Imsc1Extension}
 use Rattle.names.specs.declared.lookup.Number.{Number}
 use Rattle.names.specs.Lists.{names, nameOf}
-use Rattle.names.specs.Numbers.{numberOf}
+use Rattle.names.specs.Numbers.{nameNumber}
 use Rattle.names.specs.Steps.{slotOf, slots, isInitial, canBegin}
 use Rattle.names.proofs.Entries.{both, every, every-at, at-eq}
 use Rattle.names.proofs.NameLaws.{number-name, folded-number}
@@ -123,32 +123,32 @@ slot-within list p h =
 
 -- ---- what the entry in a name's slot says
 module _ (list : Listed) (s : List ℕ) where
-  pub slot-entry : (i : ℕ) → numberOf list s ≡ Number.At i → getD (slots list) (slotOf s) 0 ≡ i + 35
+  pub slot-entry : (i : ℕ) → nameNumber list s ≡ Number.At i → getD (slots list) (slotOf s) 0 ≡ i + 35
   slot-entry i e =
       let w = number-name list s i e in
       rw (slot-folded s (nameOf list i) (w .1)) (entries-at list 0 (names list) (entries-tested list) i (w .0) ∙ omega arith)
 
-  nothing : ((i : ℕ) → numberOf list s ≡ Number.At i → ⊥) → numberOf list s ≡ Number.Nothing
-  nothing f = by (numberOf list s) refl
+  nothing : ((i : ℕ) → nameNumber list s ≡ Number.At i → ⊥) → nameNumber list s ≡ Number.Nothing
+  nothing f = by (nameNumber list s) refl
     where
-      by : (n : Number) → numberOf list s ≡ n → numberOf list s ≡ Number.Nothing
+      by : (n : Number) → nameNumber list s ≡ n → nameNumber list s ≡ Number.Nothing
       by (Number.At i) e = absurd (f i e)
       by Number.Nothing e = e
 
-  pub initial-none : canBegin s ≡ false → numberOf list s ≡ Number.Nothing
+  pub initial-none : canBegin s ≡ false → nameNumber list s ≡ Number.Nothing
   initial-none f = nothing (λ i e.
       let w = number-name list s i e in
       let g : canBegin (nameOf list i) ≡ true = every-at canBegin (names list) [] (begins-tested list) i (w .0) in
       true≢false (sym g ∙ (sym (begin-folded s (nameOf list i) (w .1)) ∙ f)))
 
   module _ (x : ℕ) (w : x ≡ getD (slots list) (slotOf s) 0) where
-    pub slot-none : x < 35 → numberOf list s ≡ Number.Nothing
+    pub slot-none : x < 35 → nameNumber list s ≡ Number.Nothing
     slot-none h = nothing (λ i e. omega (arith, slot-entry i e, w))
 
-    pub slot-hit : 35 ≤ x → sameFolded s (nameOf list (x - 35)) ≡ true → numberOf list s ≡ Number.At (x - 35)
+    pub slot-hit : 35 ≤ x → sameFolded s (nameOf list (x - 35)) ≡ true → nameNumber list s ≡ Number.At (x - 35)
     slot-hit h e = folded-number list (x - 35) (omega (arith, w, slot-within list (slotOf s) (slot-below s))) s e
 
-    pub slot-miss : 35 ≤ x → sameFolded s (nameOf list (x - 35)) ≡ false → numberOf list s ≡ Number.Nothing
+    pub slot-miss : 35 ≤ x → sameFolded s (nameOf list (x - 35)) ≡ false → nameNumber list s ≡ Number.Nothing
     slot-miss h e = nothing (λ i f.
         let z : x - 35 ≡ i = omega (arith, slot-entry i f, w) in
         let g : sameFolded s (nameOf list (x - 35)) ≡ true = rw z (number-name list s i f .1) in

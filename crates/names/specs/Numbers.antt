@@ -19,8 +19,8 @@ isIn s [] = false
 isIn s (n ∷ ns) = sameBytes s n || isIn s ns
 
 -- the same in a list, from 0 on (the Rust goes through each list by `attr`, which compares without regard to ASCII case)
-abbrev pub numberOf : Listed → List ℕ → Number
-numberOf list s = numberFrom 0 s (names list)
+abbrev pub nameNumber : Listed → List ℕ → Number
+nameNumber list s = numberFrom 0 s (names list)
 
 -- (the Rust's `contains`)
 abbrev pub containsName : Listed → List ℕ → Bool

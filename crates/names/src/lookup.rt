@@ -5,7 +5,7 @@ ghost use lib.ListN.{length, getD};
 ghost use Rattle.scan.specs.Names.{sameBytes, sameFolded};
 ghost use Rattle.scan.specs.Posts.{Wrote};
 ghost use Rattle.names.specs.Lists.{names, nameOf};
-ghost use Rattle.names.specs.Numbers.{numberOf, containsName};
+ghost use Rattle.names.specs.Numbers.{nameNumber, containsName};
 ghost use Rattle.names.specs.Steps.{slotOf, slots, isInitial, canBegin};
 use crate::tables::Listed;
 
@@ -84,7 +84,7 @@ fn in_slot(list: Listed, slot: usize) -> u8
 // The number of the entry that the name is, letters in any case. A name that is not listed is compared with
 // one entry at most, and no table of names is made for one whose slot is empty.
 fn number_in_slot(list: Listed, name: &[u8]) -> Number
-    ensures { λ r. ⌜ r ≡ numberOf list (now (name .entry)) ⌝ }
+    ensures { λ r. ⌜ r ≡ nameNumber list (now (name .entry)) ⌝ }
 {
     let entry = in_slot(list, slot(name));
     if entry < b'#' {
@@ -128,7 +128,7 @@ fn can_begin(name: &[u8]) -> bool
 
 // The number of the entry that the name is, letters in any case. The first letter tells most names that are not listed.
 pub fn number_of(list: Listed, name: &[u8]) -> Number
-    ensures { λ r. ⌜ r ≡ numberOf list (now (name .entry)) ⌝ }
+    ensures { λ r. ⌜ r ≡ nameNumber list (now (name .entry)) ⌝ }
 {
     if can_begin(name) {
         return number_in_slot(list, name);
