@@ -46,7 +46,8 @@ module _ (T : Tables) (z : List ℕ) (most : ℕ) where
       (rw (a, b, c, le-leb least (x .number) (r .0), lt-ltb (x .number) most (r .1), r .2, q .0), rw (a, b, c, q .1))
 
   pub extras-read : (x : Rows) (l : List Extra) → ExtrasFit z most x l → Reads 0 (T .extras) (x .first * 3) (cellsOf l)
-      → (hasExtras (T .extras) z most (x .first) (x .count) ≡ true) × (extrasIn (T .extras) (T .strings) (x .count) (x .first) ≡ each (shownExtra (T .strings)) l)
+      → (hasExtras (T .extras) z most (x .first) (x .count) ≡ true)
+      × (extrasIn (T .extras) (T .strings) (x .count) (x .first) ≡ each (shownExtra (T .strings)) l)
   unfolding hasExtras
   extras-read x l f h =
       let q = list-read l 0 (x .first) h (f .rising) in

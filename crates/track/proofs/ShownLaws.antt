@@ -1,6 +1,6 @@
 -- The track that tables mean, row by row. Assumes nothing.
---     each-rows                                  what is made of rows one by one
---     extrasIn, paramIn                          extras, a parameter with their bytes
+--     each-rows                                             what is made of rows one by one
+--     extrasIn, paramIn                                     extras, and a parameter, with their bytes
 --     lang-in, params-in, styles-in, regions-in, cues-in    the parts of the track
 use Prim.Native.Nat.{ℕ, zero, suc, _+_}
 use mathlib.Core.Path.{_≡_, refl}
