@@ -1,10 +1,9 @@
 -- Cues are read back from their rows, each with its segments. Assumes nothing.
 --     cues-read    the test and the value
 use Prim.Native.Nat.{ℕ, _+_, _*_, _≤_}
-use mathlib.Core.Path.{_≡_, refl, ap, _∙_}
+use mathlib.Core.Path.{_≡_, refl, _∙_}
 use mathlib.Core.Bool.{true}
 use mathlib.Core.List.{List, [], _∷_, _++_}
-use mathlib.Core.Option.{none, some}
 use native.Mathlib.Omega.{arith}
 use native.Mathlib.Nat.{add-zero}
 use lib.ListN.{length, getD, length-append}
@@ -12,8 +11,7 @@ use lib.IntN.{pos}
 use borrow.Author.Tests.{le-leb, eq-eqb}
 use Rattle.track.specs.declared.strings.Span.{Span}
 use Rattle.track.specs.declared.values.Cue.{Cue}
-use Rattle.track.specs.Track.{Wrapper, Segments, segmentRows}
-use Rattle.track.specs.Track as track
+use Rattle.track.specs.Track.{Segments, segmentRows}
 use Rattle.track.specs.Tables.{Tables, cell, rowsFrom, cueAt, segmentsAt}
 use Rattle.track.specs.Meaning.{cueValues, isCue, areCues, extrasAt, cueIn}
 use Rattle.track.specs.Layout.{joinedCells, each, flag, rowsCells, optionalCells, cueCells, cueTimes, allSegments, preorder, PlacedCue}

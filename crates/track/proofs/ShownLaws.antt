@@ -4,7 +4,7 @@
 --     lang-in, params-in, styles-in, regions-in, cues-in    the parts of the track
 use Prim.Native.Nat.{ℕ, zero, suc, _+_}
 use mathlib.Core.Path.{_≡_, refl}
-use mathlib.Core.List.{List, [], _∷_}
+use mathlib.Core.List.{List}
 use lib.ListN.{getD}
 use lib.Dec.{eqb}
 use Rattle.track.specs.Track.{Bytes, Extra, Param}
