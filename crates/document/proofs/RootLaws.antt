@@ -19,8 +19,9 @@ use Rattle.names.specs.declared.tables.Listed.the-variants.{StyleExtra, InlineE
 use Rattle.track.specs.Track.{Bytes}
 use Rattle.track.specs.Track as track
 use Rattle.track.specs.Tables.{Tables, cell, styleAt, regionAt, cueAt, paramAt, rowsFrom, paramCount, styleCount, regionCount, cueCount}
-use Rattle.track.specs.Meaning.{bytesAt, extraIn, paramIn, styleIn, regionIn, cueIn, trackAt}
+use Rattle.track.specs.Meaning.{bytesAt, styleIn, regionIn, cueIn, trackAt}
 use Rattle.track.specs.Meaning as meaning
+use Rattle.track.proofs.ShownLaws.{extrasIn, paramIn, params-in, styles-in, regions-in, cues-in}
 use Rattle.scan.specs.Text.{ascii}
 use Rattle.written.specs.Attributes.{attrText, attrsText, joined, given, listed, extraAttrs, isImsc, paramAttr, some-of, contains, holdsItts,
     usesItts, langOf, rootAttrs}
@@ -48,7 +49,8 @@ params-are T (suc n) i =
     (params-are T n (i + 1))
 
 -- ---- the namespace itts
-rows-hold : (T : Tables) (list : Listed) (n i : ℕ) → holdsItts list (rowsFrom (extraIn T) n i) ≡ ittsRows list (T .extras) (T .strings) i n
+rows-hold : (T : Tables) (list : Listed) (n i : ℕ)
+    → holdsItts list (extrasIn (T .extras) (T .strings) n i) ≡ ittsRows list (T .extras) (T .strings) i n
 unfolding holdsItts ittsRows
 rows-hold T list n i = ap (contains (ascii "itts:")) (attrs-extras T list n i)
 
@@ -75,8 +77,8 @@ module _ (T : Tables) where
       ∙ some-same _ _ (λ (i : ℕ). rows-hold T InlineExtra (cell 11 (T .cues) i 10) (cell 11 (T .cues) i 9)) (cueCount (T .head)) 0
 
   itts-is : usesItts (trackAt T) ≡ ittsText (T .head) (T .styles) (T .regions) (T .cues) (T .extras) (T .strings)
-  unfolding usesItts trackAt ittsText
-  itts-is = ap₂ _||_ (ap₂ _||_ style-rows region-rows) cue-rows
+  unfolding usesItts ittsText
+  itts-is = rw (styles-in T, regions-in T, cues-in T) (ap₂ _||_ (ap₂ _||_ style-rows region-rows) cue-rows)
 
   -- ---- the start tag
   lang-is : attrsText (attr (ascii "xml:lang") (langOf (trackAt T .lang)) ∷ []) ≡ langText (T .head) (T .strings)
@@ -90,12 +92,15 @@ module _ (T : Tables) where
 
   ttp : some-of (λ (x : track.Param Bytes). not (isImsc x)) (trackAt T .params)
       ≡ someRow (λ (i : ℕ). flagged false (imscRow (T .params) (T .strings) i)) (paramCount (T .head)) 0
-  unfolding trackAt isImsc imscRow paramIn
-  ttp = some-rows (λ (x : track.Param Bytes). not (isImsc x)) (paramIn T) (paramCount (T .head)) 0
+  unfolding isImsc imscRow paramIn
+  ttp = rw (params-in T) (some-rows (λ (x : track.Param Bytes). not (isImsc x)) (paramIn T) (paramCount (T .head)) 0)
 
   ittp : some-of isImsc (trackAt T .params) ≡ someRow (λ (i : ℕ). flagged true (imscRow (T .params) (T .strings) i)) (paramCount (T .head)) 0
-  unfolding trackAt isImsc imscRow paramIn
-  ittp = some-rows isImsc (paramIn T) (paramCount (T .head)) 0
+  unfolding isImsc imscRow paramIn
+  ittp = rw (params-in T) (some-rows isImsc (paramIn T) (paramCount (T .head)) 0)
+
+  params-of : attrsText (listed paramAttr (trackAt T .params)) ≡ over (paramText (T .params) (T .strings)) (paramCount (T .head)) 0
+  params-of = rw (params-in T) (params-are T (paramCount (T .head)) 0)
 
   given-is : (b c : Bool) (a : Attr) → b ≡ c → attrsText (given b a) ≡ cond c (attrText a) []
   given-is b c a e = rw e (attrs-given c a)
@@ -111,7 +116,7 @@ module _ (T : Tables) where
 
   pub root-is : tag "tt" (rootAttrs (trackAt T)) ++ ascii ">\n"
       ≡ rootText (T .head) (T .params) (T .styles) (T .regions) (T .cues) (T .extras) (T .strings)
-  unfolding rootAttrs rootText namespaces escaped trackAt
+  unfolding rootAttrs rootText namespaces escaped
   root-is =
       ap (λ (w : Bytes). (ascii "<tt" ++ w) ++ ascii ">\n")
       (attrs-joined _ _ _ _ (attrs-one (attr (ascii "xmlns") (ascii "http://www.w3.org/ns/ttml")))
@@ -119,7 +124,7 @@ module _ (T : Tables) where
       (attrs-joined _ _ _ _ (given-is _ _ (attr (ascii "xmlns:ttp") (ascii "http://www.w3.org/ns/ttml#parameter")) ttp)
       (attrs-joined _ _ _ _ (given-is _ _ (attr (ascii "xmlns:ittp") (ascii "http://www.w3.org/ns/ttml/profile/imsc1#parameter")) ittp)
       (attrs-joined _ _ _ _ (given-is _ _ (attr (ascii "xmlns:itts") (ascii "http://www.w3.org/ns/ttml/profile/imsc1#styling")) itts-is)
-      (attrs-joined _ _ _ _ (params-are T (paramCount (T .head)) 0)
+      (attrs-joined _ _ _ _ params-of
       (attrs-last _ _ lang-is)))))))
       ∙ regroup start
       (cond (someRow (λ (i : ℕ). flagged false (imscRow (T .params) (T .strings) i)) (paramCount (T .head)) 0) (declared "ttp" "#parameter") [])

@@ -27,7 +27,7 @@ use Rattle.track.specs.declared.values.Style.{Style}
 use Rattle.track.specs.Track.{Bytes}
 use Rattle.track.specs.Track as track
 use Rattle.track.specs.Tables.{Tables, cell, styleAt, rowsFrom}
-use Rattle.track.specs.Meaning.{bytesAt, styleIn, lookIn, extraIn}
+use Rattle.track.specs.Meaning.{bytesAt, styleIn, lookIn}
 use Rattle.track.specs.Meaning as meaning
 use Rattle.records.specs.declared.find.Found.{Found}
 use Rattle.records.specs.Find.{isNamed, firstWith, findChain, findExtras, chainFrom, extrasFrom, foundIn}

@@ -8,6 +8,7 @@ use Rattle.scan.specs.declared.table.Written.{Written}
 use Rattle.track.specs.Track.{Bytes}
 use Rattle.track.specs.Tables.{Tables, rowsFrom, styleCount, regionCount, cueCount}
 use Rattle.track.specs.Meaning.{styleIn, regionIn, cueIn, trackAt}
+use Rattle.track.proofs.ShownLaws.{styles-in, regions-in, cues-in}
 use Rattle.scan.specs.Text.{ascii}
 use Rattle.written.specs.Attributes.{rootAttrs}
 use Rattle.written.specs.Written.{tag, lines, cueText, headLines, writtenOf}
@@ -42,8 +43,8 @@ module _ (T : Tables) where
       (rowsFrom (regionIn (regionTables (T .regions) (T .extras) (T .strings))) (regionCount (T .head)) 0)
 
   head-is : headLines (trackAt T) ≡ head
-  unfolding headLines headText trackAt styleIn regionIn
-  head-is = refl
+  unfolding headLines headText styleIn regionIn
+  head-is = ap₂ headText (styles-in T) (regions-in T)
 
   abbrev root : Bytes
   root = rootText (T .head) (T .params) (T .styles) (T .regions) (T .cues) (T .extras) (T .strings)
@@ -58,12 +59,12 @@ module _ (T : Tables) where
   rest c = ascii "  <body>\n    <div>\n" ++ (c ++ ascii "    </div>\n  </body>\n</tt>\n")
 
   pub whole-is : writtenOf (trackAt T) ≡ declaration ++ (root ++ (head ++ rest (lines cueText (rowsFrom (cueIn C) (cueCount (T .head)) 0))))
-  unfolding writtenOf trackAt
+  unfolding writtenOf
   whole-is =
       regroup declaration (tag "tt" (rootAttrs (trackAt T))) (ascii ">\n") (headLines (trackAt T)) (rest (lines cueText (trackAt T .cues)))
       ∙ (ap (λ (w : Bytes). declaration ++ (w ++ (headLines (trackAt T) ++ rest (lines cueText (trackAt T .cues))))) (root-is T)
       ∙ (ap (λ (w : Bytes). declaration ++ (root ++ (w ++ rest (lines cueText (trackAt T .cues))))) head-is
-      ∙ ap (λ (w : Bytes). declaration ++ (root ++ (head ++ rest w))) (cues-are (cueCount (T .head)))))
+      ∙ ap (λ (w : Bytes). declaration ++ (root ++ (head ++ rest w))) (ap (lines cueText) (cues-in T) ∙ cues-are (cueCount (T .head)))))
 
   pub whole-puts :
       (s r : Written) (o o′ : List ℕ)

@@ -24,6 +24,7 @@ use Rattle.track.specs.declared.check.Check.{Check}
 use Rattle.track.specs.Track.{Bytes, Look, Style, Region, Cue, Track}
 use Rattle.track.specs.Tables.{Tables, cell, span, optional, rowsFrom, styleCount, regionCount, cueCount, regionAt, cueAt}
 use Rattle.track.specs.Meaning.{bytesAt, given, lookIn, regionIn, cueIn, trackAt, trackIn}
+use Rattle.track.proofs.ShownLaws.{regions-in, cues-in}
 use Rattle.records.specs.Find.{findRegion}
 use Rattle.styles.specs.declared.apply.Walk.{Walk}
 use Rattle.styles.specs.declared.apply.Applied.{Applied}
@@ -53,6 +54,7 @@ use Rattle.styles.proofs.Along.{over-kept, part-length}
 use Rattle.styles.proofs.Answering.{resolve-nothing}
 use Rattle.styles.proofs.Theorem.{resolve-answers}
 use Rattle.styles.proofs.Tidying.{tidy-blank}
+use Rattle.styles.proofs.Whole.{styles-whole}
 use Rattle.queries.specs.declared.query.Resolved.{Resolved}
 use Rattle.queries.specs.declared.region.Part.{Part}
 use Rattle.queries.specs.declared.region.PartRead.{PartRead}
@@ -170,9 +172,9 @@ module _ (value : Bytes) (T : Tables) (lent : List ℕ) where
         value [] look t₁ t₂ t₃ cleared
 
     same-value : askedValue value (trackAt T) ≡ is value-answer
-    unfolding trackAt
     same-value =
-        ap is (sym (alone (stylesIn (T .styles) (T .sizes) (T .extras) (T .strings) (styleCount (T .head))) (T .strings) look blank-look value))
+        ap (λ (s : List (Style Bytes)). is (resolve s value)) (sym (styles-whole T))
+        ∙ ap is (sym (alone (stylesIn (T .styles) (T .sizes) (T .extras) (T .strings) (styleCount (T .head))) (T .strings) look blank-look value))
 
     pub value-asked : (b e : ℕ) → Trimmed value b e → (walked : Applied) (answer : Resolved)
         → AnswerPost value (T .styles) (T .sizes) (T .strings) (styleCount (T .head)) value [] t₁ t₂ look (row 0 (span 0 (length value)))
@@ -193,12 +195,15 @@ module _ (value : Bytes) (T : Tables) (lent : List ℕ) where
         unread e = cc
 
 -- ---- a region
+regions-whole : (T : Tables) → regionsOf (T .regions) (T .extras) (T .strings) (regionCount (T .head)) ≡ trackAt T .regions
+unfolding regionIn
+regions-whole T = sym (regions-in T)
+
 module _ (id : Bytes) (T : Tables) (lent : List ℕ) (h : queryCheck id T ≡ Check.Track) where
   regions-are : (styles : List (Style Bytes))
       → regionFound styles (findRegion id (regionsOf (T .regions) (T .extras) (T .strings) (regionCount (T .head))))
       ≡ regionFound styles (findRegion id (trackAt T .regions))
-  unfolding trackAt regionIn
-  regions-are styles = refl
+  regions-are styles = ap (λ (l : List (Region Bytes)). regionFound styles (findRegion id l)) (regions-whole T)
 
   asks-region : (r : PartRead) → RegionPost (T .regions) (T .extras) (T .strings) (regionCount (T .head)) id r
       → askedRegion id (trackAt T) ≡ partAs (T .strings) (trackAt T .styles) r
@@ -219,11 +224,11 @@ module _ (id : Bytes) (T : Tables) (lent : List ℕ) (h : queryCheck id T ≡ Ch
         (bytesAt (T .strings) (x .chain)) [] (x .look) t₁ t₂ t₃ cleared
 
     same-region : askedRegion id (trackAt T) ≡ is answer-to
-    unfolding trackAt
     same-region =
         let S : List (Style Bytes) = stylesIn (T .styles) (T .sizes) (T .extras) (T .strings) (styleCount (T .head)) in
         asks-region (PartRead.Is x) p
-        ∙ ap is (sym (both-none S (withOwn (resolve S (bytesAt (T .strings) (x .chain))) (lookIn (T .strings) (x .look)))))
+        ∙ (ap (λ (s : List (Style Bytes)). partAs (T .strings) s (PartRead.Is x)) (sym (styles-whole T))
+        ∙ ap is (sym (both-none S (withOwn (resolve S (bytesAt (T .strings) (x .chain))) (lookIn (T .strings) (x .look))))))
 
     pub region-asked : (walked : Applied) (answer : Resolved)
         → AnswerPost id (T .styles) (T .sizes) (T .strings) (styleCount (T .head)) (bytesAt (T .strings) (x .chain)) [] t₁ t₂ (x .look)
@@ -253,8 +258,8 @@ nth-past f (suc n) j (suc i) l = nth-past f n (j + 1) i (omega arith)
 
 module _ (T : Tables) (i : ℕ) (lent : List ℕ) (h : queryCheck [] T ≡ Check.Track) where
   none-there : cueCount (T .head) ≤ i → askedCue i (trackAt T) ≡ is nothing
-  unfolding effectiveStyle trackAt
-  none-there l = rw (nth-past (cueIn T) (cueCount (T .head)) 0 i l)
+  unfolding effectiveStyle
+  none-there l = rw (cues-in T, nth-past (cueIn T) (cueCount (T .head)) 0 i l)
 
   pub cue-past : cueCount (T .head) ≤ i → (left : List ℕ) → left ≡ replicate (length lent) 0 → EffectiveStyle T i lent (Resolved.NoStyle 0) left
   unfolding nothing namesOf rowsIn rowsFrom stringAt startAt
@@ -270,8 +275,7 @@ module _ (T : Tables) (i : ℕ) (lent : List ℕ) (h : queryCheck [] T ≡ Check
     cue = cueAt (T .cues) (T .times) i
 
     the-cue : nth (trackAt T .cues) i ≡ some (cueIn T i)
-    unfolding trackAt
-    the-cue = nth-first (cueIn T) (cueCount (T .head)) i l
+    the-cue = rw (cues-in T) (nth-first (cueIn T) (cueCount (T .head)) i l)
 
     -- its region
     region-given : (has : Bool) (v : Bytes) → regionOptional (trackAt T) (given has v) ≡ cond has (regionFound (trackAt T .styles) (findRegion v
@@ -282,8 +286,7 @@ module _ (T : Tables) (i : ℕ) (lent : List ℕ) (h : queryCheck [] T ≡ Check
 
     regions-same : (v : Bytes) → findRegion v (regionsOf (T .regions) (T .extras) (T .strings) (regionCount (T .head))) ≡ findRegion v (trackAt T
         .regions)
-    unfolding trackAt regionIn
-    regions-same v = refl
+    regions-same v = ap (findRegion v) (regions-whole T)
 
     -- its own value
     own-given : (styles : List (Style Bytes)) → resolveOptional styles (given (cue .«has_style») (bytesAt (T .strings) (cue .style))) ≡ resolve
@@ -319,8 +322,11 @@ module _ (T : Tables) (i : ℕ) (lent : List ℕ) (h : queryCheck [] T ≡ Check
           (bytesAt (T .strings) (cue .style)) (x .look) t₁ t₂ t₃ cleared
 
       same-cue : askedCue i (trackAt T) ≡ is cue-answer
-      unfolding trackAt
-      same-cue = asks-cue (PartRead.Is x) p
+      same-cue =
+          asks-cue (PartRead.Is x) p
+          ∙ ap (λ (s : List (Style Bytes)). next (partAs (T .strings) s (PartRead.Is x)) (λ r. is (both r (resolve s (bytesAt (T .strings) (cue
+          .style))))))
+          (sym (styles-whole T))
 
       pub cue-asked : (walked : Applied) (answer : Resolved)
           → AnswerPost [] (T .styles) (T .sizes) (T .strings) (styleCount (T .head)) (bytesAt (T .strings) (x .chain)) (bytesAt (T .strings) (cue

@@ -22,7 +22,8 @@ use Rattle.names.specs.Lists.{regionAttr, nameOf}
 use Rattle.track.specs.declared.strings.Span.{Span}
 use Rattle.track.specs.Track.{Bytes, Extra}
 use Rattle.track.specs.Tables.{span, cell, rowsFrom, extraAt}
-use Rattle.track.specs.Meaning.{bytesAt, given}
+use Rattle.track.specs.Shown.{bytesAt, given, shownExtra}
+use Rattle.track.proofs.ShownLaws.{each-rows}
 use Rattle.records.specs.Find.{firstThat}
 use Rattle.styles.specs.Own.{ascii, valueFrom, isNamed, valueOf}
 use Rattle.queries.specs.declared.own.Value.{Value}
@@ -90,7 +91,8 @@ module _ {S : Type 0} (g : Span → S) (name : String) (k : ℕ) (h : onceAt reg
 -- its bytes, and the place itself
 pub value-named : (name : String) (k : ℕ) → onceAt regionAttr (ascii name) k ≡ true
     → (e z : List ℕ) (n i : ℕ) → valueOf name (extrasOf e z i n) ≡ valueIn e z k n i
-value-named name k h e z n i = value-made (bytesAt z) name k h e n i
+unfolding shownExtra
+value-named name k h e z n i = ap (valueOf name) (each-rows (shownExtra z) (extraAt e) n i) ∙ value-made (bytesAt z) name k h e n i
 
 pub value-placed : (name : String) (k : ℕ) → onceAt regionAttr (ascii name) k ≡ true
     → (e : List ℕ) (n i : ℕ) → valueOf name (extrasAt e i n) ≡ given (valueAt e k n i .has) (valueAt e k n i .span)

@@ -11,14 +11,13 @@ use Rattle.track.specs.declared.values.Look as values
 use Rattle.track.specs.declared.values.Cue.{Cue}
 use Rattle.track.specs.Track.{Bytes, Look, Extra}
 use Rattle.track.specs.Tables.{Tables, span, rowsFrom, styleCount, regionCount, cueCount, extraAt, regionAt, cueAt}
-use Rattle.track.specs.Meaning.{bytesAt, extraIn}
-use Rattle.track.specs.Layout.{isSome}
+use Rattle.track.specs.Layout.{each, isSome}
+use Rattle.track.specs.Shown.{bytesAt, shownExtra}
 use Rattle.records.specs.declared.find.Found.{Found}
 use Rattle.records.specs.Find.{firstRow}
 use Rattle.styles.specs.Own.{Read, is, next, valueOf, ownValues}
 use Rattle.styles.specs.Cells.{noColor, noSize, blankLook}
 use Rattle.styles.specs.Places.{row, WalkedAt, startAt, Resolves}
-use Rattle.styles.specs.Steps.{bare}
 use Rattle.queries.specs.declared.region.Part.{Part}
 
 -- ---- a region
@@ -47,7 +46,7 @@ cellsOf x family = record {
 
 -- the kept attributes in `many` rows from row `first` on: their values as bytes, and where these stand
 abbrev pub extrasOf : (e z : List ℕ) → (first many : ℕ) → List (Extra Bytes)
-extrasOf e z first many = rowsFrom (extraIn (bare [] [] e z)) many first
+extrasOf e z first many = each (shownExtra z) (rowsFrom (extraAt e) many first)
 
 abbrev pub extrasAt : (e : List ℕ) → (first many : ℕ) → List (Extra Span)
 extrasAt e first many = rowsFrom (λ i. record { number = extraAt e i .number; value = extraAt e i .value }) many first
@@ -68,7 +67,7 @@ partOf r e z (Found.Row i) =
 partOf r e z Found.Nothing = is blankPart
 
 unfoldable pub partAt : (r e z : List ℕ) → ℕ → Bytes → Read Part
-unfolding firstRow regionAt extraAt rowsFrom ownValues valueOf blankPart
+unfolding firstRow regionAt extraAt rowsFrom each shownExtra ownValues valueOf blankPart
 partAt r e z n id = partOf r e z (firstRow r z id 4 n 0)
 
 -- ---- the three queries: v is what is known at the end of the walk

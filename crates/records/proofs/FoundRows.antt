@@ -12,7 +12,7 @@ use lib.Ieee.{Float}
 use borrow.Author.Tests.{eqb-true, eqb-false, ne-eqb, leb-true}
 use Rattle.scan.specs.Names.{sameBytes}
 use Rattle.track.specs.Tables.{Tables, cell, rowsFrom, styleAt, regionAt}
-use Rattle.track.specs.Layout.{isSome}
+use Rattle.track.specs.Layout.{each, isSome}
 use Rattle.track.specs.Meaning.{isSpan, styleStrings, isStyle, isRegion, styleIn, regionIn}
 use Rattle.unicode.proofs.Utf8Laws.{by-test}
 use Rattle.scan.proofs.Every.{both}
@@ -74,10 +74,10 @@ some-unless : {A : Type 0} (b : Bool) (x : A) → isSome (cond b none (some x)) 
 some-unless true x = refl
 some-unless false x = refl
 
-empty-rows : {A : Type 0} (f : ℕ → A) (n i : ℕ) → isEmpty (rowsFrom f n i) ≡ eqb n 0
-unfolding rowsFrom
-empty-rows f zero i = refl
-empty-rows f (suc n) i = sym (ne-eqb (suc n) 0 (λ e. omega arith))
+empty-rows : {A B : Type 0} (g : A → B) (f : ℕ → A) (n i : ℕ) → isEmpty (each g (rowsFrom f n i)) ≡ eqb n 0
+unfolding each rowsFrom
+empty-rows g f zero i = refl
+empty-rows g f (suc n) i = sym (ne-eqb (suc n) 0 (λ e. omega arith))
 
 module _ (T : Tables) (name : List ℕ) (i : ℕ) where
   style-named : named (T .styles) (T .strings) name 27 i ≡ sameBytes (styleIn T i .name) name
@@ -90,7 +90,7 @@ module _ (T : Tables) (name : List ℕ) (i : ℕ) where
 
   extras-named : namedWith (T .styles) (T .strings) name 27 26 i ≡ (not (isEmpty (styleIn T i .extras)) && sameBytes (styleIn T i .name) name)
   unfolding styleIn styleAt cell
-  extras-named = rw (style-named, empty-rows _ (getD (T .styles) (i * 27 + 26) 0) _)
+  extras-named = rw (style-named, empty-rows _ _ (getD (T .styles) (i * 27 + 26) 0) _)
 
   region-named : named (T .regions) (T .strings) name 4 i ≡ sameBytes (regionIn T i .id) name
   unfolding isNamed regionIn regionAt cell

@@ -1,11 +1,9 @@
 -- Cues are read back from their rows, each with its segments. Assumes nothing.
---     shows-segments    the segments of a table with their bytes
---     cues-read         the test and the value
+--     cues-read    the test and the value
 use Prim.Native.Nat.{ℕ, _+_, _*_, _≤_}
-use mathlib.Core.Path.{_≡_, refl, ap, _∙_}
+use mathlib.Core.Path.{_≡_, refl, _∙_}
 use mathlib.Core.Bool.{true}
 use mathlib.Core.List.{List, [], _∷_, _++_}
-use mathlib.Core.Option.{none, some}
 use native.Mathlib.Omega.{arith}
 use native.Mathlib.Nat.{add-zero}
 use lib.ListN.{length, getD, length-append}
@@ -13,35 +11,16 @@ use lib.IntN.{pos}
 use borrow.Author.Tests.{le-leb, eq-eqb}
 use Rattle.track.specs.declared.strings.Span.{Span}
 use Rattle.track.specs.declared.values.Cue.{Cue}
-use Rattle.track.specs.Track.{Wrapper, Segments, segmentRows}
-use Rattle.track.specs.Track as track
+use Rattle.track.specs.Track.{Segments, segmentRows}
 use Rattle.track.specs.Tables.{Tables, cell, rowsFrom, cueAt, segmentsAt}
-use Rattle.track.specs.Meaning.{bytesAt, given, extraIn, cueValues, isCue, areCues, wrapperIn, segmentsIn, cueIn}
+use Rattle.track.specs.Meaning.{cueValues, isCue, areCues, extrasAt, cueIn}
 use Rattle.track.specs.Layout.{joinedCells, each, flag, rowsCells, optionalCells, cueCells, cueTimes, allSegments, preorder, PlacedCue}
-use Rattle.track.specs.Placing.{All, CueFits, InTurn, shownWrapper, shownSegments, shownCue}
+use Rattle.track.specs.Shown.{shownCue}
+use Rattle.track.specs.Placing.{All, CueFits, InTurn}
 use Rattle.track.proofs.ReadBack.{Reads, reads-first, reads-rest}
 use Rattle.track.proofs.ExtrasLaid.{cellsOf, extras-read}
 use Rattle.track.proofs.RowsLaid.{OptionalRead, optional-long, optional-read, flag-is, four, on}
 use Rattle.track.proofs.SegmentsLaid.{Stand, stand-append, rows-many, segments-read}
-
-module _ (T : Tables) where
-  shows-wrapper : (w : Wrapper Span) → wrapperIn T w ≡ shownWrapper (T .strings) w
-  unfolding shownWrapper
-  shows-wrapper track.bold = refl
-  shows-wrapper track.italic = refl
-  shows-wrapper track.underline = refl
-  shows-wrapper track.strike = refl
-  shows-wrapper (track.color c) = refl
-  shows-wrapper (track.font none s) = refl
-  shows-wrapper (track.font (some a) s) = refl
-
-  pub shows-segments : (s : Segments Span) → segmentsIn T s ≡ shownSegments (T .strings) (T .texts) s
-  unfolding segmentsIn shownSegments
-  shows-segments track.done = refl
-  shows-segments (track.text s x) = rw (shows-segments x)
-  shows-segments (track.break x) = rw (shows-segments x)
-  shows-segments (track.timestamp t x) = rw (shows-segments x)
-  shows-segments (track.wrap w c x) = rw (shows-wrapper w, shows-segments c, shows-segments x)
 
 cue-long : (x : Cue) → length (cueCells x) ≡ 11
 unfolding cueCells
@@ -121,21 +100,13 @@ module _ (T : Tables) (z y : List ℕ) (most : ℕ) where
         (segments-read (T .segments) (T .reveal) (T .sizes) z y (x .segments) 512 from (f .nested) (f .segments) (s .rows) .0)
 
     -- the cue, whatever reads its segments
-    abbrev cueWith : (ℕ → ℕ → Segments (List ℕ)) → track.Cue (List ℕ)
+    abbrev cueWith : (ℕ → ℕ → Segments Span) → PlacedCue
     cueWith g =
         let x = cueAt (T .cues) (T .times) i in
-        record {
-          start = x .start;
-          end = x .end;
-          style = given (x .«has_style») (bytesAt (T .strings) (x .style));
-          region = given (x .«has_region») (bytesAt (T .strings) (x .region));
-          preserve = x .preserve;
-          extras = rowsFrom (extraIn T) (x .extras .count) (x .extras .first);
-          segments = g (x .segments .count) (x .segments .first);
-        }
+        record { cue = x; extras = extrasAt T (x .extras); segments = g (x .segments .count) (x .segments .first) }
 
-    cue-with : (g : ℕ → ℕ → Segments (List ℕ)) → g (segmentRows (x .segments)) from ≡ shownSegments (T .strings) (T .texts) (x .segments)
-        → cueWith g ≡ shownCue (T .strings) (T .texts) x
+    cue-with : (g : ℕ → ℕ → Segments Span) → g (segmentRows (x .segments)) from ≡ x .segments
+        → shownCue (T .strings) (T .texts) (cueWith g) ≡ shownCue (T .strings) (T .texts) x
     unfolding cueAt cell shownCue
     cue-with g e =
         rw (
@@ -160,11 +131,8 @@ module _ (T : Tables) (z y : List ℕ) (most : ℕ) where
     cue-means : cueIn T i ≡ shownCue (T .strings) (T .texts) x
     unfolding cueIn
     cue-means =
-        cue-with (λ n j. segmentsIn T (segmentsAt (T .segments) (T .reveal) (T .sizes) 512 n j))
-        (
-        ap (segmentsIn T) (segments-read (T .segments) (T .reveal) (T .sizes) z y (x .segments) 512 from (f .nested) (f .segments) (s .rows) .1)
-        ∙ shows-segments T (x .segments)
-        )
+        cue-with (λ n j. segmentsAt (T .segments) (T .reveal) (T .sizes) 512 n j)
+        (segments-read (T .segments) (T .reveal) (T .sizes) z y (x .segments) 512 from (f .nested) (f .segments) (s .rows) .1)
 
   pub cues-read :
       (l : List PlacedCue) (from i : ℕ) → Reads 0 (T .cues) (i * 11) (joinedCells (λ x. cueCells (x .cue)) l)

@@ -15,10 +15,12 @@ use borrow.Author.Tests.{lt-ltb, le-leb}
 use Rattle.track.specs.declared.values.Extra.{Extra}
 use Rattle.track.specs.declared.values.Rows.{Rows}
 use Rattle.track.specs.Tables.{Tables, cell, rowsFrom, extraAt}
-use Rattle.track.specs.Meaning.{isExtra, areExtras, hasExtras, extraIn}
+use Rattle.track.specs.Meaning.{isExtra, areExtras, hasExtras}
 use Rattle.track.specs.Layout.{joinedCells, each, extraCells, layExtras, styleExtras, regionExtras, cueExtras, Placed, PlacedStyle}
 use Rattle.track.specs.Layout.{PlacedRegion, PlacedCue}
-use Rattle.track.specs.Placing.{All, Rising, ExtrasFit, shownExtra, Laid, laidStyle, laidRegion, laidCue, laid, Apart, AllApart}
+use Rattle.track.specs.Shown.{shownExtra}
+use Rattle.track.specs.Placing.{All, Rising, ExtrasFit, Laid, laidStyle, laidRegion, laidCue, laid, Apart, AllApart}
+use Rattle.track.proofs.ShownLaws.{extrasIn}
 use Rattle.track.proofs.ReadBack.{Reads, reads-rest, reads-set, reads-kept}
 
 -- the cells of extras
@@ -32,7 +34,7 @@ cells-many (x ∷ l) = omega (arith, cells-many l)
 
 module _ (T : Tables) (z : List ℕ) (most : ℕ) where
   list-read : (l : List Extra) (least i : ℕ) → Reads 0 (T .extras) (i * 3) (cellsOf l) → Rising z most least l
-      → (areExtras (T .extras) z most least (length l) i ≡ true) × (rowsFrom (extraIn T) (length l) i ≡ each (shownExtra (T .strings)) l)
+      → (areExtras (T .extras) z most least (length l) i ≡ true) × (extrasIn (T .extras) (T .strings) (length l) i ≡ each (shownExtra (T .strings)) l)
   unfolding joinedCells extraCells areExtras isExtra rowsFrom each shownExtra extraAt cell
   list-read [] least i h r = (refl, refl)
   list-read (x ∷ l) least i h r =
@@ -44,7 +46,8 @@ module _ (T : Tables) (z : List ℕ) (most : ℕ) where
       (rw (a, b, c, le-leb least (x .number) (r .0), lt-ltb (x .number) most (r .1), r .2, q .0), rw (a, b, c, q .1))
 
   pub extras-read : (x : Rows) (l : List Extra) → ExtrasFit z most x l → Reads 0 (T .extras) (x .first * 3) (cellsOf l)
-      → (hasExtras (T .extras) z most (x .first) (x .count) ≡ true) × (rowsFrom (extraIn T) (x .count) (x .first) ≡ each (shownExtra (T .strings)) l)
+      → (hasExtras (T .extras) z most (x .first) (x .count) ≡ true)
+      × (extrasIn (T .extras) (T .strings) (x .count) (x .first) ≡ each (shownExtra (T .strings)) l)
   unfolding hasExtras
   extras-read x l f h =
       let q = list-read l 0 (x .first) h (f .rising) in

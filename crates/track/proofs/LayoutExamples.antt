@@ -19,8 +19,8 @@ use Rattle.track.specs.Track as track
 use Rattle.track.specs.Tables.{Lengths, span, rowsOf, zeroFloat}
 use Rattle.track.specs.Meaning.{isSpan, every, isUtf8, lookIn, trackIn}
 use Rattle.track.specs.Layout.{Placed, each, preorder, wrapperOf, allSegments, layout}
-use Rattle.track.specs.Placing.{Fits, depth, laid, laidStyle, laidRegion, laidCue, shownExtra, shownParam, shownChain, shownStyle}
-use Rattle.track.specs.Placing.{shownRegion, shownWrapper, shownSegments, shownCue, shown}
+use Rattle.track.specs.Placing.{Fits, depth, laid, laidStyle, laidRegion, laidCue}
+use Rattle.track.specs.Shown.{shownExtra, shownParam, shownChain, shownStyle, shownRegion, shownWrapper, shownSegments, shownCue, shown}
 use Rattle.track.proofs.LayoutLaws.{layout-means}
 
 -- e n s r, and A B

@@ -18,14 +18,15 @@ use Rattle.track.specs.declared.strings.Span.{Span}
 use Rattle.track.specs.Tables.{Tables, Lengths, lengths, LongEnough, zeroFloat, sizeCell, rowsFrom}
 use Rattle.track.specs.declared.check.Check.{Check}
 use Rattle.track.specs.Steps.{checkOf}
-use Rattle.track.specs.Meaning.{isParam, isStyle, isRegion, areCues, allRows, withinLimits, bytesMean, rowsMean, isTrack, paramIn, styleIn}
+use Rattle.track.specs.Meaning.{isParam, isStyle, isRegion, areCues, allRows, withinLimits, bytesMean, rowsMean, isTrack, styleIn}
 use Rattle.track.specs.Meaning.{regionIn, cueIn, trackAt, trackIn}
 use Rattle.track.specs.Layout.{joinedCells, each, optionalCells, paramCells, styleCells, regionCells, cueCells, cueTimes, styleSize}
 use Rattle.track.specs.Layout.{allSegments, filledSizes, Placed, PlacedStyle, headCells, layout}
-use Rattle.track.specs.Placing.{All, ParamFits, StyleFits, RegionFits, CueFits, Fits, laidStyle, laidRegion, laidCue, laid, shownParam}
-use Rattle.track.specs.Placing.{shownStyle, shownRegion, shownCue, shown}
+use Rattle.track.specs.Placing.{All, ParamFits, StyleFits, RegionFits, CueFits, Fits, laidStyle, laidRegion, laidCue, laid}
+use Rattle.track.specs.Shown.{shownParam, shownStyle, shownRegion, shownCue, shown}
 use Rattle.track.proofs.Answers.{long-full}
 use Rattle.track.proofs.Exactly.{check-track}
+use Rattle.track.proofs.ShownLaws.{paramIn, params-in, styles-in, regions-in, cues-in}
 use Rattle.track.proofs.ReadBack.{Reads, AllAt, reads-here, reads-after, reads-first, reads-rest, rows-at, at-both, rows-mean, all-append}
 use Rattle.track.proofs.ReadBack.{all-each, all-join, each-all, all-both, each-many}
 use Rattle.track.proofs.ExtrasLaid.{Sits, Stays, extrasLaid, laid-long, laid-extras}
@@ -167,12 +168,16 @@ module _ (T : Tables) (k : Placed) (u v : ℕ) (h : Holds T k u v) (f : Fits k (
   read =
       rw (
         lang-read .bare,
+        params-in T,
         h .many-params,
         params-read .1,
+        styles-in T,
         h .many-styles,
         styles-read .1,
+        regions-in T,
         h .many-regions,
         regions-read .1,
+        cues-in T,
         h .many-cues,
         cues-mean .1,
       )

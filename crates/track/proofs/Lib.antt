@@ -10,6 +10,7 @@ pub mod Exactly
 pub mod Answers
 pub mod CueRows
 pub mod Accepted
+pub mod ShownLaws
 pub mod Valid
 pub mod ReadBack
 pub mod ExtrasLaid

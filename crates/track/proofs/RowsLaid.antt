@@ -22,10 +22,12 @@ use Rattle.track.specs.declared.values.Look.{Look}
 use Rattle.track.specs.declared.values.Style.{Style}
 use Rattle.track.specs.Tables.{Tables, cell, span, optional, sizeCell, paramAt, regionAt, styleAt, colorAt, sizeAt, alignAt, lookAt}
 use Rattle.track.specs.Meaning.{isOptional, isByte, areThree, isColor, isSizeAt, isFlag, isParam, isRegion, isStyle, styleStrings}
-use Rattle.track.specs.Meaning.{styleValues, styleFlags, bytesAt, given, lookIn, paramIn, regionIn, styleIn}
+use Rattle.track.specs.Meaning.{styleValues, styleFlags, bytesAt, given, lookIn, regionIn, styleIn}
 use Rattle.track.specs.Layout.{flag, spanCells, optionalCells, colorCells, sizeCells, sizeValue, styleSize, alignCell, paramCells}
 use Rattle.track.specs.Layout.{regionCells, flagCells, lookCells, styleCells, PlacedStyle, PlacedRegion}
-use Rattle.track.specs.Placing.{WithinIf, ColorIf, SizeIf, ParamFits, RegionFits, StyleFits, shownParam, shownRegion, shownStyle, shownChain}
+use Rattle.track.specs.Placing.{WithinIf, ColorIf, SizeIf, ParamFits, RegionFits, StyleFits}
+use Rattle.track.specs.Shown.{shownParam, shownRegion, shownStyle, shownChain}
+use Rattle.track.proofs.ShownLaws.{paramIn}
 use Rattle.track.proofs.ReadBack.{Reads, reads-first, reads-rest}
 use Rattle.track.proofs.ExtrasLaid.{cellsOf, extras-read}
 

@@ -26,8 +26,10 @@ use Rattle.track.specs.Tables.{Tables, cell, span, rowsFrom, optional, e
 use Rattle.track.specs.Tables.{siblingsAt, segmentsAt, cueAt, paramCount, styleCount, regionCount, cueCount, segmentCount, stringsUsed}
 use Rattle.track.specs.Tables.{textsUsed}
 use Rattle.track.specs.Meaning.{isSpan, isOptional, areExtras, hasExtras, isParam, isStyle, isRegion, isSegment, areSiblings, areSegments}
-use Rattle.track.specs.Meaning.{isCue, isUtf8, isTrack, bytesAt, given, lookIn, extraIn, paramIn, styleIn, regionIn, segmentsIn, cueIn}
-use Rattle.track.specs.Meaning.{trackAt, trackIn}
+use Rattle.track.specs.Meaning.{isCue, isUtf8, isTrack, styleIn, regionIn, cueIn, trackAt, trackIn}
+use Rattle.track.specs.Layout.{each}
+use Rattle.track.specs.Shown.{bytesAt, given, lookIn, shownExtra, shownSegments}
+use Rattle.track.proofs.ShownLaws.{extrasIn, paramIn, lang-in, params-in, styles-in, regions-in, cues-in}
 use Rattle.track.proofs.Spans.{span-within}
 use Rattle.track.proofs.StringLaws.{four, span-utf8, given-span, string-used}
 use Rattle.track.proofs.RowParts.{param-parts, style-parts, region-parts, cue-parts, first-extra, extras-are}
@@ -102,15 +104,15 @@ module _ (T : Tables) (u : ℕ) (h : isUtf8 (take u (T .strings)) ≡ true) wher
   pub chain-ok : (p n : ℕ) → isSpan (take u s) p n ≡ true → OfOption Utf8 (cond (eqb n 0) none (some (stringAt s p n)))
   chain-ok p n e = by-test (eqb n 0) (λ q. rw q tt) (λ q. rw q (string-ok s u h p n e))
 
-  extras-from : (most least n i : ℕ) → areExtras (T .extras) (take u s) most least n i ≡ true → OfExtras Utf8 (rowsFrom (extraIn T) n i)
-  unfolding rowsFrom extraAt
+  extras-from : (most least n i : ℕ) → areExtras (T .extras) (take u s) most least n i ≡ true → OfExtras Utf8 (extrasIn (T .extras) s n i)
+  unfolding rowsFrom extraAt each shownExtra
   extras-from most least zero i e = tt
   extras-from most least (suc n) i e =
       let t = T .extras in
       let a = first-extra t (take u s) most least n i e in
       (string-ok s u h (cell 3 t i 1) (cell 3 t i 2) (a .0 .value), extras-from most (cell 3 t i 0 + 1) n (i + 1) (a .1))
 
-  pub extras-ok : (most first n : ℕ) → hasExtras (T .extras) (take u s) most first n ≡ true → OfExtras Utf8 (rowsFrom (extraIn T) n first)
+  pub extras-ok : (most first n : ℕ) → hasExtras (T .extras) (take u s) most first n ≡ true → OfExtras Utf8 (extrasIn (T .extras) s n first)
   extras-ok most first n e = extras-from most 0 n first (extras-are (T .extras) (take u s) most first n e)
 
   pub param-utf8 : (i : ℕ) → isParam (T .params) (take u s) i ≡ true → OfParam Utf8 (paramIn T i)
@@ -143,10 +145,10 @@ module _ (T : Tables) (u : ℕ) (h : isUtf8 (take u (T .strings)) ≡ true) wher
     x = T .texts
 
     abbrev Good : Segments Span → Type 0
-    Good k = OfSegments Utf8 (segmentsIn T k)
+    Good k = OfSegments Utf8 (shownSegments s x k)
 
     followed-utf8 : (k : Segment) (m : ℕ) → Holds (take u s) (take v x) m k → (c a : Segments Span) → Good c → Good a → Good (followedBy k c a)
-    unfolding segmentsIn
+    unfolding shownSegments
     followed-utf8 (Segment.Text w) m e c a p q = (string-ok x v g (w .place) (w .len) (e .1), q)
     followed-utf8 Segment.Break m e c a p q = q
     followed-utf8 (Segment.Timestamp w) m e c a p q = q
@@ -173,7 +175,7 @@ module _ (T : Tables) (u : ℕ) (h : isUtf8 (take u (T .strings)) ≡ true) wher
 
     siblings-utf8 : (kids : ℕ → ℕ → Bool) (ks : ℕ → ℕ → Segments Span) → ((m j : ℕ) → kids m j ≡ true → Good (ks m j)) → (n k i : ℕ)
         → areSiblings t f (take u s) (take v x) kids n k i ≡ true → Good (siblingsAt t r f ks n k i)
-    unfolding areSiblings siblingsAt segmentsIn
+    unfolding areSiblings siblingsAt shownSegments
     siblings-utf8 kids ks w zero k i e = tt
     siblings-utf8 kids ks w (suc n) (suc k) i e = siblings-utf8 kids ks w n k (i + 1) e
     siblings-utf8 kids ks w (suc n) zero i e =
@@ -186,7 +188,7 @@ module _ (T : Tables) (u : ℕ) (h : isUtf8 (take u (T .strings)) ≡ true) wher
         (w (m - 1) (i + 1) (b .3)) (siblings-utf8 kids ks w n (m - 1) (i + 1) (a .1))
 
     pub segments-utf8 : (d n i : ℕ) → areSegments t f (take u s) (take v x) d n i ≡ true → Good (segmentsAt t r f d n i)
-    unfolding areSegments segmentsAt segmentsIn
+    unfolding areSegments segmentsAt shownSegments
     segments-utf8 zero n i e = tt
     segments-utf8 (suc d) n i e = siblings-utf8 (areSegments t f (take u s) (take v x) d) (segmentsAt t r f d) (segments-utf8 d) n 0 i e
 
@@ -208,17 +210,17 @@ lang-utf8 T u h c p n e =
     by-test (eqb c 1) (λ q. rw q (string-ok (T .strings) u h p n (given-span (take u (T .strings)) p n (rw (eqb-true c 1 q) at e)))) (λ q. rw q tt)
 
 pub track-utf8 : (T : Tables) → isTrack T ≡ true → OfTrack Utf8 (trackAt T)
-unfolding trackAt
 track-utf8 T h =
     let t = T .head in
     let u = stringsUsed t in
     let a = strings-ok T h in
     let b = texts-ok T h in (
-      lang-utf8 T u a (getD t 5 0) (getD t 6 0) (getD t 7 0) (lang-ok T h),
-      of-rows (OfParam Utf8) (paramIn T) (paramCount t) 0 (λ j l. param-utf8 T u a j (param-ok T h j (omega arith))),
-      of-rows (OfStyle Utf8) (styleIn T) (styleCount t) 0 (λ j l. style-utf8 T u a j (style-ok T h j (omega arith))),
-      of-rows (OfRegion Utf8) (regionIn T) (regionCount t) 0 (λ j l. region-utf8 T u a j (region-ok T h j (omega arith))),
-      of-rows (OfCue Utf8) (cueIn T) (cueCount t) 0 (λ j l. cue-utf8 T u a (textsUsed t) b (segmentCount t) j (cue-ok T h j (omega arith) .0)),
+      rw (lang-in T) (lang-utf8 T u a (getD t 5 0) (getD t 6 0) (getD t 7 0) (lang-ok T h)),
+      rw (params-in T) (of-rows (OfParam Utf8) (paramIn T) (paramCount t) 0 (λ j l. param-utf8 T u a j (param-ok T h j (omega arith)))),
+      rw (styles-in T) (of-rows (OfStyle Utf8) (styleIn T) (styleCount t) 0 (λ j l. style-utf8 T u a j (style-ok T h j (omega arith)))),
+      rw (regions-in T) (of-rows (OfRegion Utf8) (regionIn T) (regionCount t) 0 (λ j l. region-utf8 T u a j (region-ok T h j (omega arith)))),
+      rw (cues-in T)
+          (of-rows (OfCue Utf8) (cueIn T) (cueCount t) 0 (λ j l. cue-utf8 T u a (textsUsed t) b (segmentCount t) j (cue-ok T h j (omega arith) .0))),
     )
 
 pub accepted-utf8 : (T : Tables) (k : Track Bytes) → trackIn T ≡ some k → OfTrack Utf8 k

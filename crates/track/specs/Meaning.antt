@@ -10,14 +10,14 @@ use Rattle.scan.specs.Part.{stringAt}
 use Rattle.scan.specs.Bytes.{attrNameByte}
 use Rattle.unicode.specs.Utf8.{boundary, utf8End}
 use Rattle.decimals.specs.Size.{isSize}
-use Rattle.track.specs.declared.strings.Span.{Span}
+use Rattle.track.specs.declared.values.Extra.{Extra}
 use Rattle.track.specs.declared.values.Rows.{Rows}
-use Rattle.track.specs.declared.values.Look as values
-use Rattle.track.specs.Track.{Bytes, Extra, Param, Look, Style, Region, Wrapper, Segments, Cue, Track}
-use Rattle.track.specs.Track as track
+use Rattle.track.specs.Track.{Bytes, Style, Region, Cue, Track}
 use Rattle.track.specs.Tables.{Tables, cell, span, rowsFrom, sizeCell, extraAt, paramAt, styleAt, regionAt, segmentsAt, cueAt}
 use Rattle.track.specs.Tables.{paramCount, styleCount, regionCount, cueCount, segmentCount, stringsUsed, textsUsed}
-use Rattle.track.specs.Tables as tables
+use Rattle.track.specs.Layout.{Placed, PlacedStyle, PlacedRegion, PlacedCue}
+use Rattle.track.specs.Shown.{shownStyle, shownRegion, shownCue, shown}
+unfoldable pub use Rattle.track.specs.Shown.{bytesAt, given, lookIn}
 
 -- ---- cells
 unfoldable pub isFlag : ℕ → Bool
@@ -199,101 +199,57 @@ isTrack T =
     withinLimits t && bytesMean t z y && rowsMean t (T .params) (T .styles) (T .regions) (T .sizes) (T .extras) z
     && areCues (T .cues) (T .extras) (T .segments) (T .sizes) z y (segmentCount t) 0 (cueCount t) 0
 
--- ---- the track, its strings with their bytes
-abbrev pub bytesAt : List ℕ → Span → List ℕ
-bytesAt z x = stringAt z (x .place) (x .len)
-
--- a part that is there where its flag is set
-abbrev pub given : {A : Type 0} → Bool → A → Option A
-given b x = cond b (some x) none
-
--- what a style says; z are the bytes of the strings
-unfoldable pub lookIn : List ℕ → values.Look → Look Bytes
-lookIn z l = record {
-  color = given (l .«has_color») (l .color);
-  back = given (l .«has_back») (l .back);
-  family = given (l .«has_family») (bytesAt z (l .family));
-  size = given (l .«has_size») (l .size);
-  bold = l .bold;
-  italic = l .italic;
-  underline = l .underline;
-  strike = l .strike;
-  align = l .align;
-}
-
+-- ---- the track
+-- the placed track: what the rows say
 module _ (T : Tables) where
-  abbrev pub string : Span → List ℕ
-  string x = bytesAt (T .strings) x
+  abbrev pub extrasAt : Rows → List Extra
+  extrasAt x = rowsFrom (extraAt (T .extras)) (x .count) (x .first)
 
-  abbrev pub extraIn : ℕ → Extra Bytes
-  extraIn i = let x = tables.extraAt (T .extras) i in record { number = x .number; value = string (x .value) }
+  unfoldable pub placedStyle : ℕ → PlacedStyle
+  unfolding styleAt extraAt rowsFrom
+  placedStyle i = let x = styleAt (T .styles) (T .sizes) i in record { style = x; extras = extrasAt (x .extras) }
 
-  abbrev pub extrasIn : Rows → List (Extra Bytes)
-  extrasIn x = rowsFrom extraIn (x .count) (x .first)
-
-  unfoldable pub paramIn : ℕ → Param Bytes
-  unfolding paramAt
-  paramIn i = let x = paramAt (T .params) i in record { name = string (x .name); value = string (x .value) }
-
-  -- a chain without bytes is none
-  abbrev pub chainOf : Span → Option (List ℕ)
-  chainOf x = cond (eqb (x .len) 0) none (some (string x))
-
-  unfoldable pub styleIn : ℕ → Style Bytes
-  unfolding styleAt extraAt rowsFrom lookIn
-  styleIn i =
-      let x = styleAt (T .styles) (T .sizes) i in
-      record {
-        name = string (x .name);
-        chain = chainOf (x .chain);
-        look = lookIn (T .strings) (x .look);
-        extras = extrasIn (x .extras);
-      }
-
-  unfoldable pub regionIn : ℕ → Region Bytes
+  unfoldable pub placedRegion : ℕ → PlacedRegion
   unfolding regionAt extraAt rowsFrom
-  regionIn i = let x = regionAt (T .regions) i in record { id = string (x .id); extras = extrasIn (x .extras) }
+  placedRegion i = let x = regionAt (T .regions) i in record { region = x; extras = extrasAt (x .extras) }
 
-  abbrev pub wrapperIn : Wrapper Span → Wrapper (List ℕ)
-  wrapperIn track.bold = track.bold
-  wrapperIn track.italic = track.italic
-  wrapperIn track.underline = track.underline
-  wrapperIn track.strike = track.strike
-  wrapperIn (track.color c) = track.color c
-  wrapperIn (track.font none s) = track.font none s
-  wrapperIn (track.font (some a) s) = track.font (some (string a)) s
-
-  -- texts stand in a table of their own
-  unfoldable pub segmentsIn : Segments Span → Segments (List ℕ)
-  segmentsIn track.done = track.done
-  segmentsIn (track.text s x) = track.text (bytesAt (T .texts) s) (segmentsIn x)
-  segmentsIn (track.break x) = track.break (segmentsIn x)
-  segmentsIn (track.timestamp t x) = track.timestamp t (segmentsIn x)
-  segmentsIn (track.wrap w c x) = track.wrap (wrapperIn w) (segmentsIn c) (segmentsIn x)
-
-  unfoldable pub cueIn : ℕ → Cue Bytes
-  unfolding cueAt segmentsAt segmentsIn extraAt rowsFrom
-  cueIn i =
+  unfoldable pub placedCue : ℕ → PlacedCue
+  unfolding cueAt segmentsAt extraAt rowsFrom
+  placedCue i =
       let x = cueAt (T .cues) (T .times) i in
       record {
-        start = x .start;
-        end = x .end;
-        style = given (x .«has_style») (string (x .style));
-        region = given (x .«has_region») (string (x .region));
-        preserve = x .preserve;
-        extras = extrasIn (x .extras);
-        segments = segmentsIn (segmentsAt (T .segments) (T .reveal) (T .sizes) 512 (x .segments .count) (x .segments .first));
+        cue = x;
+        extras = extrasAt (x .extras);
+        segments = segmentsAt (T .segments) (T .reveal) (T .sizes) 512 (x .segments .count) (x .segments .first);
       }
 
-  unfoldable pub trackAt : Track Bytes
-  unfolding rowsFrom paramIn styleIn regionIn cueIn
-  trackAt = record {
-    lang = given (eqb (getD (T .head) 5 0) 1) (string (span (getD (T .head) 6 0) (getD (T .head) 7 0)));
-    params = rowsFrom paramIn (paramCount (T .head)) 0;
-    styles = rowsFrom styleIn (styleCount (T .head)) 0;
-    regions = rowsFrom regionIn (regionCount (T .head)) 0;
-    cues = rowsFrom cueIn (cueCount (T .head)) 0;
+  unfoldable pub placedIn : Placed
+  unfolding rowsFrom paramAt placedStyle placedRegion placedCue
+  placedIn = record {
+    «has_lang» = eqb (getD (T .head) 5 0) 1;
+    lang = span (getD (T .head) 6 0) (getD (T .head) 7 0);
+    params = rowsFrom (paramAt (T .params)) (paramCount (T .head)) 0;
+    styles = rowsFrom placedStyle (styleCount (T .head)) 0;
+    regions = rowsFrom placedRegion (regionCount (T .head)) 0;
+    cues = rowsFrom placedCue (cueCount (T .head)) 0;
   }
+
+  -- a style, a region, a cue by itself
+  unfoldable pub styleIn : ℕ → Style Bytes
+  unfolding placedStyle shownStyle
+  styleIn i = shownStyle (T .strings) (placedStyle i)
+
+  unfoldable pub regionIn : ℕ → Region Bytes
+  unfolding placedRegion shownRegion
+  regionIn i = shownRegion (T .strings) (placedRegion i)
+
+  unfoldable pub cueIn : ℕ → Cue Bytes
+  unfolding placedCue shownCue
+  cueIn i = shownCue (T .strings) (T .texts) (placedCue i)
+
+  unfoldable pub trackAt : Track Bytes
+  unfolding placedIn shown
+  trackAt = shown placedIn (T .strings) (T .texts)
 
 -- what the tables mean: the track that they hold, or none
 unfoldable pub trackIn : Tables → Option (Track Bytes)

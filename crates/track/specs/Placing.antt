@@ -1,12 +1,11 @@
--- What a placed track shows, and when it fits its tables (`Layout`). Definitions alone.
+-- When a placed track fits its tables (`Layout`). Definitions alone.
 use Prim.Native.Nat.{ℕ, _+_, _≤_, _<_, max}
 use mathlib.Core.Path.{_≡_}
-use mathlib.Core.Bool.{Bool, true, cond}
+use mathlib.Core.Bool.{Bool, true}
 use mathlib.Core.List.{List, [], _∷_, _++_}
 use mathlib.Core.Logic.{_⊎_}
 use mathlib.Core.Option.{Option, none, some}
 use lib.ListN.{length, take}
-use lib.Dec.{eqb}
 use Rattle.scan.specs.Part.{stringAt}
 use Rattle.scan.specs.Bytes.{attrNameByte}
 use Rattle.colors.specs.declared.read.Rgba.{Rgba}
@@ -16,77 +15,10 @@ use Rattle.track.specs.declared.strings.Span.{Span}
 use Rattle.track.specs.declared.values.Param.{Param}
 use Rattle.track.specs.declared.values.Extra.{Extra}
 use Rattle.track.specs.declared.values.Rows.{Rows}
-use Rattle.track.specs.Track.{Bytes, Wrapper, Segments, Track, segmentRows}
+use Rattle.track.specs.Track.{Wrapper, Segments, segmentRows}
 use Rattle.track.specs.Track as track
-use Rattle.track.specs.Meaning.{isSpan, every, isUtf8, bytesAt, given, lookIn}
+use Rattle.track.specs.Meaning.{isSpan, every, isUtf8}
 use Rattle.track.specs.Layout.{Placed, PlacedStyle, PlacedRegion, PlacedCue, each, allSegments}
-
--- ---- what it shows: z are the bytes of its strings, y those of its texts
-unfoldable pub shownExtra : List ℕ → Extra → track.Extra Bytes
-shownExtra z x = record { number = x .number; value = bytesAt z (x .value) }
-
-unfoldable pub shownParam : List ℕ → Param → track.Param Bytes
-shownParam z x = record { name = bytesAt z (x .name); value = bytesAt z (x .value) }
-
--- a chain without bytes is none
-unfoldable pub shownChain : List ℕ → Span → Option Bytes
-shownChain z x = cond (eqb (x .len) 0) none (some (bytesAt z x))
-
-unfoldable pub shownStyle : List ℕ → PlacedStyle → track.Style Bytes
-unfolding each shownExtra shownChain lookIn
-shownStyle z x =
-    let s = x .style in
-    record {
-      name = bytesAt z (s .name);
-      chain = shownChain z (s .chain);
-      look = lookIn z (s .look);
-      extras = each (shownExtra z) (x .extras);
-    }
-
-unfoldable pub shownRegion : List ℕ → PlacedRegion → track.Region Bytes
-unfolding each shownExtra
-shownRegion z x = record { id = bytesAt z (x .region .id); extras = each (shownExtra z) (x .extras) }
-
-unfoldable pub shownWrapper : List ℕ → Wrapper Span → Wrapper Bytes
-shownWrapper z track.bold = track.bold
-shownWrapper z track.italic = track.italic
-shownWrapper z track.underline = track.underline
-shownWrapper z track.strike = track.strike
-shownWrapper z (track.color c) = track.color c
-shownWrapper z (track.font none s) = track.font none s
-shownWrapper z (track.font (some a) s) = track.font (some (bytesAt z a)) s
-
-unfoldable pub shownSegments : (z y : List ℕ) → Segments Span → Segments Bytes
-unfolding shownWrapper
-shownSegments z y track.done = track.done
-shownSegments z y (track.text s x) = track.text (bytesAt y s) (shownSegments z y x)
-shownSegments z y (track.break x) = track.break (shownSegments z y x)
-shownSegments z y (track.timestamp t x) = track.timestamp t (shownSegments z y x)
-shownSegments z y (track.wrap w c x) = track.wrap (shownWrapper z w) (shownSegments z y c) (shownSegments z y x)
-
-unfoldable pub shownCue : (z y : List ℕ) → PlacedCue → track.Cue Bytes
-unfolding each shownExtra shownSegments
-shownCue z y x =
-    let c = x .cue in
-    record {
-      start = c .start;
-      end = c .end;
-      style = given (c .«has_style») (bytesAt z (c .style));
-      region = given (c .«has_region») (bytesAt z (c .region));
-      preserve = c .preserve;
-      extras = each (shownExtra z) (x .extras);
-      segments = shownSegments z y (x .segments);
-    }
-
-unfoldable pub shown : Placed → (z y : List ℕ) → Track Bytes
-unfolding each shownParam shownStyle shownRegion shownCue
-shown k z y = record {
-  lang = given (k .«has_lang») (bytesAt z (k .lang));
-  params = each (shownParam z) (k .params);
-  styles = each (shownStyle z) (k .styles);
-  regions = each (shownRegion z) (k .regions);
-  cues = each (shownCue z y) (k .cues);
-}
 
 -- ---- when it fits: z are the used bytes of the strings, y those of the texts
 abbrev pub All : {A : Type 0} → (A → Type 0) → List A → Type 0

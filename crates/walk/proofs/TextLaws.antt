@@ -17,7 +17,8 @@ use Rattle.track.specs.declared.segments.Segment.{Segment}
 use Rattle.track.specs.Track.{Segments}
 use Rattle.track.specs.Track as track
 use Rattle.track.specs.Tables.{Tables, cell, segmentAt, segmentsAt, cueAt, cueCount, segmentCount, textsUsed}
-use Rattle.track.specs.Meaning.{isTrack, areSegments, segmentsIn, cueIn}
+use Rattle.track.specs.Meaning.{isTrack, areSegments, cueIn}
+use Rattle.track.specs.Shown.{shownSegments}
 use Rattle.track.specs.Steps.{rowsFull, restFull, isFull}
 use Rattle.track.proofs.Spans.{span-within}
 use Rattle.track.proofs.StringLaws.{string-used}
@@ -28,8 +29,8 @@ use Rattle.track.proofs.RowParts.{CueParts, cue-parts}
 use Rattle.walk.specs.Text.{plainText, textOf, ownText, WalkReady}
 use Rattle.walk.proofs.Walking.{text-none, text-step}
 
-pub text-means : (T : Tables) (s : Segments Span) → plainText (T .texts) s ≡ textOf (segmentsIn T s)
-unfolding plainText textOf segmentsIn
+pub text-means : (T : Tables) (s : Segments Span) → plainText (T .texts) s ≡ textOf (shownSegments (T .strings) (T .texts) s)
+unfolding plainText textOf shownSegments
 text-means T track.done = refl
 text-means T (track.text s x) = rw (text-means T x)
 text-means T (track.break x) = rw (text-means T x)

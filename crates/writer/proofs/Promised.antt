@@ -21,6 +21,7 @@ use Rattle.track.specs.Meaning.{isTrack, cueIn, trackAt, trackIn}
 use Rattle.track.specs.Steps.{isFull, checkOf, refusedAs}
 use Rattle.track.proofs.Answers.{full-long, long-full}
 use Rattle.track.proofs.Exactly.{no-some, track-some, track-none, check-short, check-none, check-track}
+use Rattle.track.proofs.ShownLaws.{cues-in}
 use Rattle.written.specs.Written.{cueWritten}
 use Rattle.writer.specs.declared.calls.Answer.{Answer}
 use Rattle.writer.specs.Promise.{numberOf, placeOf, bytesOf, cueNumbered, cueNumber, Outcome, gives, meets, fits, ofText, Comes}
@@ -100,12 +101,10 @@ cue-past g (suc n) j (suc i) h = cue-past g n (j + 1) i (omega arith)
 
 module _ (T : Tables) (i : ℕ) where
   cue-text : i < cueCount (T .head) → cueNumber i (trackAt T) ≡ some (cueWritten (cueIn T i))
-  unfolding trackAt
-  cue-text h = cue-there (cueIn T) (cueCount (T .head)) 0 i h ∙ rw (zero-add i) refl
+  cue-text h = ap (cueNumbered i) (cues-in T) ∙ (cue-there (cueIn T) (cueCount (T .head)) 0 i h ∙ rw (zero-add i) refl)
 
   cue-none : cueCount (T .head) ≤ i → cueNumber i (trackAt T) ≡ none
-  unfolding trackAt
-  cue-none h = cue-past (cueIn T) (cueCount (T .head)) 0 i h
+  cue-none h = ap (cueNumbered i) (cues-in T) ∙ cue-past (cueIn T) (cueCount (T .head)) 0 i h
 
   module _ (lent left : List ℕ) (r : Answer) (e : checkOf T ≡ Check.Track) where
     pub promise-past :
