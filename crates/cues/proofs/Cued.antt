@@ -52,8 +52,9 @@ use Rattle.cues.specs.declared.lines.Line.{Line}
 use Rattle.cues.specs.declared.lines.Lining.{Lining}
 use Rattle.cues.specs.declared.paragraph.Styled.{Styled}
 use Rattle.cues.specs.declared.paragraph.Part.{Part}
-use Rattle.cues.specs.declared.sums.Interval.{Interval}
-use Rattle.cues.specs.Steps.{stopping, intervalFrom, endedFrom, begunFrom, intervalOf, onward, StyledGiven, PartIs}
+use Rattle.intervals.specs.declared.Interval.{Interval}
+use Rattle.intervals.specs.Steps.{stopping, intervalFrom, endedFrom, begunFrom, intervalOf}
+use Rattle.cues.specs.Steps.{onward, StyledGiven, PartIs}
 use Rattle.cues.specs.Steps.{CueTables, Base, Child, AsksChild, ParagraphPost}
 use Rattle.cues.specs.Steps.{segmentsOfP, AsksSegments, Segmented, SegmentsPost, cueRow, CueAdded, CueOutcome}
 use Rattle.cues.proofs.Lined.{cueWith, blankFrom, blank-later, blank-onward, cue-row, nextFrame, lined-frame, wide-cells, wide-times}

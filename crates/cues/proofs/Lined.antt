@@ -45,7 +45,7 @@ use Rattle.inline.proofs.TrimTexts.{lay-blank}
 use Rattle.content.specs.Steps.{Frame, Standing}
 use Rattle.content.proofs.Standings.{rows-spans, ordered-of, in-turn-of, laid-is, laid-order}
 use Rattle.cues.specs.declared.lines.Line.{Line}
-use Rattle.cues.specs.declared.sums.Interval.{Interval}
+use Rattle.intervals.specs.declared.Interval.{Interval}
 use Rattle.cues.specs.Steps.{onward, cueRow, CueTables, Spacious, Base, rowsOf, Lined}
 
 -- ---- cues, and one more

@@ -44,8 +44,9 @@ use Rattle.styling.specs.Posts.{HasRows, OfRows, spaceIn}
 use Rattle.content.proofs.Reading.{bind-is, bind-no, no-size, row-end}
 use Rattle.cues.specs.declared.lines.Line.{Line}
 use Rattle.cues.specs.declared.lines.Lining.{Lining}
-use Rattle.cues.specs.declared.sums.Moment.{Moment}
-use Rattle.cues.specs.Steps.{momentSaid, beginFrom, startFrom, endFrom, CueTables, Spacious, Base, Lined, Child, Children, AsksChild, AsksCues}
+use Rattle.intervals.specs.declared.Moment.{Moment}
+use Rattle.intervals.specs.Steps.{momentSaid, beginFrom, startFrom, endFrom}
+use Rattle.cues.specs.Steps.{CueTables, Spacious, Base, Lined, Child, Children, AsksChild, AsksCues}
 use Rattle.cues.specs.Steps.{Came, Outcome, ParagraphPost, within, ContainerPost, divIn, DivPost, Closes, childIn, ElementPost}
 use Rattle.cues.specs.Steps.{following, CuesPost, noLine, Bodies, AsksBody, BodyOutcome, BodyPost}
 use Rattle.extras.proofs.Counts.{First, first-found, first-nothing, regroup}

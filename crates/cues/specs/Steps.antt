@@ -3,7 +3,6 @@ use Prim.Native.Nat.{ℕ, _+_, _-_, _*_, _≤_, _<_, _^_}
 use mathlib.Core.Path.{_≡_}
 use mathlib.Core.Bool.{Bool, false, cond, _&&_}
 use mathlib.Core.List.{List, [], _∷_, _++_}
-use mathlib.Core.Option.{Option, none, some}
 use lib.IntN.{ℤ, pos}
 use lib.Ieee.{Float}
 use lib.ListN.{length, replicate}
@@ -30,7 +29,7 @@ use Rattle.meaning.specs.Nodes.{Attr, Nodes, firstElement, valued}
 use Rattle.meaning.specs.Kinds.{withPlaces, attrsIn, nodesIn}
 use Rattle.meaning.specs.Space.{spaceOf, isPreserve}
 use Rattle.meaning.specs.Tracks.{optionBy}
-use Rattle.meaning.specs.Timing.{timeOf, sum, orZero, endOf, lastingTo, isSeq}
+use Rattle.meaning.specs.Timing.{isSeq}
 use Rattle.meaning.specs.Styling.{wrappersOf, inlineExtras}
 use Rattle.meaning.specs.Inline.{contentOf, paragraphOf, counted}
 use Rattle.meaning.specs.Cues.{a-div, a-p, unknown, madeIn, timedOf, styled, pOf, divOf, cuesIn}
@@ -38,81 +37,18 @@ use Rattle.meaning.specs.Cues as meaning
 use Rattle.meaning.specs.Meaning.{bodyOf}
 use Rattle.laid.specs.Laid.{laidCues, cueExtras, cueTexts}
 use Rattle.styling.specs.declared.space.WsMode.{WsMode}
-use Rattle.styling.specs.Posts.{HasRows, OfRows, given, turned, spaceIn}
+use Rattle.styling.specs.Posts.{HasRows, OfRows, turned, spaceIn}
 use Rattle.extras.specs.Kept.{placedCells, rowsFrom}
 use Rattle.extras.specs.Counts.{attrsNamed}
 use Rattle.inline.specs.Stood.{spanIn, spansIn, textsIn, InTurn, Laid}
 use Rattle.inline.specs.Wraps.{three}
 use Rattle.content.specs.Steps.{Roomy, Frame, Content, AsksContent}
+use Rattle.intervals.specs.declared.Interval.{Interval}
+use Rattle.intervals.specs.Steps.{endFrom}
 use Rattle.cues.specs.declared.lines.Line.{Line}
 use Rattle.cues.specs.declared.lines.Lining.{Lining}
 use Rattle.cues.specs.declared.paragraph.Styled.{Styled}
 use Rattle.cues.specs.declared.paragraph.Part.{Part}
-use Rattle.cues.specs.declared.sums.Moment.{Moment}
-use Rattle.cues.specs.declared.sums.Given.{Given}
-use Rattle.cues.specs.declared.sums.Giving.{Giving}
-use Rattle.cues.specs.declared.sums.Interval.{Interval}
-use Rattle.cues.specs.declared.sums.Timed.{Timed}
-
--- ---- times of an element
-
-abbrev pub momentSaid : Moment → Answer ℤ
-momentSaid (Moment.Is z) = is z
-momentSaid (Moment.Refused r) = turned r
-
-abbrev pub timeGiven : Given → Option ℤ
-timeGiven x = given (x .has) (x .time)
-
--- what is absent is 0
-abbrev pub Zeroed : Given → Type 0
-Zeroed x = orZero (timeGiven x) ≡ x .time
-
-abbrev pub AllZeroed : Giving → Type 0
-AllZeroed (Giving.Is x) = Zeroed x
-AllZeroed (Giving.Refused r) = Unit {0}
-
-abbrev pub givingSaid : Giving → Answer (Option ℤ)
-givingSaid (Giving.Is x) = is (timeGiven x)
-givingSaid (Giving.Refused r) = turned r
-
-abbrev pub timedSaid : Timed → Answer Interval
-timedSaid (Timed.Is x) = is x
-timedSaid (Timed.Refused r) = turned r
-
--- a container's own begin; `divOf` up to its start, and from its children's end on
-abbrev pub beginFrom : TimingCtx → (place : ℕ) → List (Attr Placed) → Answer ℤ
-beginFrom ctx place l = timeOf withPlaces ctx place (ascii "begin") l >>= λ begin. is (orZero begin)
-
-abbrev pub startFrom : TimingCtx → (place : ℕ) → ℤ → List (Attr Placed) → Answer ℤ
-startFrom ctx place reference l = timeOf withPlaces ctx place (ascii "begin") l >>= λ begin. sum place reference (orZero begin)
-
-abbrev pub endFrom : TimingCtx → (place : ℕ) → (start children : ℤ) → List (Attr Placed) → Answer ℤ
-endFrom ctx place start children l = timeOf withPlaces ctx place (ascii "dur") l >>= λ dur. lastingTo place start dur children
-
--- the times of `cueOfP`: from its start on; from its sums on; from its dur on; from its end on; all
-abbrev pub stopping : (place : ℕ) → (reference : ℤ) (end dur : Option ℤ) (start : ℤ) → Answer Interval
-stopping place reference end dur start = endOf place reference start end dur >>= λ stop. is (record { start = start; end = stop })
-
-abbrev pub intervalFrom : (place : ℕ) → (reference : ℤ) (begin end dur : Option ℤ) → Answer Interval
-intervalFrom place reference begin end dur = sum place reference (orZero begin) >>= stopping place reference end dur
-
-abbrev pub endedFrom : TimingCtx → (place : ℕ) → (reference : ℤ) (begin end : Option ℤ) → List (Attr Placed) → Answer Interval
-endedFrom ctx place reference begin end l = timeOf withPlaces ctx place (ascii "dur") l >>= intervalFrom place reference begin end
-
-abbrev pub begunFrom : TimingCtx → (place : ℕ) → (reference : ℤ) (begin : Option ℤ) → List (Attr Placed) → Answer Interval
-begunFrom ctx place reference begin l = timeOf withPlaces ctx place (ascii "end") l >>= λ end. endedFrom ctx place reference begin end l
-
-abbrev pub intervalOf : TimingCtx → (place : ℕ) → (reference : ℤ) → List (Attr Placed) → Answer Interval
-intervalOf ctx place reference l = timeOf withPlaces ctx place (ascii "begin") l >>= λ begin. begunFrom ctx place reference begin l
-
--- the times of `cueIn`: from its end on; all
-abbrev pub singleFrom : TimingCtx → (place : ℕ) → (start : ℤ) (end : Option ℤ) → List (Attr Placed) → Answer Interval
-singleFrom ctx place start (some z) l = is (record { start = start; end = z })
-singleFrom ctx place start none l = endFrom ctx place start start l >>= λ stop. is (record { start = start; end = stop })
-
-abbrev pub singleOf : TimingCtx → (place : ℕ) → List (Attr Placed) → Answer Interval
-singleOf ctx place l =
-    beginFrom ctx place l >>= λ start. timeOf withPlaces ctx place (ascii "end") l >>= λ end. singleFrom ctx place start end l
 
 -- ---- what a p's attributes put around its rows
 

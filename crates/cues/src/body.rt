@@ -2,7 +2,7 @@
 ghost use Rattle.cues.specs.Steps.{seven, AsksBody, BodyPost};
 use crate::lines::Line;
 use crate::lines::Lining;
-use crate::sums::Moment;
+use intervals::Moment;
 use styling::WsMode;
 use times::TimingCtx;
 use xml::Found;
@@ -41,12 +41,7 @@ pub fn collect_body(
     };
     match xml::find_element(nodes, strings, from, end, b"body") {
         Found::Nothing => Lining::Is(line),
-        Found::Row(k) => match crate::sums::begin_of(
-            attrs,
-            strings,
-            xml::element_at(nodes, k),
-            ctx,
-        ) {
+        Found::Row(k) => match intervals::begin_of(attrs, strings, xml::element_at(nodes, k), ctx) {
             Moment::Refused(r) => Lining::Refused(r),
             Moment::Is(begin) => crate::collect::collect_container(
                 nodes,

@@ -5,7 +5,7 @@ ghost use Rattle.styling.specs.Posts.{HasRows, OfRows};
 ghost use Rattle.cues.specs.Steps.{seven, following, Closes, AsksChild, ContainerPost, DivPost, ElementPost, AsksCues, CuesPost};
 use crate::lines::Line;
 use crate::lines::Lining;
-use crate::sums::Moment;
+use intervals::Moment;
 use styling::WsMode;
 use times::TimingCtx;
 use tree::ELEMENT;
@@ -43,7 +43,7 @@ fn close_div(
     requires { ⌜ HasRows (now attrs) (now strings) (e .first) (e .many) ⌝ }
     ensures { λ r. ⌜ OfRows (now (attrs .entry)) (now (strings .entry)) (e .first) (e .many) (λ l. Closes ctx (e .place) start inner l r) ⌝ }
 {
-    match crate::sums::lasting_to(attrs, strings, e, ctx, start, inner.end) {
+    match intervals::lasting_to(attrs, strings, e, ctx, start, inner.end) {
         Moment::Refused(r) => Lining::Refused(r),
         Moment::Is(end) => Lining::Is(Line {
             cues: inner.cues,
@@ -131,7 +131,7 @@ fn collect_div(
         (now (texts .exit))) r ⌝ }
 {
     let e = xml::element_at(nodes, k);
-    match crate::sums::start_of(attrs, strings, e, ctx, reference) {
+    match intervals::start_of(attrs, strings, e, ctx, reference) {
         Moment::Refused(r) => Lining::Refused(r),
         Moment::Is(start) => match collect_container(
             nodes,

@@ -5,9 +5,9 @@ ghost use Rattle.cues.specs.Steps.{AsksSegments, SegmentsPost, AsksCue, 
 use crate::lines::Line;
 use crate::lines::Lining;
 use crate::paragraph::Styled;
-use crate::sums::Interval;
-use crate::sums::Timed;
 use content::Collecting;
+use intervals::Interval;
+use intervals::Timed;
 use records::Added;
 use styling::WsMode;
 use times::TimingCtx;
@@ -151,7 +151,7 @@ pub fn collect_paragraph(
         (now (texts .exit))) r ⌝ }
 {
     let e = xml::element_at(nodes, k);
-    match crate::sums::interval_of(attrs, strings, e, ctx, reference) {
+    match intervals::interval_of(attrs, strings, e, ctx, reference) {
         Timed::Refused(r) => Lining::Refused(r),
         Timed::Is(when) => {
             let inside = styling::resolve_ws(attrs, strings, e.first, e.many, ws);

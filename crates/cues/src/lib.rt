@@ -4,16 +4,12 @@ mod collect;
 mod cue;
 mod lines;
 mod paragraph;
-mod sums;
 
 pub use body::collect_body;
 pub use collect::collect_cues;
 pub use cue::collect_paragraph;
 pub use lines::Line;
 pub use lines::Lining;
+pub use paragraph::Part;
 pub use paragraph::is_preserve;
 pub use paragraph::value_of;
-pub use paragraph::Part;
-pub use sums::Interval;
-pub use sums::Timed;
-pub use sums::single_interval;

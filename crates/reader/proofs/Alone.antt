@@ -46,9 +46,10 @@ use Rattle.inline.specs.Wraps.{three}
 use Rattle.content.specs.declared.collect.Run.{Run}
 use Rattle.content.specs.declared.collect.Collecting.{Collecting}
 use Rattle.content.specs.Steps.{Roomy, Frame, Content, AsksContent, Left, ContentPost}
-use Rattle.cues.specs.declared.sums.Interval.{Interval}
-use Rattle.cues.specs.declared.sums.Timed.{Timed}
-use Rattle.cues.specs.Steps.{timedSaid, singleFrom, singleOf, CueTables, seven, Spacious, Base, Lined, noLine}
+use Rattle.intervals.specs.declared.Interval.{Interval}
+use Rattle.intervals.specs.declared.Timed.{Timed}
+use Rattle.intervals.specs.Steps.{timedSaid, singleFrom, singleOf}
+use Rattle.cues.specs.Steps.{CueTables, seven, Spacious, Base, Lined, noLine}
 use Rattle.cues.proofs.Lined.{blankFrom, before, nextFrame, blank-later, lined-frame, Next, lined-more}
 use Rattle.promised.specs.declared.Answer as promise
 use Rattle.reader.specs.Steps.{cueRest, CueReady, CueLaid, CueOutcome, Tree, Elem, elementIn}

@@ -40,7 +40,7 @@ use Rattle.heads.specs.declared.collect.Heads.{Heads}
 use Rattle.heads.specs.Steps.{stylesIn, regionsIn, insideHead}
 use Rattle.cues.specs.declared.lines.Line.{Line}
 use Rattle.cues.specs.declared.paragraph.Part.{Part}
-use Rattle.cues.specs.declared.sums.Interval.{Interval}
+use Rattle.intervals.specs.declared.Interval.{Interval}
 use Rattle.cues.specs.Steps.{CueTables, seven, Base, Lined}
 use Rattle.promised.specs.declared.Answer.{Answer}
 use Rattle.promised.specs.Promise as promise

@@ -6,8 +6,8 @@ ghost use Rattle.meaning.specs.Meaning.{timing, cueIn};
 ghost use Rattle.styling.specs.Posts.{OfRows};
 ghost use Rattle.reader.specs.Steps.{cueRest, CueAsks, CuePost, ElementAsks, ElementPost, timedCue, AloneAsks, Alone};
 use content::Collecting;
-use cues::Interval;
-use cues::Timed;
+use intervals::Interval;
+use intervals::Timed;
 use promised::Answer;
 use records::Head;
 use styling::WsMode;
@@ -150,7 +150,7 @@ fn read_p(
         (cueRest (now (head .exit)) (now (cues .exit)) (now (times .exit)) (now (segments .exit)) (now (reveal .exit)) (now (sizes .exit))
         (now (texts .exit))) r ⌝ }
 {
-    match cues::single_interval(attrs, strings, xml::element_at(nodes, k), no_rates()) {
+    match intervals::single_interval(attrs, strings, xml::element_at(nodes, k), no_rates()) {
         Timed::Refused(r) => Answer::Refused(r),
         Timed::Is(when) => read_timed(
             nodes,

@@ -9,7 +9,7 @@ use Rattle.cues.proofs.body.collect_body.Tie as tie
 use Rattle.cues.proofs.body.collect_body.Reads as reads
 use Rattle.cues.proofs.body.collect_body.Lts as lts
 use Rattle.cues.proofs.collect.collect_container.Reads as collect-container-reads
-use Rattle.cues.proofs.sums.begin_of.Reads as begin-of-reads
+use Rattle.intervals.proofs.begin_of.Reads as begin-of-reads
 use Rattle.xml.proofs.element_at.Reads as element-at-reads
 use Rattle.xml.proofs.find_element.Reads as find-element-reads
 

@@ -11,8 +11,9 @@ use mir.ValLaws as laws
 use borrow.Author.Needs.{needs}
 use Rattle.content.proofs.Reading.{element-end}
 use Rattle.meaning.specs.Cues.{later}
-use Rattle.cues.specs.declared.sums.Moment.{Moment}
-use Rattle.cues.specs.Steps.{momentSaid, seven, following}
+use Rattle.intervals.specs.declared.Moment.{Moment}
+use Rattle.intervals.specs.Steps.{momentSaid}
+use Rattle.cues.specs.Steps.{seven, following}
 use Rattle.cues.proofs.Walking.{child-row, child-room, child-end, child-attrs, inner-asks, container-came, div-refused, div-inside, div-came}
 use Rattle.cues.proofs.Walking.{child-div, child-p, child-unknown, Walked, walked-start, walked-row, walked-next, walked-asks}
 use Rattle.cues.proofs.Walking.{walked-pass, walked-step, walked-fail, walked-done}
@@ -35,7 +36,7 @@ use Rattle.cues.proofs.collect.close_div.Reads as close-div-reads
 use Rattle.cues.proofs.collect.following.Reads as following-reads
 use Rattle.cues.proofs.collect.later.Reads as later-reads
 use Rattle.cues.proofs.cue.collect_paragraph.Reads as collect-paragraph-reads
-use Rattle.cues.proofs.sums.start_of.Reads as start-of-reads
+use Rattle.intervals.proofs.start_of.Reads as start-of-reads
 use Rattle.scan.proofs.get.Reads as get-reads
 use Rattle.styling.proofs.resolve_ws.Reads as resolve-ws-reads
 use Rattle.styling.proofs.is_seq_container.Reads as is-seq-container-reads
@@ -592,7 +593,7 @@ collect-div-returns-3 t c =
     div-came _ _ _ _ _ (a .ws) _ _
     (seven (v .0) (v .1 .0) (v .1 .1 .0) (v .1 .1 .1 .0) (v .1 .1 .1 .1 .0) (v .1 .1 .1 .1 .1 .0) (v .1 .1 .1 .1 .1 .1 .0))
     (e .result) (e .ensures) (a .reference) (toZ w64 (ofZ w64 x)) (λ l o. said ∙ (rw (c25 .start .given .1) at (h l o)))
-        (c .before .before .inner .given .0 .0)
+    (c .before .before .inner .given .0 .0)
     (rw (c .before .before .inner .given .1) at (d .ensures)) (c .close-div .result) (c .close-div .ensures)
 
 collect-element-slice-aggregate-is-element : (t : ℕ) → collect-element-lts.Need-slice-aggregate-is-element (element t)

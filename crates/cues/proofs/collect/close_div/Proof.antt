@@ -7,7 +7,7 @@ use Rattle.cues.proofs.collect.close_div.Statement.{statement}
 use Rattle.cues.proofs.collect.close_div.Tie as tie
 use Rattle.cues.proofs.collect.close_div.Reads as reads
 use Rattle.cues.proofs.collect.close_div.Lts as lts
-use Rattle.cues.proofs.sums.lasting_to.Reads as lasting-to-reads
+use Rattle.intervals.proofs.lasting_to.Reads as lasting-to-reads
 
 lasting-to-requires : tie.Need-lasting-to-requires
 lasting-to-requires c κs = search needs

@@ -11,7 +11,7 @@ use Rattle.cues.proofs.cue.collect_paragraph.Reads as reads
 use Rattle.cues.proofs.cue.collect_paragraph.Lts as lts
 use Rattle.cues.proofs.cue.add_paragraph.Reads as add-paragraph-reads
 use Rattle.cues.proofs.cue.collect_segments.Reads as collect-segments-reads
-use Rattle.cues.proofs.sums.interval_of.Reads as interval-of-reads
+use Rattle.intervals.proofs.interval_of.Reads as interval-of-reads
 use Rattle.styling.proofs.resolve_ws.Reads as resolve-ws-reads
 use Rattle.xml.proofs.element_at.Reads as element-at-reads
 
