@@ -5,10 +5,10 @@ ghost use lib.ListN.{length};
 ghost use Rattle.styling.specs.Posts.{HasRows, OfRows, spanIn};
 ghost use Rattle.heads.specs.Rows.{regionWith, Placed, RegionMade};
 use crate::styles::Made;
-use styling::Found;
 use track::Region;
 use track::Span;
 use tree::Refusal;
+use xml::Value;
 
 const REGIONS: usize = 256;
 
@@ -55,7 +55,7 @@ pub fn build_region(
         RegionMade l place n at (now (regions .entry)) (now (regions .exit)) (now (extras .entry)) (now (extras .exit)) r) ⌝ }
 {
     match params::id_of(attrs, strings, first, many) {
-        Found::At(h) => {
+        Value::At(h) => {
             if REGIONS <= n {
                 return Made::Refused(Refusal { number: 13, place });
             }
@@ -65,6 +65,6 @@ pub fn build_region(
             };
             Made::Row(add_named(attrs, strings, first, many, id, regions, n, extras, at))
         }
-        Found::Nothing => Made::Skipped,
+        Value::Absent => Made::Skipped,
     }
 }
