@@ -159,14 +159,14 @@ pub fn value_of(attrs: &[u32], strings: &[u8], e: xml::Element, name: &[u8]) -> 
         PartIs (now (strings .entry)) (now (name .entry)) l r) ⌝ }
 {
     match styling::find(attrs, strings, e.first, e.many, name) {
-        styling::Found::At(h) => Part {
+        xml::Value::At(h) => Part {
             has: true,
             span: Span {
                 place: h.place,
                 len: h.len,
             },
         },
-        styling::Found::Nothing => Part {
+        xml::Value::Absent => Part {
             has: false,
             span: Span { place: 0, len: 0 },
         },

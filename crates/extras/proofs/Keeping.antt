@@ -27,15 +27,16 @@ use Rattle.names.proofs.NameLaws.{names-distinct}
 use Rattle.tree.specs.Trees as placed
 use Rattle.track.specs.declared.values.Rows.{Rows}
 use Rattle.xml.specs.Reading.{Placed}
-use Rattle.xml.specs.Find.{Owned}
+use Rattle.xml.specs.Find.{Owned, attributeRow}
 use Rattle.meaning.specs.Words.{ascii}
 use Rattle.meaning.specs.Nodes.{Attr, valued}
 use Rattle.meaning.specs.Kinds.{withPlaces, attrsIn}
 use Rattle.track.specs.Track.{Extra}
 use Rattle.meaning.specs.Styling.{extraOfStyle, extraIf, extrasFrom}
-use Rattle.styling.specs.declared.rows.Held.{Held}
-use Rattle.styling.specs.declared.rows.Found.{Found}
-use Rattle.styling.specs.Posts.{HeldAt, valueIn}
+use Rattle.xml.specs.declared.find.Attribute.{Attribute}
+use Rattle.xml.specs.declared.find.Value.{Value}
+use Rattle.xml.proofs.AttrRows.{row-cells}
+use Rattle.styling.specs.Posts.{valueIn}
 use Rattle.extras.specs.Kept.{wantedBy, extrasOf, keptIn, FoundFits, keptCells, keptCount, RoomFor, placedCells, Collected, rowsFrom, Lists}
 use Rattle.extras.specs.Kept.{noted, FirstRows, entryExtra}
 use Rattle.extras.proofs.Few.{extras-fit}
@@ -49,10 +50,10 @@ module _ (u z : List ℕ) (list : Listed) (i c : ℕ) where
   pub entry-none : c ≡ 0 → entryExtra u z list i c ≡ []
   entry-none e = rw e
 
-  pub entry-kept : (c ≡ 0 → ⊥) → (h : Held) → HeldAt u (c - 1) h → (b : Bool)
+  pub entry-kept : (c ≡ 0 → ⊥) → (h : Attribute) → h ≡ attributeRow u (c - 1) → (b : Bool)
       → wantedBy list (nameOf list i) (stringAt z (h .place) (h .len)) ≡ b
       → entryExtra u z list i c ≡ cond b (record { number = i; value = valueIn z h } ∷ []) []
-  entry-kept e h y b w = rw (ne-eqb c 0 e, ← (y .1), ← (y .2), w)
+  entry-kept e h y b w = let r = row-cells u (c - 1) y in rw (ne-eqb c 0 e, ← (r .1), ← (r .2), w)
 
 pub entry-extra : (u z rows : List ℕ) (list : Listed) (l : List (Attr Placed)) (i : ℕ) {xs : List (Extra Placed)} → FirstRows u z list rows l
     → i < length (names list) → entryExtra u z list i (getD rows i 0) ≡ xs → extraOf list i l ≡ xs
@@ -84,17 +85,17 @@ unfolding placedCells
 cells-long [] = refl
 cells-long (x ∷ a) = omega (arith, cells-long a)
 
-cells-kept : (z : List ℕ) (i : ℕ) (f : Found) → FoundFits z f → placedCells (keptIn z i f) ≡ keptCells i f
+cells-kept : (z : List ℕ) (i : ℕ) (f : Value) → FoundFits z f → placedCells (keptIn z i f) ≡ keptCells i f
 unfolding placedCells
-cells-kept z i (Found.At h) w =
+cells-kept z i (Value.At h) w =
     let e : length (stringAt z (h .place) (h .len)) ≡ h .len =
     ap length (string-is z (h .place) (h .len)) ∙ omega (arith, length-take (h .len) (drop (h .place) z), length-drop (h .place) z) in
     rw e
-cells-kept z i Found.Nothing w = refl
+cells-kept z i Value.Absent w = refl
 
-count-kept : (z : List ℕ) (i : ℕ) (f : Found) → length (keptIn z i f) ≡ keptCount f
-count-kept z i (Found.At h) = refl
-count-kept z i Found.Nothing = refl
+count-kept : (z : List ℕ) (i : ℕ) (f : Value) → length (keptIn z i f) ≡ keptCount f
+count-kept z i (Value.At h) = refl
+count-kept z i Value.Absent = refl
 
 -- ---- name after name
 -- where there are no entries from the i-th name on, there are no extras
@@ -128,7 +129,7 @@ module _ {list : Listed} {l : List (Attr Placed)} {i n k : ℕ} {t t′ : List �
       let rest = extrasFrom withPlaces (wantedBy list) (suc i) (drop (suc i) (names list)) l in
       rw (add-one i) (x .is ∙ rw (drop-cons (names list) i [] h) (sym (append-assoc (x .done) (extraOf list i l) rest)))
 
-  pub kept-on : i < length (names list) → (z : List ℕ) (f : Found) → FoundFits z f → extraOf list i l ≡ keptIn z i f → (r : ℕ) → r ≡ keptCount f
+  pub kept-on : i < length (names list) → (z : List ℕ) (f : Value) → FoundFits z f → extraOf list i l ≡ keptIn z i f → (r : ℕ) → r ≡ keptCount f
       → (t″ : List ℕ) → t″ ≡ sets t′ ((k + n) * 3) (keptCells i f) → Kept list l (i + 1) (n + r) k t t″
   kept-on h z f w e r c t″ s =
       let at : (k + n) * 3 ≡ k * 3 + length (placedCells (x .done)) = omega (arith, cells-long (x .done), x .count) in
@@ -168,17 +169,17 @@ few-extras {z = z} list {l} y =
     omega (arith, extras-fit withPlaces (wantedBy list) 0 (names list) (distinct-names list) (attrsIn z l), as-many z l, y .count)
 
 pub kept-room : {list : Listed} {l : List (Attr Placed)} {i n k : ℕ} {t t′ : List ℕ} (x : Kept list l i n k t t′) → i < length (names list)
-    → (z : List ℕ) (f : Found) → extraOf list i l ≡ keptIn z i f → n + keptCount f ≤ length (extrasOf list l)
+    → (z : List ℕ) (f : Value) → extraOf list i l ≡ keptIn z i f → n + keptCount f ≤ length (extrasOf list l)
 kept-room {list = list} {l} {i} x h z f e =
     let rest = extrasFrom withPlaces (wantedBy list) (i + 1) (drop (i + 1) (names list)) l in
     let w = ap length (rw e at (next x h)) in
     let a = length-append (x .done ++ keptIn z i f) rest in
     omega (arith, w, x .count, count-kept z i f, a, length-append (x .done) (keptIn z i f))
 
-pub room-for : (list : Listed) (z t : List ℕ) (at many n i : ℕ) (f : Found) → FoundFits z f → length z < 2 ^ 32 → i < length (names list)
+pub room-for : (list : Listed) (z t : List ℕ) (at many n i : ℕ) (f : Value) → FoundFits z f → length z < 2 ^ 32 → i < length (names list)
     → (at + many) * 3 ≤ length t → n + keptCount f ≤ many → RoomFor t (at + n) i f
-room-for list z t at many n i (Found.At h) w s b r c = (omega arith, omega (arith, few-names list), omega arith, omega arith)
-room-for list z t at many n i Found.Nothing w s b r c = tt
+room-for list z t at many n i (Value.At h) w s b r c = (omega arith, omega (arith, few-names list), omega arith, omega arith)
+room-for list z t at many n i Value.Absent w s b r c = tt
 
 pub long-after : (t t′ : List ℕ) (at m : ℕ) (w : List ℕ) → t′ ≡ sets t at w → length t ≡ m → length t′ ≡ m
 long-after t t′ at m w e h = ap length e ∙ (length-sets t at w ∙ h)

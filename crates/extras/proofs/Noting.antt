@@ -29,7 +29,7 @@ use Rattle.meaning.specs.Nodes.{attribute, valued}
 use Rattle.meaning.specs.Kinds.{withPlaces, attrsIn}
 use Rattle.styling.specs.Posts.{nameAt}
 use Rattle.extras.specs.Kept.{valueAt, noted, RowFits, RowsFit, FirstRows, withNote, NumberFits, NumberBelow, pastNumber, NoneFrom}
-use Rattle.styling.proofs.Attributes.{Head, Rest, rest-start, rest-first, rest-on}
+use Rattle.xml.proofs.AttrRows.{Head, Rest, rest-start, rest-first, rest-on}
 
 abbrev pub still : List Attr → ℕ
 still l = 0

@@ -17,7 +17,7 @@ use Rattle.meaning.specs.Nodes.{Attr, valued}
 use Rattle.meaning.specs.Kinds.{withPlaces}
 use Rattle.track.specs.Track.{Extra}
 use Rattle.meaning.specs.Styling.{extraOfStyle, everyExtra, extraIf, extrasFrom}
-use Rattle.styling.specs.declared.rows.Found.{Found}
+use Rattle.xml.specs.declared.find.Value.{Value}
 use Rattle.styling.specs.Posts.{valueIn}
 
 -- which of the attributes of a list are kept
@@ -80,27 +80,27 @@ NoneFrom list e rows = (e ≤ length (names list)) × ((i : ℕ) → e ≤ i →
 abbrev pub entryExtra : (u z : List ℕ) → Listed → (i c : ℕ) → List (Extra Placed)
 entryExtra u z list i c = extraIf withPlaces (wantedBy list) i (nameOf list i) (noted u z c none)
 
-abbrev pub keptIn : (z : List ℕ) (i : ℕ) → Found → List (Extra Placed)
-keptIn z i (Found.At h) = record { number = i; value = valueIn z h } ∷ []
-keptIn z i Found.Nothing = []
+abbrev pub keptIn : (z : List ℕ) (i : ℕ) → Value → List (Extra Placed)
+keptIn z i (Value.At h) = record { number = i; value = valueIn z h } ∷ []
+keptIn z i Value.Absent = []
 
-abbrev pub FoundFits : List ℕ → Found → Type 0
-FoundFits z (Found.At h) = h .place + h .len ≤ length z
-FoundFits z Found.Nothing = Unit {0}
+abbrev pub FoundFits : List ℕ → Value → Type 0
+FoundFits z (Value.At h) = h .place + h .len ≤ length z
+FoundFits z Value.Absent = Unit {0}
 
 -- its row
-abbrev pub keptCells : (i : ℕ) → Found → List ℕ
-keptCells i (Found.At h) = i ∷ h .place ∷ h .len ∷ []
-keptCells i Found.Nothing = []
+abbrev pub keptCells : (i : ℕ) → Value → List ℕ
+keptCells i (Value.At h) = i ∷ h .place ∷ h .len ∷ []
+keptCells i Value.Absent = []
 
-abbrev pub keptCount : Found → ℕ
-keptCount (Found.At h) = 1
-keptCount Found.Nothing = 0
+abbrev pub keptCount : Value → ℕ
+keptCount (Value.At h) = 1
+keptCount Value.Absent = 0
 
 -- there is room for it in row k, and its numbers are small
-abbrev pub RoomFor : (t : List ℕ) (k i : ℕ) → Found → Type 0
-RoomFor t k i (Found.At h) = (k * 3 + 3 ≤ length t) × (i < 2 ^ 32) × (h .place < 2 ^ 32) × (h .len < 2 ^ 32)
-RoomFor t k i Found.Nothing = Unit {0}
+abbrev pub RoomFor : (t : List ℕ) (k i : ℕ) → Value → Type 0
+RoomFor t k i (Value.At h) = (k * 3 + 3 ≤ length t) × (i < 2 ^ 32) × (h .place < 2 ^ 32) × (h .len < 2 ^ 32)
+RoomFor t k i Value.Absent = Unit {0}
 
 -- the rows of extras: number, place and length of each
 unfoldable pub placedCells : List (Extra Placed) → List ℕ

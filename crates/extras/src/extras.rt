@@ -15,11 +15,11 @@ ghost use Rattle.extras.specs.Kept.{wantedBy, extrasOf, keptIn, FoundFit
 ghost use Rattle.extras.specs.Kept.{RowFits, RowsFit, FirstRows, withNote, NumberFits, NumberBelow, pastNumber, NoneFrom, entryExtra};
 use names::Listed;
 use names::Number;
-use styling::Found;
 use track::Extra;
 use track::Rows;
 use track::Span;
 use tree::ATTR_CELLS;
+use xml::Value;
 
 // The number of `tts:textAlign` among the extras of a style.
 const TEXT_ALIGN: usize = 33;
@@ -119,31 +119,31 @@ fn first_rows(
 }
 
 // The attribute that an entry says, if the list's i-th name is kept with its value.
-fn kept_attr(attrs: &[u32], strings: &[u8], list: Listed, i: usize, entry: usize) -> Found
+fn kept_attr(attrs: &[u32], strings: &[u8], list: Listed, i: usize, entry: usize) -> Value
     requires { ⌜ (i < length (names list)) × RowFits (now attrs) (now strings) entry ⌝ }
     ensures { λ r. ⌜ FoundFits (now (strings .entry)) r ⌝ }
     ensures { λ r. ⌜ entryExtra (now (attrs .entry)) (now (strings .entry)) list i entry ≡ keptIn (now (strings .entry)) i r ⌝ }
 {
     if entry == 0 {
-        return Found::Nothing;
+        return Value::Absent;
     }
-    let h = styling::cells(attrs, entry - 1);
+    let h = xml::attr_at(attrs, entry - 1);
     let start = h.place;
     let end = start + h.len;
     if is_kept(list, i, &strings[start..end]) {
-        return Found::At(h);
+        return Value::At(h);
     }
-    Found::Nothing
+    Value::Absent
 }
 
 // It in row k, if there is one; how many rows that makes.
-fn keep(found: Found, i: usize, extras: &mut [u32], k: usize) -> usize
+fn keep(found: Value, i: usize, extras: &mut [u32], k: usize) -> usize
     requires { ⌜ RoomFor (now extras) k i found ⌝ }
     ensures { λ r. ⌜ r ≡ keptCount found ⌝ }
     ensures { λ _. ⌜ now (extras .exit) ≡ sets (now (extras .entry)) (k * 3) (keptCells i found) ⌝ }
 {
     match found {
-        Found::At(h) => {
+        Value::At(h) => {
             let value = Span {
                 place: h.place,
                 len: h.len,
@@ -151,7 +151,7 @@ fn keep(found: Found, i: usize, extras: &mut [u32], k: usize) -> usize
             records::put_extra(extras, k, Extra { number: i, value });
             1
         }
-        Found::Nothing => 0,
+        Value::Absent => 0,
     }
 }
 

@@ -4,13 +4,13 @@ ghost use Prim.Native.Nat.{_+_, _*_, _≤_, _<_, _^_};
 ghost use lib.ListN.{length};
 ghost use Rattle.styling.specs.Posts.{HasRows, OfRows, spanIn, lookIn};
 ghost use Rattle.heads.specs.Rows.{emptied, styleOfLook, Styled, StyleMade, NamedMade};
-use styling::Found;
 use styling::LookSaid;
 use track::Look;
 use track::STYLES;
 use track::Span;
 use track::Style;
 use tree::Refusal;
+use xml::Value;
 
 // A row more, with so many extras; no id, and so nothing; or a number.
 pub enum Made {
@@ -128,7 +128,7 @@ pub fn build_style(
         (now (styles .entry)) (now (styles .exit)) (now (sizes .entry)) (now (sizes .exit)) (now (extras .entry)) (now (extras .exit)) r) ⌝ }
 {
     match params::id_of(attrs, strings, first, many) {
-        Found::At(h) => {
+        Value::At(h) => {
             let name = Span {
                 place: h.place,
                 len: h.len,
@@ -147,6 +147,6 @@ pub fn build_style(
                 at,
             )
         }
-        Found::Nothing => Made::Skipped,
+        Value::Absent => Made::Skipped,
     }
 }

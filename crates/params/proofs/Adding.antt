@@ -27,7 +27,7 @@ use Rattle.meaning.specs.Nodes as nodes
 use Rattle.meaning.specs.Kinds.{withPlaces, attrsIn}
 use Rattle.meaning.specs.Meaning.{isParam, paramOf, paramsOf}
 use Rattle.styling.specs.Posts.{NameFits, nameAt}
-use Rattle.styling.proofs.Attributes.{Head, Rest, rest-start, rest-first, rest-on, rest-none}
+use Rattle.xml.proofs.AttrRows.{Head, Rest, rest-start, rest-first, rest-on, rest-none}
 use Rattle.params.specs.Named.{isParamName}
 use Rattle.params.specs.Rows.{ValueFits, paramAt, paramsAt, SpanIs, placedParams, Adds}
 

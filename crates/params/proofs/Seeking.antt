@@ -26,17 +26,19 @@ use Rattle.track.specs.Layout.{isSome}
 use Rattle.grammar.specs.Scan.{prefix}
 use Rattle.derivation.proofs.SearchLaws.{prefix-at}
 use Rattle.records.specs.Find.{firstThat}
+use Rattle.xml.specs.Find.{attributeRow}
 use Rattle.xml.specs.Reading.{Placed}
+use Rattle.xml.proofs.AttrRows.{Head, Rest, rest-first, rest-on, rest-none, row-cells}
 use Rattle.meaning.specs.Words.{ascii, only}
 use Rattle.meaning.specs.Answers.{Answer, is, _>>=_}
 use Rattle.meaning.specs.Nodes as nodes
 use Rattle.meaning.specs.Nodes.{valueOf, valued, readFrom}
 use Rattle.meaning.specs.Kinds.{withPlaces, attrsIn}
 use Rattle.meaning.specs.Meaning.{rateAnswer, floatOr, isParam, rateOf}
-use Rattle.styling.specs.declared.rows.Held.{Held}
-use Rattle.styling.specs.declared.rows.Found.{Found}
-use Rattle.styling.specs.Posts.{nameAt, HeldAt, valueIn, turned, Finds}
-use Rattle.styling.proofs.Attributes.{Head, Rest, rest-first, rest-on, rest-none, found-valued, none-valued}
+use Rattle.xml.specs.declared.find.Attribute.{Attribute}
+use Rattle.xml.specs.declared.find.Value.{Value}
+use Rattle.styling.specs.Posts.{nameAt, valueIn, turned, Finds}
+use Rattle.styling.proofs.Attributes.{found-valued, none-valued}
 use Rattle.params.specs.declared.seek.Sought.{Sought}
 use Rattle.params.specs.Named.{isParamName, soughtBy, firstBy, IsBy, NoneBy, Meets, foundIn, FoundFits, ticked, afterFrame, timingOf}
 
@@ -45,9 +47,10 @@ abbrev pub sought : (p : List ℕ → Bool) (z : List ℕ) → List Attr → Opt
 sought p z l = firstBy p (attrsIn z l)
 
 module _ (p : List ℕ → Bool) {u z : List ℕ} {k e : ℕ} {l : List Attr} (x : Rest (sought p z) u z k e l) where
-  pub sought-here : k < e → (h : Held) → HeldAt u k h → p (nameAt u z k) ≡ true → IsBy z p (attrsIn z l) h
+  pub sought-here : k < e → (h : Attribute) → h ≡ attributeRow u k → p (nameAt u z k) ≡ true → IsBy z p (attrsIn z l) h
   unfolding firstThat attrsIn
-  sought-here b h i w =
+  sought-here b h f w =
+      let i = row-cells u k f in
       let y : Head u z k (e - k) (x .attrs) = rest-first x b in
       let a : Attr = y .head in
       let v : p (stringAt z (a .name) (a .nameLen)) ≡ true = rw (y .cells .name-is, y .cells .name-len-is) at w in
@@ -73,7 +76,7 @@ module _ (p : List ℕ → Bool) {u z : List ℕ} {k e : ℕ} {l : List Attr} (x
   sought-nowhere h = record { is-none = rest-none x h }
 
 -- ---- a value
-pub by-value : {z : List ℕ} {p : List ℕ → Bool} {l : List (nodes.Attr Placed)} {h : Held} → IsBy z p l h
+pub by-value : {z : List ℕ} {p : List ℕ → Bool} {l : List (nodes.Attr Placed)} {h : Attribute} → IsBy z p l h
     → some (valueIn z h) ≡ valueOf (firstBy p l)
 by-value x = rw (x .is-first)
 
@@ -96,7 +99,7 @@ module _ (name : List ℕ) (l : List (nodes.Attr Placed)) where
       ap (readFrom withPlaces (λ a v. rateAnswer a (timeDecimal (trimmed v))))
       (only-first (λ x. sameBytes (afterFirstColon (x .name .bytes)) name) (λ x. isParamName (x .name .bytes)) l)
 
-  pub param-rate : (z : List ℕ) {h : Held} → IsBy z (soughtBy Sought.Param name) l h
+  pub param-rate : (z : List ℕ) {h : Attribute} → IsBy z (soughtBy Sought.Param name) l h
       → rateOf withPlaces name l ≡ rateAnswer (h .at) (timeDecimal (trimmed (stringAt z (h .place) (h .len))))
   param-rate z x = reads ∙ rw (x .is-first)
 
@@ -104,21 +107,21 @@ module _ (name : List ℕ) (l : List (nodes.Attr Placed)) where
   no-rate x = reads ∙ rw (x .is-none)
 
 -- ---- what a search answers
-pub finds-fits : (z name : List ℕ) (l : List (nodes.Attr Placed)) (r : Found) → Finds z name l r → FoundFits z r
-finds-fits z name l (Found.At h) x = x .within
-finds-fits z name l Found.Nothing x = tt
+pub finds-fits : (z name : List ℕ) (l : List (nodes.Attr Placed)) (r : Value) → Finds z name l r → FoundFits z r
+finds-fits z name l (Value.At h) x = x .within
+finds-fits z name l Value.Absent x = tt
 
-pub finds-value : (z name : List ℕ) (l : List (nodes.Attr Placed)) (r : Found) → Finds z name l r → foundIn z r ≡ valued withPlaces name l
-finds-value z name l (Found.At h) x = sym (found-valued x)
-finds-value z name l Found.Nothing x = sym (none-valued x)
+pub finds-value : (z name : List ℕ) (l : List (nodes.Attr Placed)) (r : Value) → Finds z name l r → foundIn z r ≡ valued withPlaces name l
+finds-value z name l (Value.At h) x = sym (found-valued x)
+finds-value z name l Value.Absent x = sym (none-valued x)
 
-pub meets-fits : (z : List ℕ) (p : List ℕ → Bool) (l : List (nodes.Attr Placed)) (r : Found) → Meets z p l r → FoundFits z r
-meets-fits z p l (Found.At h) x = x .within
-meets-fits z p l Found.Nothing x = tt
+pub meets-fits : (z : List ℕ) (p : List ℕ → Bool) (l : List (nodes.Attr Placed)) (r : Value) → Meets z p l r → FoundFits z r
+meets-fits z p l (Value.At h) x = x .within
+meets-fits z p l Value.Absent x = tt
 
-pub meets-value : (z : List ℕ) (p : List ℕ → Bool) (l : List (nodes.Attr Placed)) (r : Found) → Meets z p l r → foundIn z r ≡ valueOf (firstBy p l)
-meets-value z p l (Found.At h) x = by-value x
-meets-value z p l Found.Nothing x = none-value x
+pub meets-value : (z : List ℕ) (p : List ℕ → Bool) (l : List (nodes.Attr Placed)) (r : Value) → Meets z p l r → foundIn z r ≡ valueOf (firstBy p l)
+meets-value z p l (Value.At h) x = by-value x
+meets-value z p l Value.Absent x = none-value x
 
 -- ---- names
 pub begins : (m s : List ℕ) (r : Bool) → Marked m s 0 r → prefix m s ≡ r

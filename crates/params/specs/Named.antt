@@ -17,8 +17,8 @@ use Rattle.meaning.specs.Answers.{Answer, is, refused, _>>=_}
 use Rattle.meaning.specs.Nodes.{Attr}
 use Rattle.meaning.specs.Kinds.{withPlaces}
 use Rattle.meaning.specs.Meaning.{floatOr, timing, rateOf}
-use Rattle.styling.specs.declared.rows.Held.{Held}
-use Rattle.styling.specs.declared.rows.Found.{Found}
+use Rattle.xml.specs.declared.find.Attribute.{Attribute}
+use Rattle.xml.specs.declared.find.Value.{Value}
 use Rattle.styling.specs.Posts.{valueIn, turned}
 use Rattle.params.specs.declared.seek.Sought.{Sought}
 use Rattle.params.specs.declared.rates.RateSaid.{RateSaid}
@@ -38,7 +38,7 @@ abbrev pub firstBy : (List ℕ → Bool) → List (Attr Placed) → Option (Attr
 firstBy p l = firstThat (λ (x : Attr Placed). p (x .name .bytes)) l
 
 -- h is that one, its value within the strings; or there is none
-pub record IsBy (z : List ℕ) (p : List ℕ → Bool) (l : List (Attr Placed)) (h : Held) : Type 0 where
+pub record IsBy (z : List ℕ) (p : List ℕ → Bool) (l : List (Attr Placed)) (h : Attribute) : Type 0 where
   pub full : Placed
   pub is-first : firstBy p l ≡ some (record { at = h .at; name = full; value = valueIn z h })
   pub within : h .place + h .len ≤ length z
@@ -46,18 +46,18 @@ pub record IsBy (z : List ℕ) (p : List ℕ → Bool) (l : List (Attr Placed)) 
 pub record NoneBy (p : List ℕ → Bool) (l : List (Attr Placed)) : Type 0 where
   pub is-none : firstBy p l ≡ none
 
-abbrev pub Meets : (z : List ℕ) → (List ℕ → Bool) → List (Attr Placed) → Found → Type 0
-Meets z p l (Found.At h) = IsBy z p l h
-Meets z p l Found.Nothing = NoneBy p l
+abbrev pub Meets : (z : List ℕ) → (List ℕ → Bool) → List (Attr Placed) → Value → Type 0
+Meets z p l (Value.At h) = IsBy z p l h
+Meets z p l Value.Absent = NoneBy p l
 
 -- ---- a string that may be absent
-abbrev pub foundIn : (z : List ℕ) → Found → Option Placed
-foundIn z (Found.At h) = some (valueIn z h)
-foundIn z Found.Nothing = none
+abbrev pub foundIn : (z : List ℕ) → Value → Option Placed
+foundIn z (Value.At h) = some (valueIn z h)
+foundIn z Value.Absent = none
 
-abbrev pub FoundFits : (z : List ℕ) → Found → Type 0
-FoundFits z (Found.At h) = h .place + h .len ≤ length z
-FoundFits z Found.Nothing = Unit {0}
+abbrev pub FoundFits : (z : List ℕ) → Value → Type 0
+FoundFits z (Value.At h) = h .place + h .len ≤ length z
+FoundFits z Value.Absent = Unit {0}
 
 -- ---- rates
 abbrev pub rateSaid : RateSaid → Answer (Option Float)

@@ -6,22 +6,22 @@ ghost use Rattle.meaning.specs.Meaning.{langOf};
 ghost use Rattle.styling.specs.Posts.{HasRows, OfRows};
 ghost use Rattle.params.specs.Named.{foundIn, FoundFits};
 use crate::seek::Sought;
-use styling::Found;
+use xml::Value;
 
 // `xml:id`, or else `id`.
-pub fn id_of(attrs: &[u32], strings: &[u8], first: usize, many: usize) -> Found
+pub fn id_of(attrs: &[u32], strings: &[u8], first: usize, many: usize) -> Value
     requires { ⌜ HasRows (now attrs) (now strings) first many ⌝ }
     ensures { λ r. ⌜ FoundFits (now (strings .entry)) r ⌝ }
     ensures { λ r. ⌜ OfRows (now (attrs .entry)) (now (strings .entry)) first many (λ l. foundIn (now (strings .entry)) r ≡ idOf withPlaces l) ⌝ }
 {
     match styling::find(attrs, strings, first, many, b"xml:id") {
-        Found::At(h) => Found::At(h),
-        Found::Nothing => styling::find(attrs, strings, first, many, b"id"),
+        Value::At(h) => Value::At(h),
+        Value::Absent => styling::find(attrs, strings, first, many, b"id"),
     }
 }
 
 // `xml:lang`, byte for byte.
-pub fn lang_of(attrs: &[u32], strings: &[u8], first: usize, many: usize) -> Found
+pub fn lang_of(attrs: &[u32], strings: &[u8], first: usize, many: usize) -> Value
     requires { ⌜ HasRows (now attrs) (now strings) first many ⌝ }
     ensures { λ r. ⌜ FoundFits (now (strings .entry)) r ⌝ }
     ensures { λ r. ⌜ OfRows (now (attrs .entry)) (now (strings .entry)) first many (λ l. foundIn (now (strings .entry)) r ≡ langOf withPlaces l) ⌝ }

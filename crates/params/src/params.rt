@@ -47,7 +47,7 @@ fn add_at(attrs: &[u32], strings: &[u8], k: usize, params: &mut [u32], n: usize)
         return Added::Next(n);
     }
     let name = name_at(attrs, strings, k);
-    let h = styling::cells(attrs, k);
+    let h = xml::attr_at(attrs, k);
     let value = Span {
         place: h.place,
         len: h.len,

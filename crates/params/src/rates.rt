@@ -8,9 +8,9 @@ ghost use Rattle.styling.specs.Posts.{HasRows, OfRows};
 ghost use Rattle.params.specs.Named.{rateSaid, timingSaid, afterFrame, timingOf};
 use crate::seek::Sought;
 use decimals::Decimal;
-use styling::Found;
 use times::TimingCtx;
 use tree::Refusal;
+use xml::Value;
 
 // A rate; no such parameter, or none that is a rate; or 14 at the attribute.
 pub enum RateSaid {
@@ -47,12 +47,12 @@ fn rate_of(attrs: &[u32], strings: &[u8], first: usize, many: usize, name: &[u8]
     ensures { λ r. ⌜ OfRows (now (attrs .entry)) (now (strings .entry)) first many (λ l. rateSaid r ≡ rateOf withPlaces (now (name .entry)) l) ⌝ }
 {
     match crate::seek::seek(attrs, strings, first, many, Sought::Param, name) {
-        Found::At(h) => {
+        Value::At(h) => {
             let start = h.place;
             let end = start + h.len;
             rate_in(&strings[start..end], h.at)
         }
-        Found::Nothing => RateSaid::Nothing,
+        Value::Absent => RateSaid::Nothing,
     }
 }
 

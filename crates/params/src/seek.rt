@@ -2,8 +2,8 @@
 ghost use mathlib.Core.Path.{_≡_};
 ghost use Rattle.styling.specs.Posts.{HasRows, OfRows, NameFits, nameAt};
 ghost use Rattle.params.specs.Named.{isParamName, soughtBy, Meets};
-use styling::Found;
 use tree::ATTR_CELLS;
+use xml::Value;
 
 // The name whole, or a parameter's name without its prefix.
 pub enum Sought {
@@ -58,7 +58,7 @@ pub fn seek(
     many: usize,
     sought: Sought,
     name: &[u8],
-) -> Found
+) -> Value
     requires { ⌜ HasRows (now attrs) (now strings) first many ⌝ }
     ensures { λ r. ⌜ OfRows (now (attrs .entry)) (now (strings .entry)) first many (λ l.
         Meets (now (strings .entry)) (soughtBy sought (now (name .entry))) l r) ⌝ }
@@ -67,9 +67,9 @@ pub fn seek(
     let mut k = first;
     while k < end {
         if is_row(attrs, strings, k, sought, name) {
-            return Found::At(styling::cells(attrs, k));
+            return Value::At(xml::attr_at(attrs, k));
         }
         k += 1;
     }
-    Found::Nothing
+    Value::Absent
 }

@@ -37,8 +37,8 @@ use Rattle.meaning.specs.Meaning.{langOf, bodyOf}
 use Rattle.laid.specs.Laid.{laidParam, laidOf, styleExtras, regionExtras}
 use Rattle.laid.proofs.Fitting.{styles-many, regions-many, cues-many, segments-many}
 use Rattle.styling.specs.declared.space.WsMode.{WsMode}
-use Rattle.styling.specs.declared.rows.Held.{Held}
-use Rattle.styling.specs.declared.rows.Found.{Found}
+use Rattle.xml.specs.declared.find.Attribute.{Attribute}
+use Rattle.xml.specs.declared.find.Value.{Value}
 use Rattle.styling.specs.Posts.{spaceIn, turned}
 use Rattle.extras.specs.Counts.{attrsNamed}
 use Rattle.extras.proofs.Counts.{attrs-apart}
@@ -58,13 +58,13 @@ use Rattle.reader.proofs.Elements.{elem-cells, elem-rows, elem-inside, 
 
 -- ---- its language
 
-pub lang-found : (z : List ℕ) (l : List (Attr Placed)) (h : Held) → FoundFits z (Found.At h) → foundIn z (Found.At h) ≡ langOf withPlaces l
+pub lang-found : (z : List ℕ) (l : List (Attr Placed)) (h : Attribute) → FoundFits z (Value.At h) → foundIn z (Value.At h) ≡ langOf withPlaces l
     → LangIs z l (record { has = true; span = record { place = h .place; len = h .len } })
 lang-found z l h f e =
     let long = string-long z (h .place) (h .len) f in
     record { has = rw (← e); span = rw (← e, long); within = f }
 
-pub lang-none : (z : List ℕ) (l : List (Attr Placed)) → foundIn z Found.Nothing ≡ langOf withPlaces l
+pub lang-none : (z : List ℕ) (l : List (Attr Placed)) → foundIn z Value.Absent ≡ langOf withPlaces l
     → LangIs z l (record { has = false; span = record { place = 0; len = 0 } })
 lang-none z l e = record { has = rw (← e); span = rw (← e); within = omega arith }
 

@@ -27,14 +27,14 @@ fn lang_of(attrs: &[u32], strings: &[u8], e: xml::Element) -> Part
     ensures { λ r. ⌜ OfRows (now (attrs .entry)) (now (strings .entry)) (e .first) (e .many) (λ l. LangIs (now (strings .entry)) l r) ⌝ }
 {
     match params::lang_of(attrs, strings, e.first, e.many) {
-        styling::Found::At(h) => Part {
+        xml::Value::At(h) => Part {
             has: true,
             span: Span {
                 place: h.place,
                 len: h.len,
             },
         },
-        styling::Found::Nothing => Part {
+        xml::Value::Absent => Part {
             has: false,
             span: Span { place: 0, len: 0 },
         },

@@ -1,21 +1,42 @@
 -- Attributes looked up in their rows. Assumes nothing.
 --     Head, Rest, rest-start, rest-first, rest-on, rest-none   a loop goes on with the attributes from row k on
 --     row-fits, end-fits                                       their rows are within the table
+--     name-apart, name-same                                    a name of another length, and one of the same bytes
+--     row-cells                                                the cells of a row
 --     value-here, value-next, value-nowhere                    one turn of `attr`
 use Prim.Native.Nat.{ℕ, _+_, _-_, _*_, _≤_, _<_}
 use mathlib.Core.Path.{_≡_, refl, sym, _∙_, ap}
 use mathlib.Core.Bool.{true, false}
 use mathlib.Core.List.{List, [], _∷_, _++_}
 use native.Mathlib.Omega.{arith}
-use lib.ListN.{length, drop, length-append, length-drop}
-use Rattle.scan.specs.Names.{sameFolded}
+use lib.ListN.{length, getD, drop, length-append, length-drop}
+use Rattle.scan.specs.Names.{lower, sameBytes, sameFolded}
 use Rattle.scan.specs.Part.{stringAt}
+use Rattle.scan.proofs.Naming.{folded-agree, agree-lengths, same-eq, sameFolded-refl}
 use Rattle.tree.specs.Trees.{Attr, attrRows}
 use Rattle.tree.specs.Walks.{Listed, AttrIs}
 use Rattle.tree.proofs.Tags.{length-attrRows}
 use Rattle.tree.proofs.Walks.{on-attr}
+use Rattle.xml.specs.declared.find.Attribute.{Attribute}
 use Rattle.xml.specs.declared.find.Value.the-variants.{At, Absent}
 use Rattle.xml.specs.Find.{Owned, HasRows, NameFits, nameAt, attributeRow, findValue}
+use Rattle.xml.proofs.PassForests.{string-long}
+
+-- ---- names
+module _ (u z : List ℕ) (k : ℕ) (name : List ℕ) where
+  pub name-apart : NameFits u z k → (getD u (k * 4 + 1) 0 ≡ length name → ⊥) → sameFolded (nameAt u z k) name ≡ false
+  name-apart h ne =
+      folded-agree (nameAt u z k) name
+      ∙ agree-lengths lower (nameAt u z k) name (λ e. ne (sym (string-long z (getD u (k * 4) 0) (getD u (k * 4 + 1) 0) (h .1)) ∙ e))
+
+pub name-same : (a b : List ℕ) → sameBytes a b ≡ true → sameFolded a b ≡ true
+name-same a b e = rw (same-eq a b e) (sameFolded-refl b)
+
+-- ---- cells
+pub row-cells : (u : List ℕ) (k : ℕ) {h : Attribute} → h ≡ attributeRow u k
+    → (h .at ≡ getD u (k * 4) 0) × (h .place ≡ getD u (k * 4 + 2) 0) × (h .len ≡ getD u (k * 4 + 3) 0)
+unfolding attributeRow
+row-cells u k e = (rw e, rw e, rw e)
 
 -- ---- row by row
 -- the first of n attributes from row k on, and the others
@@ -52,7 +73,7 @@ pub record Rest {A : Type 0} (ask : List Attr → A) (u z : List ℕ) (k e : ℕ
   pub is : ask l ≡ ask attrs
 
 module _ {A : Type 0} {ask : List Attr → A} {u z : List ℕ} where
-  pub rest-start : {i n : ℕ} {l : List Attr} → Owned u z i n l → Rest ask u z i (i + n) l
+  unfoldable pub rest-start : {i n : ℕ} {l : List Attr} → Owned u z i n l → Rest ask u z i (i + n) l
   rest-start {i} {n} {l} y =
       record { attrs = l; owned = record { listed = y .listed; count = omega (arith, y .count); within = y .within }; is = refl }
 
@@ -61,7 +82,7 @@ module _ {A : Type 0} {ask : List Attr → A} {u z : List ℕ} where
     rest-first h = head-of u z k (e - k) (x .attrs) (x .owned) (omega arith)
 
     -- the first passed over
-    pub rest-on : (h : k < e) → ask (rest-first h .head ∷ rest-first h .others) ≡ ask (rest-first h .others) → Rest ask u z (k + 1) e l
+    unfoldable pub rest-on : (h : k < e) → ask (rest-first h .head ∷ rest-first h .others) ≡ ask (rest-first h .others) → Rest ask u z (k + 1) e l
     rest-on h w =
         let y : Head u z k (e - k) (x .attrs) = rest-first h in
         let v : e - k - 1 ≡ e - (k + 1) = omega arith in

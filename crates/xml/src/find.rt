@@ -81,14 +81,22 @@ pub fn find_element(nodes: &[u32], strings: &[u8], from: usize, end: usize, name
     Found::Nothing
 }
 
-// Is this the name of attribute k?
+// Is this the name of attribute k, letters in any case? Most names have another length, and most that are found are spelt as they are looked for.
 fn is_attr(attrs: &[u32], strings: &[u8], k: usize, name: &[u8]) -> bool
     requires { ⌜ NameFits (now attrs) (now strings) k ⌝ }
     ensures { λ r. ⌜ r ≡ sameFolded (nameAt (now (attrs .entry)) (now (strings .entry)) k) (now (name .entry)) ⌝ }
 {
+    let len = scan::get(attrs, k * 4 + 1);
+    if len != name.len() {
+        return false;
+    }
     let start = scan::get(attrs, k * 4);
-    let stop = start + scan::get(attrs, k * 4 + 1);
-    scan::eq_ignore_ascii_case(&strings[start..stop], name)
+    let stop = start + len;
+    let here = &strings[start..stop];
+    if scan::same(here, name) {
+        return true;
+    }
+    scan::eq_ignore_ascii_case(here, name)
 }
 
 // The row of an attribute.

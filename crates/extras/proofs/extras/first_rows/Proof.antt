@@ -7,7 +7,7 @@ use lib.ListN.{length}
 use Rattle.tree.specs.Trees.{Attr}
 use Rattle.xml.specs.Find.{Owned}
 use Rattle.styling.specs.Posts.{nameAt}
-use Rattle.styling.proofs.Attributes.{row-fits, end-fits}
+use Rattle.xml.proofs.AttrRows.{row-fits, end-fits}
 use Rattle.extras.specs.Kept.{RowsFit, NumberFits, NoneFrom}
 use Rattle.extras.proofs.Noting.{Noted, noted-start, noted-on, noted-all, fits-on, number-fits, long-note, number-below, number-under, none-on}
 use Rattle.extras.proofs.extras.first_rows.Statement.{statement}

@@ -2,6 +2,7 @@
 use mathlib.Core.Path.{sym, _∙_}
 use native.Mathlib.Omega.{arith}
 use borrow.Author.Tests.{not-true, not-false}
+use Rattle.xml.proofs.AttrRows.{row-cells}
 use Rattle.params.proofs.Adding.{adds-none, adds-row}
 use borrow.Author.Needs.{needs}
 use Rattle.params.proofs.params.add_at.Statement.{statement}
@@ -19,14 +20,14 @@ returns c =
 name-at-requires : tie.Need-name-at-requires
 name-at-requires c κs = search needs
 
-cells-requires : tie.Need-cells-requires
-cells-requires c κs = search needs
+attr-at-requires : tie.Need-attr-at-requires
+attr-at-requires c κs = search needs
 
 add-param-requires : tie.Need-add-param-requires
 add-param-requires c κs =
     let c8 = c .before .before .before .before .before .before .before .before in
     let w = c .before .before .name-at .ensures .within in
-    let h = c .before .cells .ensures in (
+    let h = row-cells _ _ (c .before .attr-at .ensures) in (
       c8 .pre .3,
       (omega (arith, w, c8 .pre .2), omega (arith, w, c8 .pre .2)),
       (omega (arith, h .1, c8 .pre .1, c8 .pre .2), omega (arith, h .2, c8 .pre .1, c8 .pre .2)),
@@ -43,7 +44,7 @@ returns-2 c =
     let c7 = c6 .before in
     let c11 = c7 .before .before .before .before in
     let e = sym (c7 .is-param-at .ensures) ∙ not-false _ (c6 .if1 .left) in
-    let h = c4 .cells .ensures in
+    let h = row-cells _ _ (c4 .attr-at .ensures) in
     adds-row _ _ _ _ _ _ _ e (c5 .name-at .ensures) (h .1) (h .2) (c11 .pre .1) (c .before .before .add-param .result)
     (c .before .before .add-param .ensures)
 
@@ -54,7 +55,7 @@ add-at-spec =
     is-param-at-requires
     returns
     name-at-requires
-    cells-requires
+    attr-at-requires
     add-param-requires
     same-length
     returns-2)

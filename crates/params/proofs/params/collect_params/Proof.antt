@@ -8,7 +8,7 @@ use lib.ListN.{length}
 use lib.Seq.{length-sets}
 use Rattle.tree.specs.Trees.{Attr}
 use Rattle.xml.specs.Find.{Owned}
-use Rattle.styling.proofs.Attributes.{row-fits, end-fits}
+use Rattle.xml.proofs.AttrRows.{row-fits, end-fits}
 use Rattle.params.specs.Rows.{paramsAt, placedParams}
 use Rattle.params.proofs.Adding.{Listing, listing-start, listing-on, listing-all, listing-full, value-fits}
 use Rattle.params.proofs.params.collect_params.Statement.{statement}

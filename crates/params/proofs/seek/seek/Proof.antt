@@ -5,7 +5,7 @@ use mathlib.Core.List.{List}
 use native.Mathlib.Omega.{arith}
 use Rattle.tree.specs.Trees.{Attr}
 use Rattle.xml.specs.Find.{Owned}
-use Rattle.styling.proofs.Attributes.{Rest, rest-start, row-fits, end-fits}
+use Rattle.xml.proofs.AttrRows.{Rest, rest-start, row-fits, end-fits}
 use Rattle.params.specs.Named.{soughtBy}
 use Rattle.params.proofs.Seeking.{sought-here, sought-next, sought-nowhere}
 use Rattle.params.proofs.Seeking as seeking
@@ -28,8 +28,8 @@ loop-holds c = λ l y. rest-start y
 is-row-requires : tie.Need-is-row-requires Inv-loop μ-loop
 is-row-requires c κs = row-fits (c .before .before .before .before .before .pre) (c .before .loop .inv) (c .loop-test .taken)
 
-cells-requires : tie.Need-cells-requires Inv-loop μ-loop
-cells-requires c κs =
+attr-at-requires : tie.Need-attr-at-requires Inv-loop μ-loop
+attr-at-requires c κs =
     let c3 = c .before .before .before in
     let c7 = c3 .before .before .before .before in
     row-fits (c7 .pre) (c3 .loop .inv) (c .before .before .loop-test .taken) .0
@@ -39,7 +39,7 @@ returns c =
     let c3 = c .before .before .before in
     let c4 = c3 .before in
     let c8 = c4 .before .before .before .before in
-    λ l y. sought-here (soughtBy (c8 .args .sought) (c8 .args .name .now)) (c4 .loop .inv l y) (c3 .loop-test .taken) _ (c .cells .ensures)
+    λ l y. sought-here (soughtBy (c8 .args .sought) (c8 .args .name .now)) (c4 .loop .inv l y) (c3 .loop-test .taken) _ (c .attr-at .ensures)
     (sym (c .before .before .is-row .ensures) ∙ c .before .if1 .taken)
 
 add-k : tie.Need-add-k Inv-loop μ-loop
@@ -72,7 +72,7 @@ seek-spec =
     add-end
     loop-holds
     is-row-requires
-    cells-requires
+    attr-at-requires
     returns
     add-k
     loop-less
