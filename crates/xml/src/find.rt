@@ -5,6 +5,7 @@ ghost use lib.ListN.{length};
 ghost use Rattle.scan.specs.Names.{sameFolded};
 ghost use Rattle.xml.specs.Find.{Siblings, OfSiblings, findRow, isElement, HasRow, elementRow};
 ghost use Rattle.xml.specs.Find.{HasRows, OfRows, NameFits, nameAt, attributeRow, findValue};
+use tree::ATTR_CELLS;
 use tree::ELEMENT;
 use tree::NODE_CELLS;
 
@@ -86,11 +87,11 @@ fn is_attr(attrs: &[u32], strings: &[u8], k: usize, name: &[u8]) -> bool
     requires { ⌜ NameFits (now attrs) (now strings) k ⌝ }
     ensures { λ r. ⌜ r ≡ sameFolded (nameAt (now (attrs .entry)) (now (strings .entry)) k) (now (name .entry)) ⌝ }
 {
-    let len = scan::get(attrs, k * 4 + 1);
+    let len = scan::get(attrs, k * ATTR_CELLS + 1);
     if len != name.len() {
         return false;
     }
-    let start = scan::get(attrs, k * 4);
+    let start = scan::get(attrs, k * ATTR_CELLS);
     let stop = start + len;
     let here = &strings[start..stop];
     if scan::same(here, name) {
@@ -104,7 +105,7 @@ pub fn attr_at(attrs: &[u32], k: usize) -> Attribute
     requires { ⌜ k * 4 + 4 ≤ length (now attrs) ⌝ }
     ensures { λ r. ⌜ r ≡ attributeRow (now (attrs .entry)) k ⌝ }
 {
-    let at = k * 4;
+    let at = k * ATTR_CELLS;
     Attribute {
         at: scan::get(attrs, at),
         place: scan::get(attrs, at + 2),
