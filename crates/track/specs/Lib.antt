@@ -6,3 +6,4 @@ pub mod Steps
 pub mod Layout
 pub mod Placing
 pub mod Plain
+pub mod Alignment

@@ -1,4 +1,5 @@
 // The track in lent tables.
+mod alignment;
 mod cells;
 mod check;
 mod cues;
@@ -10,6 +11,7 @@ mod strings;
 mod styles;
 mod values;
 
+pub use alignment::parse_text_align;
 pub use check::Check;
 pub use check::check_track;
 pub use parts::optional_at;
