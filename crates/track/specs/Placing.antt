@@ -9,6 +9,7 @@ use lib.ListN.{length, take}
 use lib.Dec.{eqb}
 use Rattle.scan.specs.Part.{stringAt}
 use Rattle.scan.specs.Bytes.{attrNameByte}
+use Rattle.scan.specs.Every.{every}
 use Rattle.colors.specs.declared.read.Rgba.{Rgba}
 use Rattle.decimals.specs.declared.size.Size.{Size}
 use Rattle.decimals.specs.Size.{isSize}
@@ -18,7 +19,7 @@ use Rattle.track.specs.declared.values.Extra.{Extra}
 use Rattle.track.specs.declared.values.Rows.{Rows}
 use Rattle.track.specs.Track.{Bytes, Wrapper, Segments, Track, segmentRows}
 use Rattle.track.specs.Track as track
-use Rattle.track.specs.Meaning.{isSpan, every, isUtf8, bytesAt, given, lookIn}
+use Rattle.track.specs.Meaning.{isSpan, isUtf8, bytesAt, given, lookIn}
 use Rattle.track.specs.Layout.{Placed, PlacedStyle, PlacedRegion, PlacedCue, each, allSegments}
 
 -- ---- what it shows: z are the bytes of its strings, y those of its texts
