@@ -29,7 +29,7 @@ use Rattle.track.specs.Track as track
 use Rattle.track.specs.Tables.{Tables, cell, styleAt, rowsFrom}
 use Rattle.track.specs.Meaning.{bytesAt, styleIn, lookIn, extraIn}
 use Rattle.track.specs.Meaning as meaning
-use Rattle.records.specs.declared.find.Found.{Found}
+use Rattle.scan.specs.declared.table.Found.{Found}
 use Rattle.records.specs.Find.{isNamed, firstWith, findChain, findExtras, chainFrom, extrasFrom, foundIn}
 use Rattle.records.proofs.FoundRows.{with-first, chain-found, extras-found}
 use Rattle.records.proofs.Finding.{namedWith}

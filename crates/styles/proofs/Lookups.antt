@@ -21,7 +21,7 @@ use Rattle.track.specs.declared.strings.Span.{Span}
 use Rattle.track.specs.Track.{Bytes, Style}
 use Rattle.track.specs.Tables.{Tables, cell, span, rowsFrom, lookAt, styleAt}
 use Rattle.track.specs.Meaning.{bytesAt, given, lookIn, styleIn}
-use Rattle.records.specs.declared.find.Found.{Found}
+use Rattle.scan.specs.declared.table.Found.{Found}
 use Rattle.records.specs.Find.{isNamed, firstRow, firstWith, chainFrom, foundIn}
 use Rattle.records.proofs.Finding.{named, namedWith}
 use Rattle.records.proofs.FoundRows.{First, row-first, with-first, chain-found}

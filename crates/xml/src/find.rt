@@ -5,12 +5,7 @@ ghost use lib.ListN.{length};
 ghost use Rattle.scan.specs.Names.{sameFolded};
 ghost use Rattle.xml.specs.Find.{Siblings, OfSiblings, findRow, isElement, HasRow, elementRow};
 ghost use Rattle.xml.specs.Find.{HasRows, OfRows, NameFits, nameAt, attributeRow, findValue};
-
-// The row of a node, or there is none.
-pub enum Found {
-    Row(usize),
-    Nothing,
-}
+use scan::Found;
 
 // An attribute: its place in the text, and the place and length of its value in the strings.
 pub struct Attribute {
