@@ -23,7 +23,7 @@ use Rattle.tree.specs.Trees.{Forest, size, attrsOf, Span, attrSpans, spans, InO
 use Rattle.tree.specs.Trees as placed
 use Rattle.tree.proofs.Places.{in-lower, in-first, in-rest}
 use Rattle.track.specs.Track.{Cue}
-use Rattle.xml.specs.declared.find.Found.{Found}
+use Rattle.scan.specs.declared.table.Found.{Found}
 use Rattle.xml.specs.declared.find.Element.{Element}
 use Rattle.xml.specs.Find.{named, Holds, OfSiblings, findRow, isElement, HasRow, elementRow, ElementAt}
 use Rattle.xml.specs.Reading.{Placed}

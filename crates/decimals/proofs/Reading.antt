@@ -20,8 +20,10 @@ use lib.ListN.{length, getD, take, drop, length-append, length-drop, length-take
 use lib.Seq.{take-all, drop-cons, drop-drop}
 use borrow.Author.Tests.{eq-eqb, ne-eqb, eqb-true, eqb-false, leb-true, le-leb, lt-leb, lt-ltb, ltb-true, ltb-false}
 use Rattle.scan.specs.Bytes.{digitByte, runLength, runEnd}
+use Rattle.scan.specs.Every.{every}
 use Rattle.scan.specs.Names.{sameFolded}
 use Rattle.scan.specs.Part.{part}
+use Rattle.scan.proofs.Every.{every-append}
 use Rattle.scan.proofs.Runs.{run-length, run-all, run-high}
 use Rattle.scan.proofs.Splits.{whole-part}
 use Rattle.numerals.specs.Numerals.{valueFrom, digitOf}
@@ -287,38 +289,30 @@ module _ (digits decimals : ℕ) where
       by false t = let o : k ≡ 0 = rw t at e in rw (o, whole-part (b ∷ s), t)
 
 -- ---- a decimal is within its limits
--- all bytes are digits
-abbrev pub every : List ℕ → Bool
-every [] = true
-every (b ∷ s) = digitByte b && every s
-
-pub every-append : (a b : List ℕ) → every a ≡ true → every b ≡ true → every (a ++ b) ≡ true
-every-append [] b p q = q
-every-append (x ∷ a) b p q = let h = and-eq-true-iff (digitByte x) (every a) .0 p in rw (h .0) (every-append a b (h .1) q)
-
-every-run : (s : List ℕ) → every (digitsAt s) ≡ true
+every-run : (s : List ℕ) → every digitByte (digitsAt s) ≡ true
 unfolding runLength
 every-run [] = refl
 every-run (b ∷ s) = by (digitByte b) refl (every-run s)
   where
-    by : (t : Bool) → digitByte b ≡ t → every (digitsAt s) ≡ true → every (take (cond t (suc (runLength digitByte s)) 0) (b ∷ s)) ≡ true
+    by : (t : Bool) → digitByte b ≡ t → every digitByte (digitsAt s) ≡ true
+        → every digitByte (take (cond t (suc (runLength digitByte s)) 0) (b ∷ s)) ≡ true
     by true e r = rw e r
     by false e r = refl
 
-every-fraction : (s : List ℕ) → every (fraction s) ≡ true
+every-fraction : (s : List ℕ) → every digitByte (fraction s) ≡ true
 unfolding fraction
 every-fraction [] = refl
 every-fraction (b ∷ s) = by (eqb b 46)
   where
-    by : (t : Bool) → every (cond t (digitsAt s) []) ≡ true
+    by : (t : Bool) → every digitByte (cond t (digitsAt s) []) ≡ true
     by true = every-run s
     by false = refl
 
-value-bound : (s : List ℕ) (v : ℕ) → every s ≡ true → valueFrom 10 v s < (v + 1) * 10 ^ length s
+value-bound : (s : List ℕ) (v : ℕ) → every digitByte s ≡ true → valueFrom 10 v s < (v + 1) * 10 ^ length s
 unfolding valueFrom
 value-bound [] v e = rw (mul-one (v + 1)) (omega arith)
 value-bound (b ∷ s) v e =
-    let h = and-eq-true-iff (digitByte b) (every s) .0 e in
+    let h = and-eq-true-iff (digitByte b) (every digitByte s) .0 e in
     let d = digit-bounds b (h .0) in
     let t : digitOf b ≡ b - 48 = digit-byte b (d .0) (d .1) in
     let r : valueFrom 10 (v * 10 + digitOf b) s < (v * 10 + digitOf b + 1) * 10 ^ length s = value-bound s (v * 10 + digitOf b) (h .1) in
@@ -326,10 +320,10 @@ value-bound (b ∷ s) v e =
     let z : (v + 1) * 10 ^ suc (length s) ≡ ((v + 1) * 10) * 10 ^ length s = rw pow-suc (simp (mul-assoc, mul-comm, mul-left-comm)) in
     rw z (omega arith)
 
-pub value-limit : (ds : List ℕ) (n : ℕ) → every ds ≡ true → significant ds ≤ n → valueFrom 10 0 ds < 10 ^ n
+pub value-limit : (ds : List ℕ) (n : ℕ) → every digitByte ds ≡ true → significant ds ≤ n → valueFrom 10 0 ds < 10 ^ n
 unfolding valueFrom significant
 value-limit [] n e h = one-le-pow n 10 (omega arith)
-value-limit (b ∷ s) n e h = by (eqb b 48) refl (value-limit s n (and-eq-true-iff (digitByte b) (every s) .0 e .1)) h
+value-limit (b ∷ s) n e h = by (eqb b 48) refl (value-limit s n (and-eq-true-iff (digitByte b) (every digitByte s) .0 e .1)) h
   where
     by : (t : Bool) → eqb b 48 ≡ t → (significant s ≤ n → valueFrom 10 0 s < 10 ^ n) → cond t (significant s) (length (b ∷ s)) ≤ n
         → valueFrom 10 (0 * 10 + digitOf b) s < 10 ^ n
@@ -348,7 +342,7 @@ pub record Within (digits decimals : ℕ) (d : Digits) : Type 0 where
   pub near : d .scale ≤ decimals
 
 module _ (digits decimals : ℕ) where
-  limited-within : (minus : Bool) (ds : List ℕ) (scale : ℕ) {d : Digits} → every ds ≡ true → limited minus ds scale digits decimals ≡ Is d
+  limited-within : (minus : Bool) (ds : List ℕ) (scale : ℕ) {d : Digits} → every digitByte ds ≡ true → limited minus ds scale digits decimals ≡ Is d
       → Within digits decimals d
   unfolding limited
   limited-within minus ds scale {d} v e = by (leb (significant ds) digits) (leb scale decimals) refl refl e
@@ -372,7 +366,7 @@ module _ (digits decimals : ℕ) where
       by true true r x e = let z : _≡_ {A = ℕ} 0 1 = cc in absurd (omega arith)
       by true false r x e = let z : _≡_ {A = ℕ} 0 1 = cc in absurd (omega arith)
       by false w true x e = limited-within minus (allDigits s) (scaleOf s)
-          (every-append (digitsAt s) (fraction (afterDigits s)) (every-run s) (every-fraction (afterDigits s))) e
+          (every-append digitByte (digitsAt s) (fraction (afterDigits s)) (every-run s) (every-fraction (afterDigits s))) e
       by false w false true e = let z : _≡_ {A = ℕ} 0 1 = cc in absurd (omega arith)
       by false w false false e = let z : _≡_ {A = ℕ} 0 1 = cc in absurd (omega arith)
 

@@ -12,6 +12,8 @@ use lib.ListN.{length, getD, length-append, List·getD-append}
 use lib.Seq.{take-append-seam, drop-append-seam}
 use borrow.Author.Tests.{ne-eqb, eqb-true, eqb-false, leb-true, leb-false}
 use Rattle.scan.specs.Bytes.{digitByte, runLength}
+use Rattle.scan.specs.Every.{every}
+use Rattle.scan.proofs.Every.{every-append}
 use Rattle.scan.proofs.Runs.{digit-yes}
 use Rattle.numerals.specs.Numerals.{valueFrom, digitOf}
 use Rattle.numerals.specs.Written.{padded, decimalWidth}
@@ -22,28 +24,28 @@ use Rattle.decimals.specs.Decimal.{fraction, afterFraction, allDigits, r
 use Rattle.decimals.specs.Decimal.{unsignedDecimal, decimalOf}
 use Rattle.decimals.specs.Size.{spelled, spelling}
 use Rattle.decimals.proofs.Counting.{digit-bounds}
-use Rattle.decimals.proofs.Reading.{every, every-append, limited-is, decimal-minus, decimal-bare}
+use Rattle.decimals.proofs.Reading.{limited-is, decimal-minus, decimal-bare}
 use Rattle.decimals.proofs.Sizes.{lead, before, behind}
 
 -- ---- rows of digits
-every-bytes : (s : List ℕ) → ((k : ℕ) → k < length s → (48 ≤ getD s k 0) × (getD s k 0 ≤ 57)) → every s ≡ true
+every-bytes : (s : List ℕ) → ((k : ℕ) → k < length s → (48 ≤ getD s k 0) × (getD s k 0 ≤ 57)) → every digitByte s ≡ true
 every-bytes [] h = refl
 every-bytes (b ∷ s) h =
     let d = h 0 (omega arith) in
     rw (digit-yes b (d .0) (d .1)) (every-bytes s (λ k l. h (suc k) (omega arith)))
 
-every-padded : (w n : ℕ) → every (padded 10 w n) ≡ true
+every-padded : (w n : ℕ) → every digitByte (padded 10 w n) ≡ true
 every-padded w n = every-bytes (padded 10 w n) (λ k l. padded-byte w n k (omega (arith, padded-length 10 w n)))
 
-run-split : (a b : List ℕ) → every a ≡ true → runLength digitByte b ≡ 0 → runLength digitByte (a ++ b) ≡ length a
+run-split : (a b : List ℕ) → every digitByte a ≡ true → runLength digitByte b ≡ 0 → runLength digitByte (a ++ b) ≡ length a
 unfolding runLength
 run-split [] b e z = z
-run-split (x ∷ a) b e z = let h = and-eq-true-iff (digitByte x) (every a) .0 e in rw (h .0, run-split a b (h .1) z)
+run-split (x ∷ a) b e z = let h = and-eq-true-iff (digitByte x) (every digitByte a) .0 e in rw (h .0, run-split a b (h .1) z)
 
-digits-split : (a b : List ℕ) → every a ≡ true → runLength digitByte b ≡ 0 → (digitsAt (a ++ b) ≡ a) × (afterDigits (a ++ b) ≡ b)
+digits-split : (a b : List ℕ) → every digitByte a ≡ true → runLength digitByte b ≡ 0 → (digitsAt (a ++ b) ≡ a) × (afterDigits (a ++ b) ≡ b)
 digits-split a b e z = (rw (run-split a b e z) (take-append-seam a b), rw (run-split a b e z) (drop-append-seam a b))
 
-digits-all : (a : List ℕ) → every a ≡ true → (digitsAt a ≡ a) × (afterDigits a ≡ [])
+digits-all : (a : List ℕ) → every digitByte a ≡ true → (digitsAt a ≡ a) × (afterDigits a ≡ [])
 unfolding runLength
 digits-all a e = rw append-nil at (digits-split a [] e refl)
 
@@ -61,13 +63,13 @@ value-shift (b ∷ s) v =
     let z : v * 10 ^ suc (length s) ≡ v * 10 * p = rw pow-suc (simp (mul-assoc, mul-comm, mul-left-comm)) in
     omega arith
 
-few-digits : (ds : List ℕ) (n : ℕ) → every ds ≡ true → valueFrom 10 0 ds < 10 ^ n → significant ds ≤ n
+few-digits : (ds : List ℕ) (n : ℕ) → every digitByte ds ≡ true → valueFrom 10 0 ds < 10 ^ n → significant ds ≤ n
 unfolding significant valueFrom
 few-digits [] n e h = omega arith
 few-digits (b ∷ s) n e h = by (eqb b 48) refl (few-digits s n (q .1))
   where
-    q : (digitByte b ≡ true) × (every s ≡ true)
-    q = and-eq-true-iff (digitByte b) (every s) .0 e
+    q : (digitByte b ≡ true) × (every digitByte s ≡ true)
+    q = and-eq-true-iff (digitByte b) (every digitByte s) .0 e
 
     d : digitOf b ≡ b - 48
     d = let k = digit-bounds b (q .0) in digit-byte b (k .0) (k .1)
@@ -89,7 +91,8 @@ few-digits (b ∷ s) n e h = by (eqb b 48) refl (few-digits s n (q .1))
         shorter false e l = omega (arith, leb-false n (length s) e)
 
 -- ---- without a sign
-module _ (minus : Bool) (w f : List ℕ) (limit decimals : ℕ) (ew : every w ≡ true) (ef : every f ≡ true) (some : 0 < length w) where
+module _ (minus : Bool) (w f : List ℕ) (limit decimals : ℕ) (ew : every digitByte w ≡ true) (ef : every digitByte f ≡ true)
+    (some : 0 < length w) where
   unsigned-parts : unsignedDecimal minus (w ++ ((46 ∷ []) ++ f)) limit decimals ≡ limited minus (w ++ f) (length f) limit decimals
   unfolding unsignedDecimal runLength digitByte
   unsigned-parts =
@@ -132,10 +135,10 @@ module _ (digits scale : ℕ) where
   some : 0 < length (before digits scale)
   some = omega (arith, padded-length 10 (decimalWidth (digits / 10 ^ scale)) (digits / 10 ^ scale), width-some (digits / 10 ^ scale))
 
-  every-before : every (before digits scale) ≡ true
+  every-before : every digitByte (before digits scale) ≡ true
   every-before = every-padded (decimalWidth (digits / 10 ^ scale)) (digits / 10 ^ scale)
 
-  every-behind : every (behind digits scale) ≡ true
+  every-behind : every digitByte (behind digits scale) ≡ true
   every-behind = every-padded scale (digits % 10 ^ scale)
 
   first-byte : (48 ≤ getD (plain digits scale) 0 0) × (getD (plain digits scale) 0 0 ≤ 57)
@@ -158,7 +161,8 @@ module _ (minus : Bool) (digits scale limit decimals : ℕ) (wide : digits < 2 ^
       ≡ Is (spelled minus digits scale)
   limited-all =
       let ds : List ℕ = before digits scale ++ behind digits scale in
-      let e : every ds ≡ true = every-append (before digits scale) (behind digits scale) (every-before digits scale) (every-behind digits scale) in
+      let e : every digitByte ds ≡ true =
+      every-append digitByte (before digits scale) (behind digits scale) (every-before digits scale) (every-behind digits scale) in
       limited-is minus ds (length (behind digits scale)) limit decimals (few-digits ds limit e (omega (arith, value-is digits scale wide)))
       (omega (arith, long-behind digits scale))
       ∙ rw (value-is digits scale wide, long-behind digits scale)

@@ -24,7 +24,7 @@ use Rattle.grammar.specs.Scan.{prefix}
 use Rattle.grammar.proofs.Tests.{by-test}
 use Rattle.derivation.proofs.SearchLaws.{from-end, prefix-at}
 use Rattle.derivation.proofs.RunLaws.{byte-at}
-use Rattle.decimals.proofs.Tests.{both}
+use Rattle.scan.proofs.Every.{both}
 use Rattle.names.specs.declared.tables.Listed.{Listed}
 use Rattle.names.specs.declared.tables.Listed.the-variants.{StyleExtra, InlineExtra, RegionAttr, InlineModelled, Imsc1Extension}
 use Rattle.names.specs.Lists.{names, nameOf}
@@ -147,10 +147,10 @@ unfolding agrees
 agrees-at f [] k i e h = absurd (omega arith)
 agrees-at f (n ∷ l) k zero e h =
     let z : k + 0 ≡ k = omega arith in
-    rw z (same-test (contains mark n) (leb f k) (both (sameTest (contains mark n) (leb f k)) (agrees f l (k + 1)) e .0))
+    rw z (same-test (contains mark n) (leb f k) (both {a = sameTest (contains mark n) (leb f k)} {b = agrees f l (k + 1)} e .0))
 agrees-at f (n ∷ l) k (suc i) e h =
     let z : k + suc i ≡ k + 1 + i = omega arith in
-    rw z (agrees-at f l (k + 1) i (both (sameTest (contains mark n) (leb f k)) (agrees f l (k + 1)) e .1) (omega arith))
+    rw z (agrees-at f l (k + 1) i (both {a = sameTest (contains mark n) (leb f k)} {b = agrees f l (k + 1)} e .1) (omega arith))
 
 names-itts : (list : Listed) (k : ℕ) → k < length (names list) → contains mark (nameOf list k) ≡ leb (ittsFrom list) k
 names-itts list k h = agrees-at (ittsFrom list) (names list) 0 k (tested list) h ∙ rw (zero-add k) refl

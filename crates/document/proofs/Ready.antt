@@ -12,7 +12,7 @@ use borrow.Author.Tests.{eqb-true, not-true}
 use Rattle.decimals.specs.declared.size.Size.{Size}
 use Rattle.decimals.specs.Size.{isSize}
 use Rattle.decimals.proofs.Sizes.{size-says}
-use Rattle.decimals.proofs.Tests.{both}
+use Rattle.scan.proofs.Every.{both}
 use Rattle.names.specs.declared.tables.Listed.{Listed}
 use Rattle.names.specs.declared.tables.Listed.the-variants.{InlineExtra, RegionAttr, StyleExtra}
 use Rattle.track.specs.Tables.{Tables, cell, paramAt, styleAt, lookAt, sizeAt, regionAt, cueAt, optional, paramCount, styleCount, regionCount,
@@ -36,7 +36,7 @@ near c d s v h e =
     let q : eqb c 0 ≡ false = not-true (eqb c 0) e in
     let x : Size = record { value = v; negative = eqb c 2; digits = d; scale = s } in
     let g : leb c 2 && isSize x ≡ true = rw q at h in
-    rw q (size-says x (both (leb c 2) (isSize x) g .1) .near)
+    rw q (size-says x (both {a = leb c 2} {b = isSize x} g .1) .near)
 
 module _ (T : Tables) (f : isFull T ≡ true) (h : isTrack T ≡ true) where
   abbrev z′ : List ℕ

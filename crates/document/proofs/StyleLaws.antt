@@ -18,7 +18,7 @@ use Rattle.entities.specs.Escape.{escaped}
 use Rattle.colors.specs.declared.read.Rgba.{Rgba}
 use Rattle.colors.specs.Written.{rgbaText}
 use Rattle.decimals.specs.declared.size.Size.{Size}
-use Rattle.decimals.proofs.Tests.{both}
+use Rattle.scan.proofs.Every.{both}
 use Rattle.grammar.specs.Tree.{Attr, attr}
 use Rattle.names.specs.declared.tables.Listed.the-variants.{StyleExtra}
 use Rattle.track.specs.declared.values.Align.{Align}
@@ -29,7 +29,7 @@ use Rattle.track.specs.Track as track
 use Rattle.track.specs.Tables.{Tables, cell, styleAt, rowsFrom}
 use Rattle.track.specs.Meaning.{bytesAt, styleIn, lookIn}
 use Rattle.track.specs.Meaning as meaning
-use Rattle.records.specs.declared.find.Found.{Found}
+use Rattle.scan.specs.declared.table.Found.{Found}
 use Rattle.records.specs.Find.{isNamed, firstWith, findChain, findExtras, chainFrom, extrasFrom, foundIn}
 use Rattle.records.proofs.FoundRows.{with-first, chain-found, extras-found}
 use Rattle.records.proofs.Finding.{namedWith}
@@ -50,7 +50,7 @@ module _ (t z name : List ℕ) (needed n j : ℕ) (e : firstWith t z name 27 nee
   row-has : eqb (getD t (j * 27 + needed) 0) 0 ≡ false
   row-has =
       not-true (eqb (getD t (j * 27 + needed) 0) 0)
-      (both (not (eqb (getD t (j * 27 + needed) 0) 0)) (isNamed t z name (j * 27)) (with-first t z name 27 n needed j e .passes) .0)
+      (both {a = not (eqb (getD t (j * 27 + needed) 0) 0)} {b = isNamed t z name (j * 27)} (with-first t z name 27 n needed j e .passes) .0)
 
 module _ (T : Tables) (name : Bytes) (n : ℕ) where
   abbrev chainRow : Found

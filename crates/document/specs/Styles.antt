@@ -15,7 +15,7 @@ use Rattle.track.specs.declared.values.Look.{Look}
 use Rattle.track.specs.Track.{Bytes}
 use Rattle.track.specs.Tables.{Tables, cell, styleAt}
 use Rattle.track.specs.Meaning.{bytesAt, isColor}
-use Rattle.records.specs.declared.find.Found.{Found}
+use Rattle.scan.specs.declared.table.Found.{Found}
 use Rattle.records.specs.Find.{Named}
 use Rattle.scan.specs.Text.{ascii}
 use Rattle.written.specs.Attributes.{sizeText}

@@ -15,7 +15,8 @@ use lib.Dec.{eqb, leb, ltb}
 use borrow.Author.Tests.{eqb-true, eqb-false, ne-eqb, lt-ltb, lt-leb, ltb-true, ltb-false}
 use Rattle.scan.specs.Bytes.{runLength}
 use Rattle.scan.specs.Names.{sameBytes}
-use Rattle.scan.proofs.Every.{both, every, every-at}
+use Rattle.scan.specs.Every.{every}
+use Rattle.scan.proofs.Every.{both, every-at}
 use Rattle.scan.proofs.Naming.{same-eq}
 use Rattle.scan.proofs.Runs.{length-within}
 use Rattle.unicode.specs.Utf8.{sequenceAt, charAt, scalar}

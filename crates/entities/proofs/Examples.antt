@@ -5,7 +5,7 @@ use mathlib.Core.Bool.{Bool, true}
 use mathlib.Core.List.{List, [], _∷_}
 use Rattle.scan.specs.Names.{sameBytes}
 use Rattle.scan.specs.Text.{ascii}
-use Rattle.scan.proofs.Every.{every}
+use Rattle.scan.specs.Every.{every}
 use Rattle.unicode.specs.Utf8.{sequenceAt, charAt, scalar, encode}
 use Rattle.unicode.specs.White.{isWhite}
 use Rattle.numerals.specs.Numerals.{numeralOf}

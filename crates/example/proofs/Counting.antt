@@ -16,8 +16,8 @@ use Rattle.grammar.specs.Tree.{Forest}
 use Rattle.grammar.specs.Demand.{decodeForest}
 use Rattle.grammar.proofs.Theorem.{no-two}
 use Rattle.derivation.specs.Strings.{treeIn}
-use Rattle.xml.specs.declared.find.Found.{Found}
-use Rattle.xml.specs.declared.find.Found.the-variants.{Row, Nothing}
+use Rattle.scan.specs.declared.table.Found.{Found}
+use Rattle.scan.specs.declared.table.Found.the-variants.{Row, Nothing}
 use Rattle.xml.specs.declared.find.Element.{Element}
 use Rattle.xml.specs.Promise.{Tables, AllZero, Takes, TurnsAway, Parsed}
 use Rattle.xml.specs.Find.{OfSiblings, findRow, elementRow, FoundAt}

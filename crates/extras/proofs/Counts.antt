@@ -15,7 +15,7 @@ use Rattle.scan.specs.Part.{stringAt}
 use Rattle.unicode.proofs.Utf8Laws.{by-test}
 use Rattle.tree.specs.Trees.{Attr, Forest, nil, text, section, elem, size, attrsOf, Span, attrSpans, spans, InOrder}
 use Rattle.tree.proofs.Places.{in-lower, in-first, in-rest}
-use Rattle.xml.specs.declared.find.Found.the-variants.{Row, Nothing}
+use Rattle.scan.specs.declared.table.Found.the-variants.{Row, Nothing}
 use Rattle.xml.specs.Find.{named, Holds, findRow}
 use Rattle.xml.specs.Reading.{Placed}
 use Rattle.xml.proofs.FindLaws.{holds-text, holds-section, holds-elem, holds-alone}

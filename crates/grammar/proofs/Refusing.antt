@@ -28,7 +28,7 @@ use Rattle.grammar.proofs.Counted.{afterTagNameL, elementL, nodeL, cont
 use Rattle.grammar.proofs.Counted.{finishL, readDocumentL, lok, lbad}
 use Rattle.grammar.specs.Refusals.{ElementBegins, NodeBegins, AttributeBegins, Viable, InStartTag, in-start-tag, Meets, too-deep}
 use Rattle.grammar.specs.Refusals.{too-many-nodes, no-tag-name, too-many-attributes, slash, no-value, end-in-tag, open-close-tag}
-use Rattle.grammar.proofs.Tests.{by-test, both, eqb-eq, equals-byte, or-else}
+use Rattle.grammar.proofs.Tests.{by-test, not-both, eqb-eq, equals-byte, or-else}
 use Rattle.grammar.proofs.Scans.{run-past, run-only, past-stops, run-is, past-is}
 use Rattle.grammar.proofs.Complete.{blank-gt, AtTagEnd, opening-complete, kind-close, kind-comment}
 use Rattle.grammar.proofs.Sound.{AttributeS, AttributesS, all-blanks, begins-name, attribute-sound, attributes-sound, ContentS, View, view}
@@ -312,7 +312,7 @@ module _ (D K J N d₀ : ℕ) (rec : Counted Forest) (ih : ContentR D K J N (suc
       go [] q = met (λ b r bb e. nil≢cons (sym q ∙ past-mark b r bb e))
       go (c ∷ z) q =
           by-test (eqb c 62) (λ h. rw h tt)
-          (λ h. rw h (met (λ b r bb e. both (eqb c 62) (rw (head-eq-of-cons-eq (sym q ∙ past-mark b r bb e)) refl) h)))
+          (λ h. rw h (met (λ b r bb e. not-both (eqb c 62) (rw (head-eq-of-cons-eq (sym q ∙ past-mark b r bb e)) refl) h)))
 
   pub opened-refused : (o n : Bytes) (l : List Attr) (k j : ℕ) (r : Bytes) → Viable (o then r) w d₀ k₀ j₀ p → ElementBegins (o then r)
       → Opening r o n l → AtTagEnd r

@@ -13,7 +13,8 @@ use lib.Seq.{drop-append-seam}
 use lib.Dec.{eqb}
 use Rattle.grammar.specs.Words.{Bytes, Only, Stops, Begins, Lacks, UpTo, closed, unclosed}
 use Rattle.grammar.specs.Scan.{run, past, prefix, from, before, beyond}
-use Rattle.grammar.proofs.Tests.{by-test, both, eqb-same, eqb-eq, and-both}
+use Rattle.scan.proofs.Every.{both}
+use Rattle.grammar.proofs.Tests.{by-test, not-both, eqb-same, eqb-eq}
 
 -- ---- runs
 
@@ -55,7 +56,7 @@ pub prefix-begins : (m s : Bytes) → prefix m s ≡ true → Begins m s
 prefix-begins [] s e = (s, refl)
 prefix-begins (a ∷ m) [] e = absurd (true≢false (sym e))
 prefix-begins (a ∷ m) (b ∷ s) e =
-    let k = and-both (eqb a b) (prefix m s) e in
+    let k = both {a = eqb a b} {b = prefix m s} e in
     let ih = prefix-begins m s (k .1) in
     (ih .0, ap₂ _∷_ (sym (eqb-eq a b (k .0))) (ih .1))
 
@@ -66,7 +67,7 @@ pub not-prefix : (m s : Bytes) → (Begins m s → ⊥) → prefix m s ≡ false
 not-prefix m s h = by-test (prefix m s) (λ e. absurd (h (prefix-begins m s e))) (λ e. e)
 
 pub prefix-not : (m s : Bytes) → prefix m s ≡ false → Begins m s → ⊥
-prefix-not m s e h = both (prefix m s) (begins-prefix m s h) e
+prefix-not m s e h = not-both (prefix m s) (begins-prefix m s h) e
 
 -- whether m begins a string is settled by as many of its bytes as m has
 pub prefix-cut : (m w s : Bytes) → length m ≤ length w → prefix m (w ++ s) ≡ prefix m w

@@ -26,7 +26,7 @@ use Rattle.grammar.proofs.Reader.{bad, as-text, as-section, as-element,
 use Rattle.grammar.proofs.Counted.{LRes, lnext, lmap, lift, Counted, attributesAsL, attributesStepL, attributesL, openedAsL, afterOpeningL}
 use Rattle.grammar.proofs.Counted.{afterTagNameL, elementL, nodeL, contentAsL, contentStepL, contentL, nodesAsL, nodesStepL, nodesL}
 use Rattle.grammar.proofs.Counted.{finishL, readDocumentL, textAs, readText, lok, lbad}
-use Rattle.grammar.proofs.Tests.{by-test, T→is, is→T, both}
+use Rattle.grammar.proofs.Tests.{by-test, T→is, is→T, not-both}
 use Rattle.grammar.proofs.Complete.{complete}
 use Rattle.grammar.proofs.Sound.{sound}
 
@@ -297,5 +297,5 @@ text-exactly s f = by-test (leb (length s) 65536)
     rw e ((λ q. let h = within-exactly 64 8192 8192 s f .0 q in (h .0, h .1, small)), (λ h. within-exactly 64 8192 8192 s f .1 (h .0, h .1))))
     (λ e. rw e (
       (λ q. let z : _≡_ {A = ℕ} 0 1 = cc in absurd (omega arith)),
-      (λ h. absurd (both (leb (length s) 65536) (T→is (leb (length s) 65536) (le→leb (length s) 65536 (h .2))) e)),
+      (λ h. absurd (not-both (leb (length s) 65536) (T→is (leb (length s) 65536) (le→leb (length s) 65536 (h .2))) e)),
     ))

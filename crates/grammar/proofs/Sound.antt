@@ -25,7 +25,7 @@ use Rattle.grammar.proofs.Reader.{attributesStep, readAttributes, slash
 use Rattle.grammar.proofs.Reader.{NodeKind, Kind, kind, nodeAs, afterClose, contentAs, contentStep, readContent, nodesAs, nodesStep}
 use Rattle.grammar.proofs.Reader.{readNodes, PieceKind, pieceKind, prologAs, pastProlog, finish, readDocument, ok, bad, as-text}
 use Rattle.grammar.proofs.Reader.{as-section, as-element, as-close, as-comment, as-node, blank-byte, to-mark, no-more}
-use Rattle.grammar.proofs.Tests.{by-test, both, eqb-eq, not-false, or-true3, equals-byte}
+use Rattle.grammar.proofs.Tests.{by-test, not-both, eqb-eq, not-false, or-true3, equals-byte}
 use Rattle.grammar.proofs.Scans.{run-past, run-only, past-stops, past-is, prefix-begins, prefix-not, before-from, Found, found}
 use Rattle.grammar.proofs.Scans.{before-lacks, up-to, nowhere, at-first}
 use Rattle.grammar.proofs.Complete.{past-none, blank-equals, AtTagEnd, begins-more, begins-piece, open-comment, open-instruction}
@@ -122,7 +122,7 @@ pub not-equals : (b t : Bytes) (c : ℕ) → Only blank b → blank c ≡ false 
 not-equals b t c o u n b′ r o′ e =
     let x : past blank (b ++ (c ∷ t)) ≡ c ∷ t = past-is blank b (c ∷ t) o u in
     let y : past blank (b′ ++ (61 ∷ r)) ≡ 61 ∷ r = past-is blank b′ (61 ∷ r) (o′ .all) blank-equals in
-    both (eqb c 61) (rw (head-eq-of-cons-eq (sym x ∙ ap (past blank) e ∙ y)) refl) n
+    not-both (eqb c 61) (rw (head-eq-of-cons-eq (sym x ∙ ap (past blank) e ∙ y)) refl) n
 
 pub regroup : (n b c w : Bytes) → (n then b then `=` then c) ++ w ≡ n then b then `=` then c then w
 regroup n b c w = simp append-assoc

@@ -17,8 +17,8 @@ pub is→T : (b : Bool) → b ≡ true → T b
 is→T true e = tt
 is→T false e = absurd (true≢false (sym e))
 
-pub both : (b : Bool) → b ≡ true → b ≡ false → ⊥
-both b p q = true≢false (sym p ∙ q)
+pub not-both : (b : Bool) → b ≡ true → b ≡ false → ⊥
+not-both b p q = true≢false (sym p ∙ q)
 
 pub eqb-same : (n : ℕ) → eqb n n ≡ true
 eqb-same n = T→is (eqb n n) (eqb-refl n)
@@ -26,12 +26,8 @@ eqb-same n = T→is (eqb n n) (eqb-refl n)
 pub eqb-eq : (m n : ℕ) → eqb m n ≡ true → m ≡ n
 eqb-eq m n e = eqb→eq m n (is→T (eqb m n) e)
 
-pub and-both : (a b : Bool) → (a && b) ≡ true → (a ≡ true) × (b ≡ true)
-and-both true b e = (refl, e)
-and-both false b e = absurd (true≢false (sym e))
-
 pub test-sym : (a b : ℕ) → eqb a b ≡ false → eqb b a ≡ false
-test-sym a b e = by-test (eqb b a) (λ t. absurd (both (eqb a b) (rw (eqb-eq b a t) (eqb-same a)) e)) (λ t. t)
+test-sym a b e = by-test (eqb b a) (λ t. absurd (not-both (eqb a b) (rw (eqb-eq b a t) (eqb-same a)) e)) (λ t. t)
 
 pub not-true : (a : Bool) → not a ≡ true → a ≡ false
 not-true true e = absurd (true≢false (sym e))

@@ -12,7 +12,7 @@ use lib.Ieee.{Float}
 use Rattle.tree.specs.Trees.{Forest}
 use Rattle.track.specs.Tables.{Lengths}
 use Rattle.track.specs.Layout as placing
-use Rattle.xml.specs.declared.find.Found.{Found}
+use Rattle.scan.specs.declared.table.Found.{Found}
 use Rattle.xml.specs.declared.find.Element.{Element}
 use Rattle.xml.specs.Find.{OfSiblings, findRow, elementRow}
 use Rattle.xml.proofs.FindLaws.{holds-elem}

@@ -13,7 +13,8 @@ use lib.ListN.{length, getD}
 use borrow.Author.Tests.{not-true}
 use Rattle.scan.specs.Bytes.{runLength}
 use Rattle.scan.specs.Names.{sameBytes, sameFolded}
-pub use Rattle.scan.proofs.Every.{both, every, every-at, every-as}
+pub use Rattle.scan.specs.Every.{every}
+pub use Rattle.scan.proofs.Every.{both, every-at, every-as}
 use Rattle.scan.proofs.Naming.{same-eq, same-refl, folded-map, map-folded, sameFolded-sym}
 use Rattle.names.specs.declared.lookup.Number.{Number}
 use Rattle.names.specs.Numbers.{numberFrom, isIn}

@@ -13,7 +13,7 @@ use lib.ListN.{length, getD, take, length-take}
 use lib.Dec.{eqb, leb}
 use borrow.Author.Tests.{leb-true, eqb-true, eqb-false}
 use Rattle.unicode.proofs.Utf8Laws.{by-test}
-use Rattle.decimals.proofs.Tests.{both}
+use Rattle.scan.proofs.Every.{both}
 use Rattle.track.specs.declared.strings.Span.{Span}
 use Rattle.track.specs.Tables.{Tables, cell, span, optional, styleCount, regionCount, cueCount, segmentCount, stringsUsed, cueAt}
 use Rattle.track.specs.Meaning.{isOptional, hasExtras, withinLimits, isTrack}
@@ -64,7 +64,7 @@ module _ (T : Tables) where
   pub lengths : isFull T ≡ true → Lengths T
   unfolding isFull rowsFull restFull rows rest
   lengths h =
-      let p = both rows rest h in
+      let p = both {a = rows} {b = rest} h in
       let a = seven (leb 10 (length (T .head))) (leb 256 (length (T .params))) (leb 6912 (length (T .styles))) (leb 1024 (length (T .regions)))
       (leb 22528 (length (T .cues))) (leb 131072 (length (T .segments))) (leb 24576 (length (T .extras))) (p .0) in
       let b = five (leb 4096 (length (T .times))) (leb 16384 (length (T .reveal))) (leb 16640 (length (T .sizes))) (leb 65536 (length (T .strings)))

@@ -16,7 +16,8 @@ use lib.Dec.{eqb}
 use borrow.Author.Tests.{not-true, eqb-true, eqb-false, eq-eqb, ne-eqb}
 use Rattle.scan.specs.Names.{sameBytes}
 use Rattle.unicode.proofs.Utf8Laws.{by-test}
-use Rattle.decimals.proofs.Tests.{both, no}
+use Rattle.scan.proofs.Every.{both}
+use Rattle.decimals.proofs.Tests.{no}
 use Rattle.names.specs.declared.tables.Listed.{Listed}
 use Rattle.names.specs.Lists.{regionAttr, nameOf}
 use Rattle.track.specs.declared.strings.Span.{Span}
@@ -44,17 +45,16 @@ onceAt (x ∷ l) b (suc k) = not (sameBytes x b) && onceAt l b k
 none-at : (l : List (List ℕ)) (b : List ℕ) → noneOf l b ≡ true → (i : ℕ) → sameBytes (getD l i []) b ≡ false
 unfolding noneOf
 none-at [] b h i = not-true (sameBytes [] b) h
-none-at (x ∷ l) b h zero = not-true (sameBytes x b) (both (not (sameBytes x b)) (noneOf l b) h .0)
-none-at (x ∷ l) b h (suc i) = none-at l b (both (not (sameBytes x b)) (noneOf l b) h .1) i
+none-at (x ∷ l) b h zero = not-true (sameBytes x b) (both {a = not (sameBytes x b)} {b = noneOf l b} h .0)
+none-at (x ∷ l) b h (suc i) = none-at l b (both {a = not (sameBytes x b)} {b = noneOf l b} h .1) i
 
 pub only-at : (l : List (List ℕ)) (b : List ℕ) (k : ℕ) → onceAt l b k ≡ true → (i : ℕ) → sameBytes (getD l i []) b ≡ eqb i k
 unfolding onceAt
 only-at [] b k h i = no (sym h)
-only-at (x ∷ l) b zero h zero = both (sameBytes x b) (noneOf l b) h .0 ∙ sym (eq-eqb 0 0 refl)
-only-at (x ∷ l) b zero h (suc i) = none-at l b (both (sameBytes x b) (noneOf l b) h .1) i ∙ sym (ne-eqb (suc i) 0 (λ e. omega arith))
-only-at (x ∷ l) b (suc k) h zero = not-true (sameBytes x b) (both (not (sameBytes x b)) (onceAt l b k) h .0) ∙ sym (ne-eqb 0 (suc k) (λ e. omega
-    arith))
-only-at (x ∷ l) b (suc k) h (suc i) = only-at l b k (both (not (sameBytes x b)) (onceAt l b k) h .1) i ∙ same i k
+only-at (x ∷ l) b zero h zero = both {a = sameBytes x b} {b = noneOf l b} h .0 ∙ sym (eq-eqb 0 0 refl)
+only-at (x ∷ l) b zero h (suc i) = none-at l b (both {a = sameBytes x b} {b = noneOf l b} h .1) i ∙ sym (ne-eqb (suc i) 0 (λ e. omega arith))
+only-at (x ∷ l) b (suc k) h zero = not-true (sameBytes x b) (both {b = onceAt l b k} h .0) ∙ sym (ne-eqb 0 (suc k) (λ e. omega arith))
+only-at (x ∷ l) b (suc k) h (suc i) = only-at l b k (both {a = not (sameBytes x b)} {b = onceAt l b k} h .1) i ∙ same i k
   where
     same : (i k : ℕ) → eqb i k ≡ eqb (suc i) (suc k)
     same i k = by-test (eqb i k) (λ e. e ∙ sym (eq-eqb (suc i) (suc k) (ap suc (eqb-true i k e))))

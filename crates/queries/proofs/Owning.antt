@@ -27,6 +27,7 @@ use Rattle.decimals.specs.declared.read.Decimal.{Decimal}
 use Rattle.decimals.specs.declared.read.Digits.{Digits}
 use Rattle.decimals.proofs.Tests.{no}
 use Rattle.names.specs.Lists.{regionAttr}
+use Rattle.track.specs.Alignment.{alignWord}
 use Rattle.track.specs.declared.values.Align.{Align}
 use Rattle.track.specs.declared.values.Look as values
 use Rattle.track.specs.Track.{Bytes, Look, Extra}
@@ -48,7 +49,6 @@ use Rattle.queries.specs.Steps.{
   SpanIn,
   HasExtras,
   says,
-  alignWord,
   colorAs,
   ColorPost,
   sizeAs,

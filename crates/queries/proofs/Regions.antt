@@ -16,7 +16,7 @@ use Rattle.track.specs.Track.{Bytes, Look, Extra, Style, Region}
 use Rattle.track.specs.Tables.{Tables, span, cell, rowsFrom, regionAt}
 use Rattle.track.specs.Meaning.{bytesAt, given, lookIn, regionIn}
 use Rattle.track.specs.Layout.{isSome}
-use Rattle.records.specs.declared.find.Found.{Found}
+use Rattle.scan.specs.declared.table.Found.{Found}
 use Rattle.records.specs.Find.{findRegion, firstRow}
 use Rattle.records.proofs.FoundRows.{row-first, region-found}
 use Rattle.styles.specs.Values.{unstyled}

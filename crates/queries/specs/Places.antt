@@ -13,7 +13,7 @@ use Rattle.track.specs.Track.{Bytes, Look, Extra}
 use Rattle.track.specs.Tables.{Tables, span, rowsFrom, styleCount, regionCount, cueCount, extraAt, regionAt, cueAt}
 use Rattle.track.specs.Layout.{each, isSome}
 use Rattle.track.specs.Shown.{bytesAt, shownExtra}
-use Rattle.records.specs.declared.find.Found.{Found}
+use Rattle.scan.specs.declared.table.Found.{Found}
 use Rattle.records.specs.Find.{firstRow}
 use Rattle.styles.specs.Own.{Read, is, next, valueOf, ownValues}
 use Rattle.styles.specs.Cells.{noColor, noSize, blankLook}

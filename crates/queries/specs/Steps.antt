@@ -16,7 +16,6 @@ use Rattle.decimals.specs.declared.size.Size.{Size}
 use Rattle.decimals.specs.Decimal.{decimalOf}
 use Rattle.tree.specs.declared.answers.Refusal.{Refusal}
 use Rattle.track.specs.declared.strings.Span.{Span}
-use Rattle.track.specs.declared.values.Align.{Align}
 use Rattle.track.specs.declared.values.Look as values
 use Rattle.track.specs.declared.check.Check.{Check}
 use Rattle.track.specs.Track.{Bytes, Look, Extra, Style, Region}
@@ -74,13 +73,6 @@ pub record HasExtras (e z : List ℕ) (first many : ℕ) : Type 0 where
 abbrev pub says : Bytes → Option Bytes → Bool
 says word none = false
 says word (some v) = sameFolded v word
-
-abbrev pub alignWord : Bytes → Align
-alignWord w =
-    cond (sameFolded w (ascii "end")) Align.End
-    (cond (sameFolded w (ascii "center")) Align.Center
-    (cond (sameFolded w (ascii "left")) Align.Left
-    (cond (sameFolded w (ascii "right")) Align.Right Align.Start)))
 
 abbrev pub colorAs : ColorRead → Read (Option Rgba)
 colorAs (ColorRead.Is x) = is (given (x .has) (x .color))

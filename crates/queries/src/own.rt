@@ -3,9 +3,8 @@ ghost use mathlib.Core.Path.{_≡_};
 ghost use Prim.Native.Nat.{_+_, _*_, _≤_};
 ghost use lib.ListN.{length, take};
 ghost use Rattle.scan.specs.Bytes.{runLength};
-ghost use Rattle.unicode.specs.White.{trimmed};
 ghost use Rattle.styles.specs.Own.{sizeByte, alignIn};
-ghost use Rattle.queries.specs.Steps.{HasExtras, valueAt, bytesIn, valueIn, says, alignWord, ColorPost, SizePost, ownLook, OwnPost};
+ghost use Rattle.queries.specs.Steps.{HasExtras, valueAt, bytesIn, valueIn, says, ColorPost, SizePost, ownLook, OwnPost};
 use colors::Color;
 use colors::Rgba;
 use decimals::Decimal;
@@ -147,33 +146,6 @@ fn size_in(value: &[u8]) -> SizeRead
     }
 }
 
-fn align_word(word: &[u8]) -> Align
-    ensures { λ r. ⌜ r ≡ alignWord (now (word .entry)) ⌝ }
-{
-    if scan::eq_ignore_ascii_case(word, b"end") {
-        return Align::End;
-    }
-    if scan::eq_ignore_ascii_case(word, b"center") {
-        return Align::Center;
-    }
-    if scan::eq_ignore_ascii_case(word, b"left") {
-        return Align::Left;
-    }
-    if scan::eq_ignore_ascii_case(word, b"right") {
-        return Align::Right;
-    }
-    Align::Start
-}
-
-fn parse_text_align(value: &[u8]) -> Align
-    ensures { λ r. ⌜ r ≡ alignWord (trimmed (now (value .entry))) ⌝ }
-{
-    let word = unicode::trim(value);
-    let start = word.start;
-    let end = word.end;
-    align_word(&value[start..end])
-}
-
 fn align_of(extras: &[u32], strings: &[u8], first: usize, many: usize) -> Align
     requires { ⌜ HasExtras (now extras) (now strings) first many ⌝ }
     ensures { λ r. ⌜ r ≡ alignIn (valueIn (now (extras .entry)) (now (strings .entry)) 39 many first) ⌝ }
@@ -182,7 +154,7 @@ fn align_of(extras: &[u32], strings: &[u8], first: usize, many: usize) -> Align
     let s = v.span;
     let from = s.place;
     let to = from + s.len;
-    parse_text_align(&strings[from..to])
+    track::parse_text_align(&strings[from..to])
 }
 
 // Is the value with this number the word, letters in any case?

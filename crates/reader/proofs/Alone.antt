@@ -25,7 +25,7 @@ use Rattle.records.specs.declared.cells.Added.{Added}
 use Rattle.records.specs.Posts.{headRow, headOf, AddPost, TimesPost}
 use Rattle.records.proofs.RowLaws.{head-laid}
 use Rattle.xml.specs.declared.find.Element as found
-use Rattle.xml.specs.declared.find.Found.{Found}
+use Rattle.scan.specs.declared.table.Found.{Found}
 use Rattle.xml.specs.Find.{OfSiblings, elementRow, findRow}
 use Rattle.xml.specs.Reading.{Placed}
 use Rattle.meaning.specs.Answers.{Answer, is, refused, _>>=_}

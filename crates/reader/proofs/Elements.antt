@@ -10,7 +10,7 @@ use lib.ListN.{length}
 use Rattle.tree.specs.Trees.{size, attrSpans, spans, InOrder}
 use Rattle.tree.specs.Trees as placed
 use Rattle.tree.proofs.Places.{in-lower, in-first, in-rest}
-use Rattle.xml.specs.declared.find.Found.{Found}
+use Rattle.scan.specs.declared.table.Found.{Found}
 use Rattle.xml.specs.declared.find.Element.{Element}
 use Rattle.xml.specs.Find.{Holds, Owned, OfSiblings, ElementAt, elementRow, findRow}
 use Rattle.xml.proofs.FindLaws.{holds-elem}

@@ -20,7 +20,7 @@ use Rattle.track.specs.Layout.{each, filled, joinedCells, paramCells}
 use Rattle.records.specs.declared.cells.Added.{Added}
 use Rattle.records.proofs.RowLaws.{joined-length, param-wide}
 use Rattle.records.proofs.Beside.{each-length}
-use Rattle.xml.specs.declared.find.Found.{Found}
+use Rattle.scan.specs.declared.table.Found.{Found}
 use Rattle.xml.specs.declared.find.Element as found
 use Rattle.xml.specs.Find.{OfSiblings, elementRow, findRow}
 use Rattle.xml.specs.Reading.{Placed}

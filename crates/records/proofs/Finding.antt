@@ -8,7 +8,7 @@ use borrow.Author.Tests.{ne-eqb}
 use native.Mathlib.Nat.{suc-mul, mul-le-mul-right}
 use lib.ListN.{getD}
 use lib.Dec.{eqb}
-use Rattle.records.specs.declared.find.Found.{Found}
+use Rattle.scan.specs.declared.table.Found.{Found}
 use Rattle.records.specs.Find.{isNamed, firstRow, firstWith}
 
 -- the first row, of n from row i on, that passes the test

@@ -16,7 +16,7 @@ use Rattle.track.specs.Layout.{each, isSome}
 use Rattle.track.specs.Meaning.{isSpan, styleStrings, isStyle, isRegion, styleIn, regionIn}
 use Rattle.unicode.proofs.Utf8Laws.{by-test}
 use Rattle.scan.proofs.Every.{both}
-use Rattle.records.specs.declared.find.Found.{Found}
+use Rattle.scan.specs.declared.table.Found.{Found}
 use Rattle.records.specs.Find.{isNamed, firstRow, firstWith, firstThat, isEmpty, chainFrom, extrasFrom, findStyle, findChain, findExtras}
 use Rattle.records.specs.Find.{findRegion, foundIn, Named}
 use Rattle.records.proofs.Finding.{firstOf, named, namedWith, firstRow-of, firstWith-of}

@@ -9,7 +9,7 @@ use Rattle.scan.specs.Names.{sameBytes}
 use Rattle.scan.specs.Part.{stringAt}
 use Rattle.track.specs.Track.{Bytes, Extra, Style, Region}
 use Rattle.track.specs.Layout.{isSome}
-use Rattle.records.specs.declared.find.Found.{Found}
+use Rattle.scan.specs.declared.table.Found.{Found}
 
 -- the string whose place and length stand at cell i is this
 unfoldable pub isNamed : List ℕ → List ℕ → List ℕ → ℕ → Bool

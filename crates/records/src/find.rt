@@ -6,13 +6,9 @@ ghost use Prim.Native.Nat.{ℕ, _+_, _*_, _≤_, _<_};
 ghost use lib.ListN.{length, getD};
 ghost use Rattle.track.specs.Meaning.{isSpan};
 ghost use Rattle.records.specs.Find.{isNamed, firstRow, firstWith, Named};
+use scan::Found;
 use track::REGION_CELLS;
 use track::STYLE_CELLS;
-
-pub enum Found {
-    Row(usize),
-    Nothing,
-}
 
 // Is this the string whose place and length stand at a cell?
 fn is_named(cells: &[u32], strings: &[u8], at: usize, name: &[u8]) -> bool

@@ -1,5 +1,6 @@
 pub mod Loop
 pub mod Text
+pub mod Every
 pub mod Bytes
 pub mod Marks
 pub mod Names

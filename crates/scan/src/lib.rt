@@ -21,6 +21,7 @@ pub use names::eq_ignore_ascii_case;
 pub use names::same;
 pub use names::strip_ns;
 pub use names::tag_local;
+pub use table::Found;
 pub use table::Written;
 pub use table::append;
 pub use table::clear;

@@ -9,6 +9,12 @@ ghost use lib.IntN.{pos};
 ghost use lib.Ieee.{fin};
 ghost use Rattle.scan.specs.Posts.{Appended, Wrote};
 
+// A row, or there is none.
+pub enum Found {
+    Row(usize),
+    Nothing,
+}
+
 // Where the next byte goes, or there is no room.
 pub enum Written {
     At(usize),

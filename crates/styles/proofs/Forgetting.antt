@@ -16,7 +16,7 @@ use Rattle.scan.specs.Part.{part, stringAt}
 use Rattle.unicode.specs.White.{words, wordsFrom, WordAt}
 use Rattle.track.specs.Track.{Bytes, Style}
 use Rattle.track.specs.Tables.{styleAt}
-use Rattle.records.specs.declared.find.Found.{Found}
+use Rattle.scan.specs.declared.table.Found.{Found}
 use Rattle.records.specs.Find.{firstRow, firstWith}
 use Rattle.records.proofs.FoundRows.{style-found}
 use Rattle.styles.specs.Reaches.{parents}

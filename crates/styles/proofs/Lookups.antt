@@ -16,12 +16,12 @@ use borrow.Author.Tests.{not-true}
 use Rattle.scan.specs.Part.{stringAt}
 use Rattle.unicode.specs.White.{words, wordsFrom}
 use Rattle.unicode.proofs.WhiteLaws.{wordsFrom-none, whiteEnd-low}
-use Rattle.decimals.proofs.Tests.{both}
+use Rattle.scan.proofs.Every.{both}
 use Rattle.track.specs.declared.strings.Span.{Span}
 use Rattle.track.specs.Track.{Bytes, Style}
 use Rattle.track.specs.Tables.{Tables, cell, span, rowsFrom, lookAt, styleAt}
 use Rattle.track.specs.Meaning.{bytesAt, given, lookIn, styleIn}
-use Rattle.records.specs.declared.find.Found.{Found}
+use Rattle.scan.specs.declared.table.Found.{Found}
 use Rattle.records.specs.Find.{isNamed, firstRow, firstWith, chainFrom, foundIn}
 use Rattle.records.proofs.Finding.{named, namedWith}
 use Rattle.records.proofs.FoundRows.{First, row-first, with-first, chain-found}
@@ -75,7 +75,7 @@ module _ (s : List ℕ) (f : List Float) (e z : List ℕ) (n : ℕ) (name : Byte
     chain-row-within = omega (arith, first-chain .within)
 
     has-chain : eqb (getD s (i * 27 + 3) 0) 0 ≡ false
-    has-chain = not-true _ (both _ _ (first-chain .passes) .0)
+    has-chain = not-true _ (both (first-chain .passes) .0)
 
     pub chain-row : parents (stylesIn s f e z n) name ≡ words (stringAt z (getD s (i * 27 + 2) 0) (getD s (i * 27 + 3) 0))
     unfolding parents

@@ -16,7 +16,7 @@ use Rattle.track.specs.declared.values.Look.{Look}
 use Rattle.track.specs.Track.{Bytes}
 use Rattle.track.specs.Tables.{span, styleAt}
 use Rattle.track.specs.Meaning.{lookIn}
-use Rattle.records.specs.declared.find.Found.{Found}
+use Rattle.scan.specs.declared.table.Found.{Found}
 use Rattle.records.specs.Find.{firstRow, firstWith}
 use Rattle.styles.specs.Resolve.{Walked}
 use Rattle.styles.specs.Cells.{overlaid, blankLook, isPlain}

@@ -17,7 +17,7 @@ use Rattle.track.specs.declared.values.Align.{Align}
 use Rattle.track.specs.Track.{segmentRows}
 use Rattle.track.specs.Track as track
 use Rattle.track.specs.Tables.{Lengths, span, rowsOf, zeroFloat}
-use Rattle.track.specs.Meaning.{isSpan, every, isUtf8, lookIn, trackIn}
+use Rattle.track.specs.Meaning.{isSpan, isUtf8, lookIn, trackIn}
 use Rattle.track.specs.Layout.{Placed, each, preorder, wrapperOf, allSegments, layout}
 use Rattle.track.specs.Placing.{Fits, depth, laid, laidStyle, laidRegion, laidCue}
 use Rattle.track.specs.Shown.{shownExtra, shownParam, shownChain, shownStyle, shownRegion, shownWrapper, shownSegments, shownCue, shown}
@@ -78,7 +78,7 @@ small = record {
 }
 
 pub small-fits : Fits small letters words 4 2
-unfolding small laid laidStyle laidRegion laidCue each segmentRows preorder wrapperOf allSegments depth isSpan boundary every attrNameByte stringAt
+unfolding small laid laidStyle laidRegion laidCue each segmentRows preorder wrapperOf allSegments depth isSpan boundary attrNameByte stringAt
     isUtf8 utf8End loop go sequenceAt firstFit fitsAt
 small-fits = record {
   few-params = omega arith;

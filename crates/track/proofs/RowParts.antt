@@ -13,10 +13,11 @@ use lib.Dec.{eqb, leb, ltb}
 use lib.Ieee.{Float}
 use borrow.Author.Tests.{eqb-true, leb-true, ltb-true}
 use Rattle.scan.specs.Bytes.{attrNameByte}
+use Rattle.scan.specs.Every.{every}
 use Rattle.scan.specs.Part.{stringAt}
 use Rattle.scan.proofs.Every.{both}
 use Rattle.track.specs.Tables.{cell, sizeCell}
-use Rattle.track.specs.Meaning.{isSpan, isOptional, isFlag, isColor, isSizeAt, isExtra, areExtras, hasExtras, every, isParam, styleStrings}
+use Rattle.track.specs.Meaning.{isSpan, isOptional, isFlag, isColor, isSizeAt, isExtra, areExtras, hasExtras, isParam, styleStrings}
 use Rattle.track.specs.Meaning.{styleValues, styleFlags, isStyle, isRegion, areSegments, cueValues, isCue}
 use Rattle.track.proofs.StringLaws.{three, four}
 

@@ -14,10 +14,11 @@ use lib.Dec.{leb, eqb, eqb·zero-suc, eqb·suc-suc}
 use borrow.Author.Tests.{leb-true, le-leb, lt-leb}
 use Rattle.scan.specs.Part.{part, stringAt}
 use Rattle.scan.specs.Bytes.{runLength}
+use Rattle.scan.specs.Every.{every}
 use Rattle.scan.specs.Posts.{Ends}
 use Rattle.scan.proofs.Runs.{run-length}
 use Rattle.unicode.specs.Utf8.{boundary}
-use Rattle.track.specs.Meaning.{isSpan, every}
+use Rattle.track.specs.Meaning.{isSpan}
 
 module _ (z : List ℕ) (p n : ℕ) where
   pub span-far : length z < p + n → isSpan z p n ≡ false
@@ -38,7 +39,7 @@ module _ (z : List ℕ) (p n : ℕ) where
 
 module _ (t : ℕ → Bool) where
   pub every-run : (w : List ℕ) → every t w ≡ eqb (runLength t w) (length w)
-  unfolding every runLength
+  unfolding runLength
   every-run [] = refl
   every-run (b ∷ w) = by (t b) refl (every-run w)
     where

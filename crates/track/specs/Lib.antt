@@ -7,3 +7,4 @@ pub mod Check
 pub mod Steps
 pub mod Placing
 pub mod Plain
+pub mod Alignment

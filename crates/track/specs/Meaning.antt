@@ -8,6 +8,7 @@ use lib.Dec.{eqb, leb, ltb}
 use lib.Ieee.{Float}
 use Rattle.scan.specs.Part.{stringAt}
 use Rattle.scan.specs.Bytes.{attrNameByte}
+use Rattle.scan.specs.Every.{every}
 use Rattle.unicode.specs.Utf8.{boundary, utf8End}
 use Rattle.decimals.specs.Size.{isSize}
 use Rattle.track.specs.declared.values.Extra.{Extra}
@@ -66,14 +67,9 @@ unfolding areExtras
 hasExtras t z most first n = leb (first + n) 8192 && areExtras t z most 0 n first
 
 -- ---- rows
--- every byte of a string is in the class p
-unfoldable pub every : (ℕ → Bool) → List ℕ → Bool
-every p [] = true
-every p (b ∷ s) = p b && every p s
-
 -- "a parameter name with blank, `=`, `>` or `/`": such bytes end an attribute's name
 unfoldable pub isParam : List ℕ → List ℕ → ℕ → Bool
-unfolding cell isSpan every
+unfolding cell isSpan
 isParam t z i =
     let c = cell 4 t i in
     isSpan z (c 0) (c 1) && isSpan z (c 2) (c 3) && every attrNameByte (stringAt z (c 0) (c 1))

@@ -8,6 +8,7 @@ use mathlib.Core.Option.{Option, none, some}
 use lib.ListN.{length, take}
 use Rattle.scan.specs.Part.{stringAt}
 use Rattle.scan.specs.Bytes.{attrNameByte}
+use Rattle.scan.specs.Every.{every}
 use Rattle.colors.specs.declared.read.Rgba.{Rgba}
 use Rattle.decimals.specs.declared.size.Size.{Size}
 use Rattle.decimals.specs.Size.{isSize}
@@ -17,7 +18,7 @@ use Rattle.track.specs.declared.values.Extra.{Extra}
 use Rattle.track.specs.declared.values.Rows.{Rows}
 use Rattle.track.specs.Track.{Wrapper, Segments, segmentRows}
 use Rattle.track.specs.Track as track
-use Rattle.track.specs.Meaning.{isSpan, every, isUtf8}
+use Rattle.track.specs.Meaning.{isSpan, isUtf8}
 use Rattle.track.specs.Layout.{Placed, PlacedStyle, PlacedRegion, PlacedCue, each, allSegments}
 
 -- ---- when it fits: z are the used bytes of the strings, y those of the texts

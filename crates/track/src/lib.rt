@@ -1,4 +1,5 @@
 // The track in lent tables.
+mod alignment;
 mod cells;
 mod check;
 mod cues;
@@ -11,6 +12,7 @@ mod strings;
 mod styles;
 mod values;
 
+pub use alignment::parse_text_align;
 pub use check::Check;
 pub use check::check_track;
 pub use limits::BOLD;

@@ -8,7 +8,7 @@ use Rattle.scan.specs.Names.{lower, sameFolded, hasColon, afterLastColon}
 use Rattle.tree.specs.Trees as placed
 use Rattle.scan.specs.Part.{stringAt}
 use Rattle.grammar.specs.Tree.{attr, text, section, element, none, more}
-use Rattle.xml.specs.declared.find.Found.the-variants.{Row}
+use Rattle.scan.specs.declared.table.Found.the-variants.{Row}
 use Rattle.xml.specs.declared.find.Value.the-variants.{At}
 use Rattle.xml.specs.Find.{named, findElement, found, absent, value, no-value, attrValue, findRow, findValue, isElement}
 

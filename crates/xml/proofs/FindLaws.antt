@@ -20,7 +20,7 @@ use Rattle.tree.proofs.Places.{in-whole, in-first, in-rest}
 use Rattle.tree.proofs.Walks.{on-text, on-section, on-elem, on-attrs, room, placed-text, placed-section, placed-elem}
 use Rattle.scan.specs.Part.{stringAt}
 use Rattle.derivation.specs.Strings.{attrIn, attrsIn, treeIn}
-use Rattle.xml.specs.declared.find.Found.the-variants.{Row, Nothing}
+use Rattle.scan.specs.declared.table.Found.the-variants.{Row, Nothing}
 use Rattle.xml.specs.declared.find.Attribute.{Attribute}
 use Rattle.xml.specs.declared.find.Value.the-variants.{At}
 use Rattle.xml.specs.Find.{named, findElement, absent, value, attrValue}

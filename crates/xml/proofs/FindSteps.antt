@@ -16,7 +16,7 @@ use Rattle.tree.specs.Walks.{Stands, RowIs}
 use Rattle.tree.proofs.Places.{in-rest}
 use Rattle.tree.proofs.Walks.{on-text, on-section, on-elem, placed-text, placed-section, placed-elem}
 use Rattle.scan.specs.Part.{stringAt}
-use Rattle.xml.specs.declared.find.Found.the-variants.{Row, Nothing}
+use Rattle.scan.specs.declared.table.Found.the-variants.{Row, Nothing}
 use Rattle.xml.specs.Find.{named, Siblings, findRow, isElement}
 use Rattle.xml.proofs.FindLaws.{is-element-text, is-element-section, is-element-elem}
 

@@ -13,8 +13,8 @@ use Rattle.tree.specs.Walks.{Stands, Listed, RowIs}
 use Rattle.grammar.specs.Tree as tree
 use Rattle.scan.specs.Part.{stringAt}
 use Rattle.derivation.specs.Strings.{attrsIn, treeIn}
-use Rattle.xml.specs.declared.find.Found.{Found}
-use Rattle.xml.specs.declared.find.Found.the-variants.{Row, Nothing}
+use Rattle.scan.specs.declared.table.Found.{Found}
+use Rattle.scan.specs.declared.table.Found.the-variants.{Row, Nothing}
 use Rattle.xml.specs.declared.find.Element.{Element}
 use Rattle.xml.specs.declared.find.Attribute.{Attribute}
 use Rattle.xml.specs.declared.find.Value.{Value}

@@ -5,15 +5,10 @@ ghost use lib.ListN.{length};
 ghost use Rattle.scan.specs.Names.{sameFolded};
 ghost use Rattle.xml.specs.Find.{Siblings, OfSiblings, findRow, isElement, HasRow, elementRow};
 ghost use Rattle.xml.specs.Find.{HasRows, OfRows, NameFits, nameAt, attributeRow, findValue};
+use scan::Found;
 use tree::ATTR_CELLS;
 use tree::ELEMENT;
 use tree::NODE_CELLS;
-
-// The row of a node, or there is none.
-pub enum Found {
-    Row(usize),
-    Nothing,
-}
 
 // An attribute: its place in the text, and the place and length of its value in the strings.
 pub struct Attribute {

@@ -5,7 +5,6 @@ mod strings;
 
 pub use find::Attribute;
 pub use find::Element;
-pub use find::Found;
 pub use find::Value;
 pub use find::attr;
 pub use find::attr_at;
@@ -13,3 +12,4 @@ pub use find::element_at;
 pub use find::find_element;
 pub use find::is_element;
 pub use read::parse_xml;
+pub use scan::Found;

@@ -1,8 +1,8 @@
--- `align_word` meets its contract. Assumes nothing.
+-- `align_word`: one word after the other.
 use mathlib.Core.Path.{sym, _∙_}
 use borrow.Author.Needs.{needs}
-use Rattle.queries.proofs.own.align_word.Statement.{statement}
-use Rattle.queries.proofs.own.align_word.Tie as tie
+use Rattle.track.proofs.alignment.align_word.Statement.{statement}
+use Rattle.track.proofs.alignment.align_word.Tie as tie
 
 slice-aggregate-eq-ignore-ascii-case : tie.Need-slice-aggregate-eq-ignore-ascii-case
 slice-aggregate-eq-ignore-ascii-case c = search needs
