@@ -1,6 +1,7 @@
 -- Digits counted one by one. Assumes nothing.
 --     one-zero, one-past, one-more   one digit more
 --     going-start, going-asks, going-step, going-done   the digits of a part
+--     running-start, running-step, running-stop, running-out   the digits of a short text
 use Prim.Native.Nat.{ℕ, suc, _+_, _-_, _*_, _≤_, _<_, _^_}
 use mathlib.Core.Path.{_≡_, refl, sym, ap, _∙_}
 use mathlib.Core.Bool.{Bool, true, false, cond, _&&_}
@@ -12,13 +13,14 @@ use lib.Dec.{eqb, leb, lit≤}
 use lib.ListN.{length, getD, drop, length-append, length-drop}
 use lib.Seq.{take-suc, getD-drop}
 use borrow.Author.Tests.{eq-eqb, ne-eqb, leb-true}
-use Rattle.scan.specs.Bytes.{digitByte}
+use Rattle.scan.specs.Bytes.{digitByte, runEnd}
 use Rattle.scan.specs.Part.{part}
+use Rattle.scan.proofs.Runs.{run-on, ends-here, ends-out}
 use Rattle.numerals.specs.Numerals.{valueFrom}
 use Rattle.numerals.proofs.Numerals.{value-append, digit-byte}
 use Rattle.decimals.specs.declared.read.Count.{Count}
 use Rattle.decimals.specs.Decimal.{significant}
-use Rattle.decimals.specs.Steps.{Counted, OneMore, Room, Further}
+use Rattle.decimals.specs.Steps.{Counted, OneMore, Room, Further, Ran}
 
 -- ---- digits after leading zeros
 sig-zero : (ds : List ℕ) (b : ℕ) → significant ds ≡ 0 → b ≡ 48 → significant (ds ++ (b ∷ [])) ≡ 0
@@ -42,9 +44,9 @@ sig-more (x ∷ ds) b n = by (eqb x 48) (sig-more ds b) n
     by true r n = r n
     by false r n = omega (arith, length-append ds (b ∷ []))
 
-value-more : (ds : List ℕ) (b : ℕ) → 48 ≤ b → b ≤ 57 → valueFrom 10 0 (ds ++ (b ∷ [])) ≡ valueFrom 10 0 ds * 10 + (b - 48)
+value-more : (v : ℕ) (ds : List ℕ) (b : ℕ) → 48 ≤ b → b ≤ 57 → valueFrom 10 v (ds ++ (b ∷ [])) ≡ valueFrom 10 v ds * 10 + (b - 48)
 unfolding valueFrom
-value-more ds b l h = value-append 10 0 ds (b ∷ []) ∙ rw (digit-byte b l h)
+value-more v ds b l h = value-append 10 v ds (b ∷ []) ∙ rw (digit-byte b l h)
 
 -- a digit is from 48 to 57
 pub digit-bounds : (b : ℕ) → digitByte b ≡ true → (48 ≤ b) × (b ≤ 57)
@@ -65,7 +67,7 @@ module _ (c : Count) (b : ℕ) where
       value-of = λ l.
           let v : c .value ≡ valueFrom 10 0 ds = k .value-of l in
           let z : c .value < 10 ^ 0 = rw n at h in
-          sym (value-more ds b (omega arith) (omega arith) ∙ omega arith);
+          sym (value-more 0 ds b (omega arith) (omega arith) ∙ omega arith);
     };
     small = h;
     grown = omega arith;
@@ -87,7 +89,7 @@ module _ (c : Count) (b : ℕ) where
     one-more l h s = record {
       counted = λ ds k. record {
         count = more ds k;
-        value-of = λ w. rw (k .value-of (omega arith)) (sym (value-more ds b l h));
+        value-of = λ w. rw (k .value-of (omega arith)) (sym (value-more 0 ds b l h));
       };
       small = rw (add-one (c .significant), pow-suc 10 (c .significant)) (omega arith);
       grown = omega arith;
@@ -146,3 +148,37 @@ module _ (before : Count) (s : List ℕ) (a e : ℕ) (r : Room before s a e) whe
 
     pub going-done : e ≤ i → Further before s a e c
     going-done h = let z : i ≡ e = omega (arith, g .within) in rw z at (g .read)
+
+-- ---- the digits of a short text
+-- the loop at i: what is read is the part before it, and the run goes on there
+pub record Running (before : ℕ) (s : List ℕ) (a v i : ℕ) : Type 0 where
+  pub after : a ≤ i
+  pub within : i ≤ length s
+  pub same : runEnd digitByte s a ≡ runEnd digitByte s i
+  pub value-of : v ≡ valueFrom 10 before (part a i s)
+  pub small : v < 10 ^ i
+
+module _ (before : ℕ) (s : List ℕ) (a : ℕ) where
+  pub running-start : a ≤ length s → before < 10 ^ a → Running before s a before a
+  unfolding valueFrom
+  running-start l h =
+      let z : a - a ≡ 0 = omega arith in
+      record { after = omega arith; within = l; same = refl; value-of = rw z refl; small = h }
+
+  module _ (v i : ℕ) (g : Running before s a v i) where
+    pub running-step : i < length s → digitByte (getD s i 0) ≡ true → Running before s a (v * 10 + (getD s i 0 - 48)) (i + 1)
+    running-step l d =
+        let b = digit-bounds (getD s i 0) d in
+        record {
+          after = omega (arith, g .after);
+          within = omega arith;
+          same = g .same ∙ run-on digitByte s i l d;
+          value-of = rw (part-more s a i (g .after) l, g .value-of) (sym (value-more before (part a i s) (getD s i 0) (b .0) (b .1)));
+          small = rw (add-one i, pow-suc 10 i) (omega (arith, g .small, b .1));
+        }
+
+    pub running-stop : i < length s → digitByte (getD s i 0) ≡ false → Ran before s a (record { end = i; value = v })
+    running-stop l d = record { ends = ends-here digitByte s a i (g .after) (g .same) l d; value-of = g .value-of; small = g .small }
+
+    pub running-out : length s ≤ i → Ran before s a (record { end = i; value = v })
+    running-out l = record { ends = ends-out digitByte s a i (g .after) (g .same) (g .within) l; value-of = g .value-of; small = g .small }

@@ -6,10 +6,11 @@
 --     shape-point, shape-bare        a text's digits, by the places that the program finds
 --     shape-empty, shape-rest, shape-whole, shape-digital           what they spell
 --     limited-far, limited-long, limited-is                         what keeps the limits
+--     ran-room, ran-is               few digits, read in one pass
 --     decimal-none, decimal-minus, decimal-bare, decimal-signed     the sign
 --     value-limit, decimal-limits    a decimal is within the limits that it was read by
 use Prim.Native.Nat.{ℕ, suc, _+_, _-_, _*_, _≤_, _<_, _^_}
-use mathlib.Core.Path.{_≡_, refl, ap, _∙_}
+use mathlib.Core.Path.{_≡_, refl, sym, ap, _∙_}
 use mathlib.Core.Bool.{Bool, true, false, cond, _&&_, _||_, and-false, or-true, and-eq-true-iff}
 use mathlib.Core.List.{List, [], _∷_, _++_}
 use native.Mathlib.Omega.{arith}
@@ -23,18 +24,20 @@ use Rattle.scan.specs.Bytes.{digitByte, runLength, runEnd}
 use Rattle.scan.specs.Every.{every}
 use Rattle.scan.specs.Names.{sameFolded}
 use Rattle.scan.specs.Part.{part}
+use Rattle.scan.specs.Posts.{Ends}
 use Rattle.scan.proofs.Every.{every-append}
-use Rattle.scan.proofs.Runs.{run-length, run-all, run-high}
+use Rattle.scan.proofs.Runs.{run-length, run-all, run-high, run-here, run-out}
 use Rattle.scan.proofs.Splits.{whole-part}
 use Rattle.numerals.specs.Numerals.{valueFrom, digitOf}
-use Rattle.numerals.proofs.Numerals.{digit-byte, after-sign}
+use Rattle.numerals.proofs.Numerals.{digit-byte, after-sign, value-append}
 use Rattle.decimals.proofs.Counting.{digit-bounds}
 use Rattle.decimals.specs.declared.read.Count.{Count}
 use Rattle.decimals.specs.declared.read.Digits.{Digits}
+use Rattle.decimals.specs.declared.read.Run.{Run}
 use Rattle.decimals.specs.declared.read.Decimal.the-variants.{Is, Nothing, Beyond}
 use Rattle.decimals.specs.Decimal.{onlyDigits, isExponent, isWord, unsigned, negative, fraction, afterFraction, allDigits, restOf, scaleOf}
 use Rattle.decimals.specs.Decimal.{isSign, digitsAt, afterDigits, significant, limited, unsignedDecimal, decimalOf}
-use Rattle.decimals.specs.Steps.{Counted, Further, Digital, PointAt, Room}
+use Rattle.decimals.specs.Steps.{Counted, Further, Digital, PointAt, Room, Ran}
 
 -- ---- only digits
 module _ (s : List ℕ) (p : ℕ) where
@@ -257,6 +260,62 @@ module _ (s : List ℕ) (whole from : ℕ) (g : Digital s whole from) where
       let t : part from (length s) s ≡ drop from s = take-all (length s - from) (drop from s) (simp length-drop (omega arith)) in
       let a : Counted (take whole s) c = rw z at (f .counted [] (record { count = refl; value-of = λ l. refl })) in
       rw t at (h .counted (take whole s) a)
+
+-- ---- few digits, read in one pass
+few-significant : (ds : List ℕ) → significant ds ≤ length ds
+unfolding significant
+few-significant [] = omega arith
+few-significant (b ∷ s) = by (eqb b 48) (few-significant s)
+  where
+    by : (t : Bool) → significant s ≤ length s → cond t (significant s) (length (b ∷ s)) ≤ length (b ∷ s)
+    by true h = omega arith
+    by false h = omega arith
+
+-- a run that has ended ends there again
+run-again : (t : ℕ → Bool) (s : List ℕ) (p r : ℕ) → Ends t s p r → runEnd t s r ≡ r
+run-again t s p r e = by (ltb r (length s)) refl
+  where
+    by : (b : Bool) → ltb r (length s) ≡ b → runEnd t s r ≡ r
+    by true h = run-here t s r (ltb-true r (length s) h) (e .stops (ltb-true r (length s) h))
+    by false h = run-out t s r (ltb-false r (length s) h)
+
+module _ (s : List ℕ) (first : Run) (from : ℕ) (a : Ran 0 s 0 first) (f : PointAt s (first .end) from) where
+  pub ran-room : first .value < 10 ^ from
+  ran-room = let p : 10 ^ (first .end) ≤ 10 ^ from = pow-le-pow-right (lit≤ tt) (f .after) in omega (arith, a .small)
+
+  module _ (last : Run) (b : Ran (first .value) s from last) where
+    ran-shape : Shape s (first .end) from (last .end)
+    ran-shape = by (ltb (first .end) from) refl
+      where
+        by : (t : Bool) → ltb (first .end) from ≡ t → Shape s (first .end) from (last .end)
+        by true e = shape-point s (first .end) from (a .ends .is) f (last .end) (ltb-true (first .end) from e) (b .ends .is)
+        by false e =
+            let l : from ≤ first .end = ltb-false (first .end) from e in
+            let g : from ≡ first .end = omega (arith, f .after) in
+            let z : last .end ≡ first .end = b .ends .is ∙ rw g (run-again digitByte s 0 (first .end) (a .ends)) in
+            rw z (shape-bare s (first .end) from (a .ends .is) f l)
+
+    module _ (minus : Bool) (digits decimals : ℕ) (whole : length s ≤ last .end) where
+      ran-value : valueFrom 10 0 (take (first .end) s ++ drop from s) ≡ last .value
+      ran-value =
+          let z : first .end - 0 ≡ first .end = omega arith in
+          let v : first .value ≡ valueFrom 10 0 (take (first .end) s) = rw z at (a .value-of) in
+          let t : part from (last .end) s ≡ drop from s = take-all (last .end - from) (drop from s) (simp length-drop (omega arith)) in
+          value-append 10 0 (take (first .end) s) (drop from s) ∙ rw (← v) (rw t at (sym (b .value-of)))
+
+      ran-many : length (take (first .end) s ++ drop from s) ≡ first .end + (last .end - from)
+      ran-many =
+          simp (length-append, length-take, length-drop) (omega (arith, whole, a .ends .within, b .ends .within, f .within))
+
+      pub ran-is : 0 < first .end + (last .end - from) → first .end + (last .end - from) ≤ digits → last .end - from ≤ decimals
+          → Is (record { negative = minus; digits = last .value; scale = last .end - from }) ≡ unsignedDecimal minus s digits decimals
+      ran-is n h l =
+          let ds : List ℕ = take (first .end) s ++ drop from s in
+          let k : length s - from ≡ last .end - from = omega (arith, whole, b .ends .within) in
+          let g : significant ds ≤ digits = omega (arith, few-significant ds, ran-many) in
+          let e = limited-is minus ds (last .end - from) digits decimals g l in
+          sym (shape-whole minus s digits decimals (first .end) from (last .end) ran-shape (λ z w. omega arith) whole
+          ∙ rw k (e ∙ rw ran-value))
 
 -- ---- the sign
 module _ (digits decimals : ℕ) where

@@ -9,8 +9,10 @@ use lib.Dec.{T}
 use lib.Ieee.{Float, fin, le, lt}
 use Rattle.scan.specs.Bytes.{digitByte}
 use Rattle.scan.specs.Part.{part}
+use Rattle.scan.specs.Posts.{Ends}
 use Rattle.numerals.specs.Numerals.{valueFrom}
 use Rattle.decimals.specs.declared.read.Count.{Count}
+use Rattle.decimals.specs.declared.read.Run.{Run}
 use Rattle.decimals.specs.Decimal.{significant}
 
 -- c has read the digits ds: how many stand after leading zeros, and, while those are at most 18, their value
@@ -51,6 +53,12 @@ pub record PointAt (s : List ℕ) (p r : ℕ) : Type 0 where
   pub after : p ≤ r
   pub point : p < r → (r ≡ p + 1) × (getD s p 0 ≡ 46) × (p < length s)
   pub none : r ≡ p → p < length s → getD s p 0 ≡ 46 → ⊥
+
+-- the digits from a on are read, after those of a value
+pub record Ran (before : ℕ) (s : List ℕ) (a : ℕ) (r : Run) : Type 0 where
+  pub ends : Ends digitByte s a (r .end)
+  pub value-of : r .value ≡ valueFrom 10 before (part a (r .end) s)
+  pub small : r .value < 10 ^ (r .end)
 
 -- at least 1 and below 2 ^ 63
 pub record Middling (x : Float) : Type 0 where

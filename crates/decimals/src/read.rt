@@ -7,7 +7,7 @@ ghost use lib.ListN.{length, take, drop};
 ghost use Rattle.scan.specs.Bytes.{digitByte};
 ghost use Rattle.scan.specs.Posts.{Ends};
 ghost use Rattle.decimals.specs.Decimal.{isSign, onlyDigits, isExponent, isWord, limited, unsignedDecimal, Reads};
-ghost use Rattle.decimals.specs.Steps.{OneMore, Room, Further, Digital, PointAt};
+ghost use Rattle.decimals.specs.Steps.{OneMore, Room, Further, Digital, PointAt, Ran};
 use scan::Class;
 
 // digits / 10^scale, negative or not
@@ -29,6 +29,12 @@ pub enum Decimal {
 pub struct Count {
     pub value: u64,
     pub significant: usize,
+}
+
+// The value of digits, and where they end.
+pub struct Run {
+    pub end: usize,
+    pub value: u64,
 }
 
 // One digit more.
@@ -165,7 +171,8 @@ fn fraction_start(text: &[u8], whole: usize) -> usize
     whole
 }
 
-fn read_unsigned(text: &[u8], negative: bool, digits: usize, decimals: usize) -> Decimal
+// A decimal without its sign, whatever it is.
+fn read_any(text: &[u8], negative: bool, digits: usize, decimals: usize) -> Decimal
     requires { ⌜ (digits ≤ 18) × (decimals < 2 ^ 32) ⌝ }
     ensures { λ r. ⌜ r ≡ unsignedDecimal negative (now (text .entry)) digits decimals ⌝ }
 {
@@ -188,6 +195,54 @@ fn read_unsigned(text: &[u8], negative: bool, digits: usize, decimals: usize) ->
         return Decimal::Nothing;
     }
     limit(text, negative, whole, from, digits, decimals)
+}
+
+// The digits from the place on, read after those of a value: in a text that is so short that a u64 holds them.
+fn few_digits(text: &[u8], from: usize, before: u64) -> Run
+    requires { ⌜ (from ≤ length (now text)) × (length (now text) ≤ 18) × (before < 10 ^ from) ⌝ }
+    ensures { λ r. ⌜ Ran before (now (text .entry)) from r ⌝ }
+{
+    let mut value = before;
+    let mut i = from;
+    while i < text.len() {
+        let b = text[i];
+        if !scan::is_of(Class::Digit, b) {
+            return Run { end: i, value };
+        }
+        value = value * 10 + (b - 48) as u64;
+        i += 1;
+    }
+    Run { end: i, value }
+}
+
+// A decimal without its sign. One of few digits and nothing else, as most are, is read in one pass.
+fn read_unsigned(text: &[u8], negative: bool, digits: usize, decimals: usize) -> Decimal
+    requires { ⌜ (digits ≤ 18) × (decimals < 2 ^ 32) ⌝ }
+    ensures { λ r. ⌜ r ≡ unsignedDecimal negative (now (text .entry)) digits decimals ⌝ }
+{
+    if text.len() <= 18 {
+        let first = few_digits(text, 0, 0);
+        let whole = first.end;
+        let from = fraction_start(text, whole);
+        let last = few_digits(text, from, first.value);
+        let end = last.end;
+        if text.len() <= end {
+            let scale = end - from;
+            let count = whole + scale;
+            if 0 < count {
+                if count <= digits {
+                    if scale <= decimals {
+                        return Decimal::Is(Digits {
+                            negative,
+                            digits: last.value,
+                            scale: scale as u32,
+                        });
+                    }
+                }
+            }
+        }
+    }
+    read_any(&text[0..], negative, digits, decimals)
 }
 
 // How many bytes a sign has that begins with the byte.

@@ -4,6 +4,7 @@ pub mod PrologLaws
 pub mod Tags
 pub mod Forests
 pub mod NodeLaws
+pub mod Comments
 pub mod Going
 pub mod Whole
 pub mod Places

@@ -1,7 +1,7 @@
 -- What the functions ask and ensure, by the cases of their answers. Steps of the program: `TreeRead` alone is a promise to others.
 use Prim.Native.Nat.{ℕ, _+_, _*_, _≤_, _<_}
 use mathlib.Core.Path.{_≡_}
-use mathlib.Core.Bool.{false, cond}
+use mathlib.Core.Bool.{Bool, true, false, cond}
 use mathlib.Core.List.{List}
 use lib.ListN.{length, getD}
 use lib.Seq.{sets}
@@ -11,7 +11,7 @@ use Rattle.scan.specs.Marks.{startsAt}
 use Rattle.unicode.specs.Utf8.{utf8End}
 use Rattle.tree.specs.Trees.{Attr, Forest, size, attrsOf, rows, attrRow, attrRows}
 use Rattle.tree.specs.Read.{Out, got, nothing, bad, AttrOut, attr, flaw, TagOut, opened, shut, torn, gt, skip, pastComments, meaning}
-use Rattle.tree.specs.Read.{answerOf, nodesOf, attrCells}
+use Rattle.tree.specs.Read.{commentMark, answerOf, nodesOf, attrCells}
 use Rattle.tree.specs.Answers.{Says}
 use Rattle.tree.specs.declared.answers.Answer.{Answer}
 use Rattle.tree.specs.declared.answers.Cursor.{Cursor}
@@ -78,6 +78,17 @@ pub record Skipped (s : List ℕ) (p r : ℕ) : Type 0 where
   pub is : r ≡ pastComments s p
   pub after : p ≤ r
   pub within : r ≤ length s
+
+-- the first bytes of a comment stand at p
+pub record Opened (s : List ℕ) (p : ℕ) : Type 0 where
+  pub within : p + 4 ≤ length s
+  pub first : getD s p 0 ≡ 60
+  pub second : getD s (p + 1) 0 ≡ 33
+
+-- r says whether a comment opens at p
+pub record Opens (s : List ℕ) (p : ℕ) (r : Bool) : Type 0 where
+  pub is : r ≡ startsAt s p commentMark
+  pub opened : r ≡ true → Opened s p
 
 -- o is a forest, read from low or later up to the cursor c; its rows are laid from row k and attribute a on
 pub record Laid (o : Out) (s t t′ u u′ : List ℕ) (low k a : ℕ) (c : Cursor) : Type 0 where

@@ -4,8 +4,10 @@ ghost use mathlib.Core.Path.{_≡_};
 ghost use mathlib.Core.List.{List};
 ghost use Prim.Native.Nat.{ℕ, _+_, _≤_, _<_};
 ghost use lib.ListN.{length, getD};
-ghost use Rattle.tree.specs.Read.{textAt, sectionAt, nodeAt, elementOf, contentOf};
-ghost use Rattle.tree.specs.Posts.{Ready, Skipped, StepPost, ContentPost, closedAt};
+ghost use Rattle.scan.specs.Marks.{startsAt};
+ghost use Rattle.scan.specs.Posts.{Passed};
+ghost use Rattle.tree.specs.Read.{commentEnd, textAt, sectionAt, nodeAt, elementOf, contentOf};
+ghost use Rattle.tree.specs.Posts.{Ready, Opened, Opens, Skipped, StepPost, ContentPost, closedAt};
 use crate::answers::Content;
 use crate::answers::Cursor;
 use crate::answers::Refusal;
@@ -17,17 +19,82 @@ use crate::rows::SECTION;
 use crate::rows::TEXT;
 use scan::Class;
 
+// Does a comment open at the place?
+fn opens(src: &[u8], at: usize) -> bool
+    requires { ⌜ at ≤ length (now src) ⌝ }
+    ensures { λ r. ⌜ Opens (now (src .entry)) at r ⌝ }
+{
+    if src.len() - at < 4 {
+        return false;
+    }
+    if src[at] != b'<' {
+        return false;
+    }
+    if src[at + 1] != b'!' {
+        return false;
+    }
+    if src[at + 2] != b'-' {
+        return false;
+    }
+    if src[at + 3] != b'-' {
+        return false;
+    }
+    true
+}
+
+// Does `-->` stand at the place?
+fn closes(src: &[u8], at: usize) -> bool
+    requires { ⌜ at + 3 ≤ length (now src) ⌝ }
+    ensures { λ r. ⌜ r ≡ startsAt (now (src .entry)) at commentEnd ⌝ }
+{
+    if src[at + 2] != b'>' {
+        return false;
+    }
+    if src[at + 1] != b'-' {
+        return false;
+    }
+    if src[at] != b'-' {
+        return false;
+    }
+    true
+}
+
+// The place after the comment at pos, or the length. It is short as a rule: 16 places are looked at one by one, four to a turn.
+fn comment_end(src: &[u8], pos: usize) -> usize
+    requires { ⌜ Opened (now src) pos ⌝ }
+    ensures { λ r. ⌜ Passed commentEnd (now (src .entry)) pos r ⌝ }
+{
+    if src.len() - pos < 23 {
+        return scan::find_past(&src[0..], pos, b"-->");
+    }
+    let near = pos + 18;
+    let mut i = pos + 2;
+    while i < near {
+        if closes(src, i) {
+            return i + 3;
+        }
+        if closes(src, i + 1) {
+            return i + 4;
+        }
+        if closes(src, i + 2) {
+            return i + 5;
+        }
+        if closes(src, i + 3) {
+            return i + 6;
+        }
+        i += 4;
+    }
+    scan::find_past(&src[0..], i, b"-->")
+}
+
 // The place after the comments at pos.
 fn skip_comments(src: &[u8], pos: usize) -> usize
     requires { ⌜ pos ≤ length (now src) ⌝ }
     ensures { λ r. ⌜ Skipped (now (src .entry)) pos r ⌝ }
 {
     let mut i = pos;
-    while i < src.len() {
-        if !scan::starts_with(src, i, b"<!--") {
-            return i;
-        }
-        i = scan::find_past(src, i, b"-->");
+    while opens(src, i) {
+        i = comment_end(src, i);
     }
     i
 }
