@@ -56,18 +56,18 @@ use Rattle.content.specs.declared.collect.Run.{Run}
 use Rattle.content.specs.declared.collect.Collecting.{Collecting}
 use Rattle.content.specs.declared.collect.Begin.{Begin}
 use Rattle.content.specs.declared.collect.Beginning.{Beginning}
-use Rattle.content.specs.Steps.{Roomy, Frame, Standing, Given, placeOf, TextGiven, BreakGiven, SpanGiven, beginning, beginFrom}
+use Rattle.content.specs.Steps.{Roomy, Frame, Standing, Given, nodePlace, TextGiven, BreakGiven, SpanGiven, beginning, beginFrom}
 use Rattle.content.specs.Steps.{Entry, meant, behind, Came, Outcome, AsksNode, NodePost, Asks, Post, Content, AsksContent, ContentPost, Ends}
 use Rattle.content.proofs.Giving.{ended-standing}
 use Rattle.content.proofs.Standings.{rows-together, standing-count, ownFrame, standing-own, standing-join}
 
 -- the place of a text; of a section
-text-place : (t : List ℕ) (k : ℕ) → getD t (k * 6) 0 ≡ 1 → placeOf t k ≡ getD t (k * 6 + 2) 0
-unfolding placeOf
+text-place : (t : List ℕ) (k : ℕ) → getD t (k * 6) 0 ≡ 1 → nodePlace t k ≡ getD t (k * 6 + 2) 0
+unfolding nodePlace
 text-place t k e = rw e
 
-section-place : (t : List ℕ) (k : ℕ) → getD t (k * 6) 0 ≡ 3 → placeOf t k ≡ getD t (k * 6 + 2) 0 - 9
-unfolding placeOf
+section-place : (t : List ℕ) (k : ℕ) → getD t (k * 6) 0 ≡ 3 → nodePlace t k ≡ getD t (k * 6 + 2) 0 - 9
+unfolding nodePlace
 section-place t k e = rw e
 
 -- an element's strings: those of its content end where those of its later siblings begin
@@ -205,7 +205,7 @@ module _ (w : Frame) (t u z : List ℕ) (base : ℤ) (ctx : TimingCtx) (ws : WsM
   leaf-came : (kind k own end first hi at p m : ℕ) (run : Run) (g : Forest) (earlier : Segments Placed) (before : Before) (s : Three) (y : List ℕ)
       (s′ : Three) (y′ : List ℕ) (r : Collecting) → TextAt t u z kind k own p m g → k + 1 + size g ≡ end → hi ≤ p
       → InOrder (p + m) (spans g) (w .limit)
-      → Standing w hi first (run .rows) earlier s y → run .boundary ≡ edge before → placeOf t k ≡ at → TextGiven t z k ws run s y s′ y′ r
+      → Standing w hi first (run .rows) earlier s y → run .boundary ≡ edge before → nodePlace t k ≡ at → TextGiven t z k ws run s y s′ y′ r
       → let f : Nodes Placed = text at (record { place = p; bytes = stringAt z p m }) (nodesIn z g) in
       Outcome w t u z (getD t (k * 6 + 1) 0) end first base ctx ws s′ y′ (means first before earlier f) (after withPlaces before f) r
   leaf-came kind k own end first hi at p m run g earlier before s y s′ y′ r a e low o st fl pl tg =

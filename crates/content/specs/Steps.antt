@@ -71,8 +71,8 @@ addedIn (Added.Next m) b p = Collecting.Is (record { rows = m; boundary = b })
 addedIn Added.Full b p = Collecting.Refused (record { number = 13; place = p })
 
 -- the place of node k; the string of a text or a section
-unfoldable pub placeOf : List ℕ → ℕ → ℕ
-placeOf t k = cond (eqb (getD t (k * 6) 0) 3) (getD t (k * 6 + 2) 0 - 9) (getD t (k * 6 + 2) 0)
+unfoldable pub nodePlace : List ℕ → ℕ → ℕ
+nodePlace t k = cond (eqb (getD t (k * 6) 0) 3) (getD t (k * 6 + 2) 0 - 9) (getD t (k * 6 + 2) 0)
 
 abbrev pub textAt : (t z : List ℕ) → ℕ → Placed
 textAt t z k = record { place = getD t (k * 6 + 2) 0; bytes = stringAt z (getD t (k * 6 + 2) 0) (getD t (k * 6 + 3) 0) }
@@ -96,7 +96,7 @@ Writes x boundary ws y y′ r =
 abbrev pub TextGiven : (t z : List ℕ) (k : ℕ) → WsMode → Run → (s : Three) (y : List ℕ) (s′ : Three) (y′ : List ℕ) → Collecting → Type 0
 TextGiven t z k ws run s y s′ y′ r =
     (first hi : ℕ) (before : Before) → hi ≤ getD t (k * 6 + 2) 0 → run .boundary ≡ edge before
-    → Given (placeOf t k) first (run .rows) hi (getD t (k * 6 + 2) 0 + getD t (k * 6 + 3) 0) (edge (lastOf before (textAt t z k .bytes)))
+    → Given (nodePlace t k) first (run .rows) hi (getD t (k * 6 + 2) 0 + getD t (k * 6 + 3) 0) (edge (lastOf before (textAt t z k .bytes)))
     (λ f. joined f (textSegment withPlaces (textIn withPlaces (spaceIn ws) before (textAt t z k)))) s y s′ y′ r
 
 -- in collapse mode the rows `first` up to n are trimmed

@@ -12,7 +12,7 @@ ghost use Rattle.meaning.specs.Styling.{wrappersOf};
 ghost use Rattle.styling.specs.Posts.{HasRows, OfRows, wrappersIn};
 ghost use Rattle.inline.specs.Trims.{Ready};
 ghost use Rattle.inline.specs.Wraps.{three, wrappersFrom};
-ghost use Rattle.content.specs.Steps.{Wide, Roomy, addedIn, placeOf, Writes, TextGiven, Ends, BreakGiven, wrappersBy, SpanGiven};
+ghost use Rattle.content.specs.Steps.{Wide, Roomy, addedIn, nodePlace, Writes, TextGiven, Ends, BreakGiven, wrappersBy, SpanGiven};
 ghost use Rattle.content.specs.Steps.{beginning, beginFrom, AsksNode, NodePost, AsksSpan, SpanPost, Asks, Post, AsksContent, ContentPost};
 use inline::Collapsed;
 use inline::Wrappers;
@@ -60,7 +60,7 @@ fn added(a: Added, boundary: bool, place: usize) -> Collecting
 // The place of node k in the text: its first byte.
 fn node_place(nodes: &[u32], k: usize) -> usize
     requires { ⌜ k * 6 + 6 ≤ length (now nodes) ⌝ }
-    ensures { λ r. ⌜ r ≡ placeOf (now (nodes .entry)) k ⌝ }
+    ensures { λ r. ⌜ r ≡ nodePlace (now (nodes .entry)) k ⌝ }
 {
     let place = scan::get(nodes, k * NODE_CELLS + 2);
     if nodes[k * NODE_CELLS] != SECTION {

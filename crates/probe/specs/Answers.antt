@@ -76,9 +76,9 @@ codeOf (Char c) = c
 codeOf Unknown = 0xFFFF_FFFF
 
 -- where the next byte goes, or none
-abbrev pub placeOf : Written → ℕ
-placeOf (At n) = n
-placeOf Full = none
+abbrev pub endOr : Written → ℕ
+endOr (At n) = n
+endOr Full = none
 
 -- w stands at the table's start, and the answer is its length, where the table has as many cells as it wants; else the answer is none,
 -- and the table is as it was

@@ -27,7 +27,7 @@ ghost use Rattle.unicode.specs.Utf8.{LongestValid};
 ghost use Rattle.entities.specs.Reference.{lookup};
 ghost use Rattle.entities.specs.Decode.{decoded};
 ghost use Rattle.entities.specs.Escape.{escaped};
-ghost use Rattle.probe.specs.Answers.{firstOf, standsAt, Trims, FindsWord, asked, Numbered, codeOf, placeOf, Filled, FilledInPart};
+ghost use Rattle.probe.specs.Answers.{firstOf, standsAt, Trims, FindsWord, asked, Numbered, codeOf, endOr, Filled, FilledInPart};
 use entities::Entity;
 use numerals::Numeral;
 use scan::Written;
@@ -202,7 +202,7 @@ pub extern "C" fn probe_decode_entities(text: &[u8], out: &mut [u8]) -> usize
 }
 
 fn place_of(w: Written) -> usize
-    ensures { λ r. ⌜ r ≡ placeOf w ⌝ }
+    ensures { λ r. ⌜ r ≡ endOr w ⌝ }
 {
     match w {
         Written::At(n) => n,

@@ -7,7 +7,7 @@ use Rattle.styling.specs.Posts.{spaceIn}
 use Rattle.content.proofs.Giving.{some-before, text-none, text-some}
 use lib.ListN.{getD}
 use Rattle.scan.specs.Part.{stringAt}
-use Rattle.content.specs.Steps.{placeOf}
+use Rattle.content.specs.Steps.{nodePlace}
 use borrow.Author.Needs.{needs}
 use Rattle.content.proofs.collect.collect_text.Statement.{statement}
 use Rattle.content.proofs.collect.collect_text.Tie as tie
@@ -49,7 +49,7 @@ returns c =
     let at = getD (a .nodes .now) (a .k * 6 + 2) 0 in
     let len = getD (a .nodes .now) (a .k * 6 + 3) 0 in
     let l = string-long z at len (p .3) in
-    text-none (spaceIn (a .ws)) before at len (stringAt z at len) (placeOf (a .nodes .now) (a .k)) first (a .run .rows) hi
+    text-none (spaceIn (a .ws)) before at len (stringAt z at len) (nodePlace (a .nodes .now) (a .k)) first (a .run .rows) hi
     (three (a .segments .now) (a .reveal .now) (a .sizes .now)) (a .texts .now) (c4 .write-text .last .1 .0) (c4 .write-text .result) low
     (omega (arith, p .3, p .0 .texts)) (omega (arith, l)) (rw (c7 .get .ensures, c6 .get2 .ensures) at (c4 .write-text .ensures before e))
     (p .1) (c .if1 .taken)
@@ -107,7 +107,7 @@ returns-2 c =
     let v = c7 .add-text .last in
     let g = rw (c18 .get .ensures) at (c7 .add-text .ensures) in
     rw (c .added .ensures, c .before .node-place .ensures)
-    (text-some (spaceIn (a .ws)) before at len (stringAt z at len) (placeOf (a .nodes .now) (a .k)) first (a .run .rows) hi
+    (text-some (spaceIn (a .ws)) before at len (stringAt z at len) (nodePlace (a .nodes .now) (a .k)) first (a .run .rows) hi
     (three (a .segments .now) (a .reveal .now) (a .sizes .now)) (a .texts .now) (c15 .write-text .last .1 .0) (c15 .write-text .result) low
     (omega (arith, p .3, p .0 .texts)) (omega (arith, l)) (rw (c18 .get .ensures, c17 .get2 .ensures) at (c15 .write-text .ensures before e))
     (c11 .if1 .left)

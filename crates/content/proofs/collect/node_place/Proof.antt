@@ -1,7 +1,7 @@
 -- `node_place` meets its contract. Assumes nothing.
 use native.Mathlib.Omega.{arith}
 use borrow.Author.Tests.{ne-eqb}
-use Rattle.content.specs.Steps.{placeOf}
+use Rattle.content.specs.Steps.{nodePlace}
 use borrow.Author.Needs.{needs}
 use Rattle.content.proofs.collect.node_place.Statement.{statement}
 use Rattle.content.proofs.collect.node_place.Tie as tie
@@ -25,15 +25,15 @@ shared-slice-read-if1 : tie.Need-shared-slice-read-if1
 shared-slice-read-if1 c = search needs
 
 returns : tie.Need-returns
-unfolding placeOf
+unfolding nodePlace
 returns c = rw (ne-eqb _ _ (c .if1 .taken)) (c .before .before .get .ensures)
 
 returns-2 : tie.Need-returns-2
-unfolding placeOf
+unfolding nodePlace
 returns-2 c = rw (c .before .if1 .left) (omega (arith, c .before .before .before .get .ensures, c .if2 .taken))
 
 returns-3 : tie.Need-returns-3
-unfolding placeOf
+unfolding nodePlace
 returns-3 c = rw (c .before .if1 .left, c .before .before .before .get .ensures)
 
 pub node-place-spec : {M : Type 1} → statement M
