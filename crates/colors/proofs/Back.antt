@@ -10,7 +10,8 @@ use lib.ListN.{length, getD}
 use borrow.Author.Tests.{ltb-true, ltb-false, leb-true, leb-false, lt-leb}
 use Rattle.unicode.specs.Utf8.{charAt}
 use Rattle.unicode.specs.White.{whiteAt, endsWith, whiteBefore, trimmed}
-use Rattle.unicode.proofs.Utf8Laws.{by-test, sequence-ascii}
+use Rattle.scan.proofs.Every.{by-test}
+use Rattle.unicode.proofs.Utf8Laws.{sequence-ascii}
 use Rattle.unicode.proofs.WhiteLaws.{isWhite-visible, whiteAt-other, endsWith-on, endsWith-short, endsWith-out, trimmed-none, trimmed-all}
 use Rattle.numerals.specs.declared.Numeral.{Numeral}
 use Rattle.numerals.specs.Numerals.{valueFrom, numeralOf}

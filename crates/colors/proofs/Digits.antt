@@ -10,7 +10,7 @@ use lib.Seq.{drop-cons}
 use borrow.Author.Tests.{eqb-true, eqb-false, leb-true, leb-false, ltb-true, ltb-false, lt-ltb, eq-eqb, ne-eqb}
 use Rattle.scan.specs.Part.{part}
 use Rattle.unicode.specs.Utf8.{boundary}
-use Rattle.unicode.proofs.Utf8Laws.{by-test}
+use Rattle.scan.proofs.Every.{by-test}
 use Rattle.unicode.proofs.Boundaries.{boundary-start, boundary-end, boundary-below}
 use Rattle.numerals.specs.Numerals.{digitOf, digitsOnly, valueFrom, signedBy, numeralOf}
 use Rattle.numerals.proofs.Numerals.{digit-byte, digit-capital, digit-small, digit-none, unsigned-is, numeral-bare}

@@ -17,7 +17,7 @@ use Rattle.scan.specs.Split.{splitAt}
 use Rattle.scan.proofs.Runs.{run-length}
 use Rattle.scan.proofs.Splits.{split-more, split-last}
 use Rattle.unicode.specs.Utf8.{boundary}
-use Rattle.unicode.proofs.Utf8Laws.{by-test}
+use Rattle.scan.proofs.Every.{by-test}
 use Rattle.numerals.specs.declared.Numeral.{Numeral}
 use Rattle.numerals.specs.Numerals.{numeralOf}
 use Rattle.numerals.proofs.Numerals.{numeral-inv}

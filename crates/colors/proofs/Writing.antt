@@ -1,12 +1,11 @@
 -- Laws of colours as they are written: pieces one after the other, and how long they are. Assumes nothing.
 use Prim.Native.Nat.{ℕ, _+_, _<_}
 use mathlib.Core.Path.{_≡_, refl}
-use mathlib.Core.List.{List, [], _∷_, _++_}
+use mathlib.Core.List.{List, [], _∷_}
 use native.Mathlib.Omega.{arith}
-use lib.ListN.{length, set, length-append}
-use lib.Seq.{length-sets}
+use lib.ListN.{length, set}
 use Rattle.scan.specs.Posts.{Appended}
-use Rattle.scan.proofs.Stores.{sets-on}
+use Rattle.scan.proofs.Stores.{appended-on}
 use Rattle.numerals.specs.Written.{padded}
 use Rattle.numerals.proofs.Writing.{padded-length}
 use Rattle.colors.specs.declared.read.Rgba.{Rgba}
@@ -22,18 +21,6 @@ rgba-length c = refl
 
 pub hex-length : (n : ℕ) → length (hex n) ≡ 2
 hex-length n = padded-length 16 2 n
-
-pub appended-kept : {w t t′ : List ℕ} {i n : ℕ} → Appended w i t t′ n → length t′ ≡ length t
-appended-kept {w = w} {t = t} {i = i} x = rw (x .laid) (length-sets t i w)
-
--- a piece after a piece
-pub appended-on : {a b t t′ t″ : List ℕ} {i j k : ℕ} → Appended a i t t′ j → Appended b j t′ t″ k → Appended (a ++ b) i t t″ k
-appended-on {a} {b} {t} {t′} {t″} {i} {j} x y =
-    record {
-      next = simp length-append (omega (arith, x .next, y .next));
-      within = omega (arith, y .within, appended-kept x);
-      laid = sets-on a b t t′ t″ i j (x .laid) (y .laid) (x .next);
-    }
 
 pub rgb-put : (c : Rgba) {t t₁ t₂ t₃ : List ℕ} {at g b e : ℕ} → at < length t → Appended (hex (c .r)) (at + 1) (set t at 35) t₁ g
     → Appended (hex (c .g)) g t₁ t₂ b → Appended (hex (c .b)) b t₂ t₃ e → Appended (rgbText c) at t t₃ e

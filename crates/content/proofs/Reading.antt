@@ -18,7 +18,7 @@ use lib.Ieee.{Float}
 use lib.ListN.{length, getD}
 use lib.Dec.{eqb}
 use borrow.Author.Tests.{eqb-true, le-leb, lt-leb}
-use Rattle.unicode.proofs.Utf8Laws.{by-test}
+use Rattle.scan.proofs.Every.{by-test}
 use Rattle.scan.specs.Part.{stringAt}
 use Rattle.times.specs.declared.offset.TimingCtx.{TimingCtx}
 use Rattle.tree.specs.declared.answers.Refusal.{Refusal}

@@ -12,7 +12,7 @@ use native.Mathlib.Omega.{arith}
 use lib.IntN.{ℤ}
 use lib.ListN.{length}
 use lib.Seq.{sets, drop-drop}
-use Rattle.unicode.proofs.Utf8Laws.{by-test}
+use Rattle.scan.proofs.Every.{by-test}
 use Rattle.track.specs.declared.strings.Span.{Span}
 use Rattle.track.specs.Track.{Wrapper, Segments, segmentRows, noSegments, oneSegment}
 use Rattle.track.specs.Track as track

@@ -14,8 +14,7 @@ use lib.Dec.{eqb}
 use lib.ListN.{length, getD}
 use lib.Seq.{getD-append-add}
 use borrow.Author.Tests.{eq-eqb, ne-eqb, le-leb, lt-leb}
-use Rattle.scan.proofs.Every.{both}
-use Rattle.unicode.proofs.Utf8Laws.{by-test}
+use Rattle.scan.proofs.Every.{both, by-test}
 use Rattle.times.specs.declared.offset.TimingCtx.{TimingCtx}
 use Rattle.track.specs.declared.strings.Span.{Span}
 use Rattle.track.specs.Track.{Wrapper, Segments, noSegments, oneSegment, segmentRows, isBareFont}

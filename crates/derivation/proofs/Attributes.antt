@@ -22,7 +22,7 @@ use Rattle.grammar.specs.Tree.{Attr, attr, quote}
 use Rattle.grammar.specs.Scan.{run, past}
 use Rattle.grammar.proofs.Reader.{Res, ok, bad, mapRes, valueAs, readValue, afterNameAs, afterName, readAttribute, tagEnd}
 use Rattle.grammar.proofs.Counted.{LRes, lok, lbad, lift, lmap, attributesStepL, attributesAsL}
-use Rattle.grammar.proofs.Tests.{by-test}
+use Rattle.scan.proofs.Every.{by-test}
 use Rattle.grammar.proofs.Scans.{past-is, past-stops}
 use Rattle.grammar.proofs.Ends.{Ends, past-length, attribute-ends}
 use Rattle.grammar.proofs.CountedRounds.{attributesC, attributesC-is}

@@ -26,7 +26,7 @@ use Rattle.grammar.specs.Scan.{past, beyond}
 use Rattle.grammar.proofs.Reader as lists
 use Rattle.grammar.proofs.Reader.{NodeKind, as-text, as-section, as-element, Kind, as-close, as-comment, as-node, kind, afterClose}
 use Rattle.grammar.proofs.Counted.{lok, lmap, lift, Counted, nodeL, contentAsL, contentStepL, nodesAsL, nodesStepL}
-use Rattle.grammar.proofs.Tests.{by-test}
+use Rattle.scan.proofs.Every.{by-test}
 use Rattle.grammar.proofs.CountedRounds.{contentC, contentC-is, nodesC, nodesC-is}
 use Rattle.derivation.specs.Strings.{treeIn}
 use Rattle.derivation.proofs.RunLaws.{byte-at, past-drop}

@@ -12,7 +12,7 @@ use borrow.Author.Tests.{lt-ltb, eqb-false}
 use Rattle.scan.specs.Marks.{startsAt}
 use Rattle.tree.specs.Read.{nothing, closeMark, commentMark, cdataMark, Reader, textAt, sectionAt, nodeHere}
 use Rattle.grammar.proofs.Reader.{as-text, as-section, as-element, as-close, as-comment, as-node, kind}
-use Rattle.grammar.proofs.Tests.{by-test}
+use Rattle.scan.proofs.Every.{by-test}
 use Rattle.grammar.proofs.Scans.{prefix-begins}
 use Rattle.derivation.proofs.SearchLaws.{prefix-at}
 

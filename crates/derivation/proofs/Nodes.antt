@@ -25,7 +25,7 @@ use Rattle.grammar.specs.Tree.{Tree, text, section, element, Forest, none, more
 use Rattle.grammar.specs.Grammar.{no-comment}
 use Rattle.grammar.proofs.Reader.{as-text, as-section, as-element}
 use Rattle.grammar.proofs.Counted.{LRes, lok, lbad, lmap, lnext, Counted, nodeL, elementL}
-use Rattle.grammar.proofs.Tests.{by-test}
+use Rattle.scan.proofs.Every.{by-test}
 use Rattle.grammar.proofs.CountedRounds.{contentC}
 use Rattle.scan.specs.Part.{stringAt}
 use Rattle.derivation.specs.Strings.{attrsIn, treeIn}

@@ -19,7 +19,7 @@ use Rattle.tree.proofs.PrologLaws.{begin, pi, comment, decl, stop, out}
 use Rattle.grammar.specs.Words.{Bytes}
 use Rattle.grammar.specs.Scan.{beyond}
 use Rattle.grammar.proofs.Reader.{blank-byte, to-mark, no-more, pieceKind, prologAs, pastProlog}
-use Rattle.grammar.proofs.Tests.{by-test}
+use Rattle.scan.proofs.Every.{by-test}
 use Rattle.derivation.proofs.RunLaws.{byte-at}
 use Rattle.derivation.proofs.SearchLaws.{prefix-at, beyond-at, passed}
 

@@ -21,7 +21,7 @@ use Rattle.scan.specs.Part.{part, stringAt}
 use Rattle.scan.proofs.Runs.{run-length, run-out}
 use Rattle.grammar.specs.Words.{Bytes, Stops}
 use Rattle.grammar.specs.Scan.{run, past}
-use Rattle.grammar.proofs.Tests.{by-test}
+use Rattle.scan.proofs.Every.{by-test}
 use Rattle.grammar.proofs.Scans.{past-stops}
 
 -- ---- the run at the front

@@ -16,7 +16,8 @@ use Rattle.scan.specs.Marks.{startsAt, seek, past}
 use Rattle.scan.specs.Posts.{Found, Passed}
 use Rattle.scan.proofs.Searches.{seek-here, seek-on, seek-out, past-got, past-none, found-here, found-out, passed-got, passed-none}
 use Rattle.grammar.specs.Scan.{prefix, from, before, beyond}
-use Rattle.grammar.proofs.Tests.{by-test, eqb-eq, test-sym}
+use Rattle.scan.proofs.Every.{by-test}
+use Rattle.grammar.proofs.Tests.{eqb-eq, test-sym}
 use Rattle.grammar.proofs.Scans.{prefix-begins}
 use Rattle.scan.specs.Part.{stringAt}
 use Rattle.derivation.proofs.RunLaws.{string-is, byte-at}

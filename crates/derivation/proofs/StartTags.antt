@@ -23,7 +23,7 @@ use Rattle.grammar.specs.Tree.{Attr, Tree, element, Forest, none}
 use Rattle.grammar.specs.Scan.{run, past}
 use Rattle.grammar.proofs.Reader.{ok, bad, readAttribute, tagEnd, afterSlash, slashAs}
 use Rattle.grammar.proofs.Counted.{LRes, lok, lbad, lnext, lmap, lift, Counted, openedAsL, afterOpeningL, afterTagNameL, elementL}
-use Rattle.grammar.proofs.Tests.{by-test}
+use Rattle.scan.proofs.Every.{by-test}
 use Rattle.grammar.proofs.CountedRounds.{attributesC}
 use Rattle.scan.specs.Part.{stringAt}
 use Rattle.derivation.specs.Strings.{attrIn, attrsIn}

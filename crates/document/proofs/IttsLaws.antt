@@ -21,10 +21,9 @@ use Rattle.entities.specs.Escape.{plain, escapeByte, escaped}
 use Rattle.entities.proofs.Escapes.{Way, amp, lt, gt, quot, self, way}
 use Rattle.grammar.specs.Tree.{attr}
 use Rattle.grammar.specs.Scan.{prefix}
-use Rattle.grammar.proofs.Tests.{by-test}
+use Rattle.scan.proofs.Every.{by-test, both}
 use Rattle.derivation.proofs.SearchLaws.{from-end, prefix-at}
 use Rattle.derivation.proofs.RunLaws.{byte-at}
-use Rattle.scan.proofs.Every.{both}
 use Rattle.names.specs.declared.tables.Listed.{Listed}
 use Rattle.names.specs.declared.tables.Listed.the-variants.{StyleExtra, InlineExtra, RegionAttr, InlineModelled, Imsc1Extension}
 use Rattle.names.specs.Lists.{names, nameOf}

@@ -16,9 +16,9 @@ use Rattle.scan.specs.Bytes.{other, textByte, runEnd, runLength}
 use Rattle.scan.specs.Names.{sameBytes}
 use Rattle.scan.specs.Text.{ascii}
 use Rattle.unicode.specs.Utf8.{WellFormed, Utf8, empty, sequence, encode}
-use Rattle.unicode.proofs.Utf8Laws.{by-test, utf8-append, utf8-one, utf8-ascii, sequence-ascii, well-high}
+use Rattle.scan.proofs.Every.{by-test, every-at, every-append}
+use Rattle.unicode.proofs.Utf8Laws.{utf8-append, utf8-one, utf8-ascii, sequence-ascii, well-high}
 use Rattle.scan.specs.Every.{every}
-use Rattle.scan.proofs.Every.{every-at, every-append}
 use Rattle.scan.proofs.Runs.{run-high, run-stops}
 use Rattle.entities.specs.Reference.{named, lookup}
 use Rattle.entities.specs.Decode.{decodedFrom, decoded}

@@ -13,7 +13,8 @@ use lib.Seq.{drop-cons, drop-append-add, getD-append-add}
 use lib.Dec.{eqb, ltb}
 use borrow.Author.Tests.{eqb-true, eqb-false, ltb-true, ltb-false}
 use Rattle.unicode.specs.Utf8.{WellFormed, Utf8, empty, sequence}
-use Rattle.unicode.proofs.Utf8Laws.{by-test, well-high, sequence-ascii, ascii-formed, utf8-append, utf8-past-ascii, encode-utf8}
+use Rattle.scan.proofs.Every.{by-test}
+use Rattle.unicode.proofs.Utf8Laws.{well-high, sequence-ascii, ascii-formed, utf8-append, utf8-past-ascii, encode-utf8}
 use Rattle.entities.specs.declared.reference.Entity.{Entity}
 use Rattle.entities.specs.declared.reference.Entity.the-variants.{Char, Unknown}
 use Rattle.entities.specs.Reference.{nameLength, reference}

@@ -12,7 +12,7 @@ use mathlib.Core.Option.{none, some}
 use native.Mathlib.Omega.{arith}
 use lib.ListN.{length, length-append}
 use Rattle.scan.specs.Part.{stringAt}
-use Rattle.unicode.proofs.Utf8Laws.{by-test}
+use Rattle.scan.proofs.Every.{by-test}
 use Rattle.tree.specs.Trees.{Attr, Forest, nil, text, section, elem, size, attrsOf, Span, attrSpans, spans, InOrder}
 use Rattle.tree.proofs.Places.{in-lower, in-first, in-rest}
 use Rattle.scan.specs.declared.table.Found.the-variants.{Row, Nothing}

@@ -18,7 +18,7 @@ use Rattle.scan.specs.Part.{stringAt}
 use Rattle.scan.proofs.Stores.{sets-append}
 use Rattle.scan.proofs.Naming.{same-eq, same-refl, sameFolded-refl}
 use Rattle.unicode.specs.White.{trimmed}
-use Rattle.unicode.proofs.Utf8Laws.{by-test}
+use Rattle.scan.proofs.Every.{by-test}
 use Rattle.derivation.proofs.RunLaws.{string-is}
 use Rattle.names.specs.declared.tables.Listed.{Listed}
 use Rattle.names.specs.Lists.{names, nameOf}

@@ -14,7 +14,7 @@ use lib.Seq.{getD-set-same, getD-set-other}
 use borrow.Author.Tests.{leb-true, eqb-true, ne-eqb, eqb-false, ltb-true, ltb-false}
 use Rattle.scan.specs.Names.{sameFolded}
 use Rattle.scan.specs.Part.{stringAt}
-use Rattle.unicode.proofs.Utf8Laws.{by-test}
+use Rattle.scan.proofs.Every.{by-test}
 use Rattle.names.specs.declared.tables.Listed.{Listed}
 use Rattle.names.specs.declared.lookup.Number.{Number}
 use Rattle.names.specs.Lists.{names, nameOf}

@@ -24,7 +24,8 @@ use Rattle.grammar.proofs.Reader.{attributesStep, readAttributes, slash
 use Rattle.grammar.proofs.Reader.{NodeKind, kind, nodeAs, afterClose, contentAs, contentStep, readContent, nodesAs, nodesStep, readNodes}
 use Rattle.grammar.proofs.Reader.{pieceKind, prologAs, pastProlog, finish, readDocument, ok, as-text, as-section, as-element, as-close}
 use Rattle.grammar.proofs.Reader.{as-comment, as-node, to-mark, no-more}
-use Rattle.grammar.proofs.Tests.{by-test, eqb-same, eqb-eq, test-sym, not-true, or-true, not-or3, not-or4}
+use Rattle.scan.proofs.Every.{by-test}
+use Rattle.grammar.proofs.Tests.{eqb-same, eqb-eq, test-sym, not-true, or-true, not-or3, not-or4}
 use Rattle.grammar.proofs.Scans.{run-past, run-only, past-stops, run-is, past-is, prefix-begins, not-prefix, prefix-not, from-first}
 use Rattle.grammar.proofs.Scans.{before-first, from-lacks, before-lacks, beyond-is, up-to}
 

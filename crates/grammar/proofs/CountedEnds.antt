@@ -20,7 +20,7 @@ use Rattle.grammar.proofs.Reader.{as-section, as-element, as-close, as-
 use Rattle.grammar.proofs.Counted.{LRes, lnext, lmap, lift, Counted, attributesAsL, attributesStepL, attributesL, openedAsL, afterOpeningL}
 use Rattle.grammar.proofs.Counted.{afterTagNameL, elementL, nodeL, contentAsL, contentStepL, contentL, nodesAsL, nodesStepL, nodesL}
 use Rattle.grammar.proofs.Counted.{finishL, readDocumentL, lok, lbad}
-use Rattle.grammar.proofs.Tests.{by-test}
+use Rattle.scan.proofs.Every.{by-test}
 use Rattle.grammar.proofs.Scans.{past-stops}
 use Rattle.grammar.proofs.Sound.{View, view, comments, texts}
 use Rattle.grammar.proofs.Ends.{Ends, weaken, past-length, past-head, drop-length, beyond-length, text-first, attribute-ends, comment-ends}

@@ -20,7 +20,8 @@ use Rattle.grammar.proofs.Reader.{attributesStep, readAttributes, slash
 use Rattle.grammar.proofs.Reader.{NodeKind, Kind, kind, nodeAs, afterClose, contentAs, contentStep, readContent, nodesAs, nodesStep}
 use Rattle.grammar.proofs.Reader.{readNodes, pastProlog, finish, readDocument, ok, bad, as-text, as-section, as-element, as-close}
 use Rattle.grammar.proofs.Reader.{as-comment, as-node}
-use Rattle.grammar.proofs.Tests.{by-test, eqb-eq, equals-byte}
+use Rattle.scan.proofs.Every.{by-test}
+use Rattle.grammar.proofs.Tests.{eqb-eq, equals-byte}
 use Rattle.grammar.proofs.Scans.{run-past, past-stops, before-from}
 use Rattle.grammar.proofs.Complete.{comment-length}
 use Rattle.grammar.proofs.Sound.{View, view, comment-sound, comments, sections, elements, texts}

@@ -29,7 +29,8 @@ use Rattle.grammar.proofs.Counted.{afterTagNameL, elementL, nodeL, cont
 use Rattle.grammar.proofs.Counted.{readDocumentL, lok, lbad}
 use Rattle.grammar.specs.Refusals.{ElementBegins, NodeBegins, AttributeBegins, Viable, InStartTag, in-start-tag, Meets, too-deep}
 use Rattle.grammar.specs.Refusals.{too-many-nodes, no-tag-name, too-many-attributes, slash, no-value, end-in-tag, open-close-tag, FirstMet}
-use Rattle.grammar.proofs.Tests.{by-test, eqb-eq, not-or3, or-true}
+use Rattle.scan.proofs.Every.{by-test}
+use Rattle.grammar.proofs.Tests.{eqb-eq, not-or3, or-true}
 use Rattle.grammar.proofs.Scans.{run-past, past-stops, run-is, past-is, begins-prefix, not-prefix, beyond-is}
 use Rattle.grammar.proofs.Complete.{Front, attribute-front, front-stops, front-length, front-append, Gives, attribute-complete}
 use Rattle.grammar.proofs.Complete.{attributes-stops, name-front, blank-equals, blank-gt, equals-no-name, opening-tagged, kind-close}

@@ -18,7 +18,7 @@ use Rattle.grammar.proofs.Reader.{openedAs, afterOpening, afterTagName,
 use Rattle.grammar.proofs.Reader.{contentStep, readContent, ok, bad, as-text, as-section, as-element, as-close, as-comment, as-node}
 use Rattle.grammar.proofs.Counted.{LRes, lnext, lmap, lift, Counted, attributesAsL, attributesStepL, attributesL, openedAsL, afterOpeningL}
 use Rattle.grammar.proofs.Counted.{afterTagNameL, elementL, nodeL, contentAsL, contentStepL, contentL, lok, lbad}
-use Rattle.grammar.proofs.Tests.{by-test}
+use Rattle.scan.proofs.Every.{by-test}
 use Rattle.grammar.proofs.Scans.{past-stops}
 use Rattle.grammar.proofs.Sound.{View, view, comments}
 use Rattle.grammar.proofs.Simulation.{SimA, SimT, attributes-sim, InStep, node-sim, content-sim, same, over, fails}

@@ -28,7 +28,8 @@ use Rattle.grammar.proofs.Counted.{afterTagNameL, elementL, nodeL, cont
 use Rattle.grammar.proofs.Counted.{finishL, readDocumentL, lok, lbad}
 use Rattle.grammar.specs.Refusals.{ElementBegins, NodeBegins, AttributeBegins, Viable, InStartTag, in-start-tag, Meets, too-deep}
 use Rattle.grammar.specs.Refusals.{too-many-nodes, no-tag-name, too-many-attributes, slash, no-value, end-in-tag, open-close-tag}
-use Rattle.grammar.proofs.Tests.{by-test, not-both, eqb-eq, equals-byte, or-else}
+use Rattle.scan.proofs.Every.{by-test}
+use Rattle.grammar.proofs.Tests.{not-both, eqb-eq, equals-byte, or-else}
 use Rattle.grammar.proofs.Scans.{run-past, run-only, past-stops, run-is, past-is}
 use Rattle.grammar.proofs.Complete.{blank-gt, AtTagEnd, opening-complete, kind-close, kind-comment}
 use Rattle.grammar.proofs.Sound.{AttributeS, AttributesS, all-blanks, begins-name, attribute-sound, attributes-sound, ContentS, View, view}

@@ -13,8 +13,8 @@ use lib.Seq.{drop-append-seam}
 use lib.Dec.{eqb}
 use Rattle.grammar.specs.Words.{Bytes, Only, Stops, Begins, Lacks, UpTo, closed, unclosed}
 use Rattle.grammar.specs.Scan.{run, past, prefix, from, before, beyond}
-use Rattle.scan.proofs.Every.{both}
-use Rattle.grammar.proofs.Tests.{by-test, not-both, eqb-same, eqb-eq}
+use Rattle.scan.proofs.Every.{both, by-test}
+use Rattle.grammar.proofs.Tests.{not-both, eqb-same, eqb-eq}
 
 -- ---- runs
 

@@ -26,7 +26,8 @@ use Rattle.grammar.proofs.Reader.{bad, as-text, as-section, as-element,
 use Rattle.grammar.proofs.Counted.{LRes, lnext, lmap, lift, Counted, attributesAsL, attributesStepL, attributesL, openedAsL, afterOpeningL}
 use Rattle.grammar.proofs.Counted.{afterTagNameL, elementL, nodeL, contentAsL, contentStepL, contentL, nodesAsL, nodesStepL, nodesL}
 use Rattle.grammar.proofs.Counted.{finishL, readDocumentL, textAs, readText, lok, lbad}
-use Rattle.grammar.proofs.Tests.{by-test, T→is, is→T, not-both}
+use Rattle.scan.proofs.Every.{by-test}
+use Rattle.grammar.proofs.Tests.{T→is, is→T, not-both}
 use Rattle.grammar.proofs.Complete.{complete}
 use Rattle.grammar.proofs.Sound.{sound}
 

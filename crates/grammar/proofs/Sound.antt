@@ -25,7 +25,8 @@ use Rattle.grammar.proofs.Reader.{attributesStep, readAttributes, slash
 use Rattle.grammar.proofs.Reader.{NodeKind, Kind, kind, nodeAs, afterClose, contentAs, contentStep, readContent, nodesAs, nodesStep}
 use Rattle.grammar.proofs.Reader.{readNodes, PieceKind, pieceKind, prologAs, pastProlog, finish, readDocument, ok, bad, as-text}
 use Rattle.grammar.proofs.Reader.{as-section, as-element, as-close, as-comment, as-node, blank-byte, to-mark, no-more}
-use Rattle.grammar.proofs.Tests.{by-test, not-both, eqb-eq, not-false, or-true3, equals-byte}
+use Rattle.scan.proofs.Every.{by-test}
+use Rattle.grammar.proofs.Tests.{not-both, eqb-eq, not-false, or-true3, equals-byte}
 use Rattle.grammar.proofs.Scans.{run-past, run-only, past-stops, past-is, prefix-begins, prefix-not, before-from, Found, found}
 use Rattle.grammar.proofs.Scans.{before-lacks, up-to, nowhere, at-first}
 use Rattle.grammar.proofs.Complete.{past-none, blank-equals, AtTagEnd, begins-more, begins-piece, open-comment, open-instruction}

@@ -4,10 +4,7 @@ use Prim.Native.Nat.{ℕ}
 use mathlib.Core.Logic.{_⊎_, inl, inr}
 use mathlib.Core.Bool.{Bool, true, false, not, _||_, _&&_, true≢false}
 use lib.Dec.{T, eqb, eqb→eq, eqb-refl}
-
-pub by-test {ℓ} : {X : Type ℓ} (b : Bool) → (b ≡ true → X) → (b ≡ false → X) → X
-by-test true f g = f refl
-by-test false f g = g refl
+use Rattle.scan.proofs.Every.{by-test}
 
 pub T→is : (b : Bool) → T b → b ≡ true
 T→is true t = refl

@@ -15,7 +15,8 @@ use Rattle.grammar.specs.Tree.{Forest}
 use Rattle.grammar.specs.Demand.{Result, tree, refused, Derives, TakesExactly, GivesThatTree, NoTwo, decodeForest}
 use Rattle.grammar.specs.Refusals.{RefusesTruly, RefusesExactly}
 use Rattle.grammar.proofs.Counted.{readDocumentL, textAs, readText, decodeResult, treeReader}
-use Rattle.grammar.proofs.Tests.{by-test, T→is, is→T}
+use Rattle.scan.proofs.Every.{by-test}
+use Rattle.grammar.proofs.Tests.{T→is, is→T}
 use Rattle.grammar.proofs.Complete.{unique}
 use Rattle.grammar.proofs.Simulation.{text-exactly}
 use Rattle.grammar.proofs.First.{exactly}

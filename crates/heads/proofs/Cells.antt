@@ -17,7 +17,7 @@ use lib.Ieee.{Float}
 use lib.ListN.{length, drop, length-take, length-drop}
 use borrow.Author.Tests.{ne-eqb, le-leb, lt-leb}
 use Rattle.scan.specs.Part.{stringAt}
-use Rattle.unicode.proofs.Utf8Laws.{by-test}
+use Rattle.scan.proofs.Every.{by-test}
 use Rattle.derivation.proofs.RunLaws.{string-is}
 use Rattle.colors.specs.declared.read.Rgba.{Rgba}
 use Rattle.decimals.specs.declared.size.Size.{Size}

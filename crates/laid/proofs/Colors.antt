@@ -9,7 +9,7 @@ use native.Mathlib.Omega.{arith}
 use lib.ListN.{length}
 use lib.Dec.{leb, leb→le, ltb, eqb}
 use borrow.Author.Tests.{ltb-true}
-use Rattle.unicode.proofs.Utf8Laws.{by-test}
+use Rattle.scan.proofs.Every.{by-test}
 use Rattle.unicode.specs.White.{trimmed}
 use Rattle.unicode.specs.Utf8.{boundary}
 use Rattle.scan.specs.Names.{sameFolded}

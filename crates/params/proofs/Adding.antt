@@ -11,7 +11,7 @@ use lib.Seq.{sets, take-append-seam}
 use Rattle.scan.specs.Names.{afterFirstColon, PartFrom}
 use Rattle.scan.specs.Part.{stringAt}
 use Rattle.scan.proofs.Stores.{sets-append}
-use Rattle.unicode.proofs.Utf8Laws.{by-test}
+use Rattle.scan.proofs.Every.{by-test}
 use Rattle.derivation.proofs.RunLaws.{string-is}
 use Rattle.tree.specs.Trees.{Attr}
 use Rattle.track.specs.declared.strings.Span.{Span}

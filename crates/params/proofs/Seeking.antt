@@ -18,7 +18,7 @@ use Rattle.scan.specs.Names.{sameBytes, afterFirstColon, PartFrom}
 use Rattle.scan.specs.Posts.{Marked}
 use Rattle.scan.specs.Part.{stringAt}
 use Rattle.unicode.specs.White.{trimmed}
-use Rattle.unicode.proofs.Utf8Laws.{by-test}
+use Rattle.scan.proofs.Every.{by-test}
 use Rattle.times.specs.Expressions.{timeDecimal}
 use Rattle.tree.specs.Trees.{Attr}
 use Rattle.tree.specs.declared.answers.Refusal.{Refusal}

@@ -16,7 +16,7 @@ use lib.Seq.{take-length}
 use lib.Dec.{eqb}
 use Rattle.scan.specs.Part.{part, stringAt}
 use Rattle.unicode.specs.White.{trimmed, Trimmed}
-use Rattle.unicode.proofs.Utf8Laws.{by-test}
+use Rattle.scan.proofs.Every.{by-test}
 use Rattle.track.specs.declared.strings.Span.{Span}
 use Rattle.track.specs.declared.values.Look as values
 use Rattle.track.specs.declared.values.Cue as placed

@@ -13,7 +13,7 @@ use lib.ListN.{length, take}
 use lib.Dec.{eqb, leb}
 use borrow.Author.Tests.{eqb-true, eqb-false}
 use Rattle.scan.specs.Bytes.{runLength}
-use Rattle.unicode.proofs.Utf8Laws.{by-test}
+use Rattle.scan.proofs.Every.{by-test}
 use Rattle.colors.specs.declared.read.Color.{Color}
 use Rattle.colors.specs.Colors.{colorIn}
 use Rattle.decimals.specs.declared.read.Decimal.{Decimal}

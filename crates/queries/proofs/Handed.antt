@@ -12,8 +12,7 @@ use native.Mathlib.Nat.{add-zero}
 use lib.ListN.{length, getD, take, length-take}
 use lib.Dec.{eqb, leb}
 use borrow.Author.Tests.{leb-true, eqb-true, eqb-false}
-use Rattle.unicode.proofs.Utf8Laws.{by-test}
-use Rattle.scan.proofs.Every.{both}
+use Rattle.scan.proofs.Every.{by-test, both}
 use Rattle.track.specs.declared.strings.Span.{Span}
 use Rattle.track.specs.Tables.{Tables, cell, span, optional, styleCount, regionCount, cueCount, segmentCount, stringsUsed, cueAt}
 use Rattle.track.specs.Meaning.{isOptional, hasExtras, withinLimits, isTrack}

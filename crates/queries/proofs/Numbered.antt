@@ -15,8 +15,7 @@ use lib.ListN.{length, getD}
 use lib.Dec.{eqb}
 use borrow.Author.Tests.{not-true, eqb-true, eqb-false, eq-eqb, ne-eqb}
 use Rattle.scan.specs.Names.{sameBytes}
-use Rattle.unicode.proofs.Utf8Laws.{by-test}
-use Rattle.scan.proofs.Every.{both}
+use Rattle.scan.proofs.Every.{by-test, both}
 use Rattle.decimals.proofs.Tests.{no}
 use Rattle.names.specs.declared.tables.Listed.{Listed}
 use Rattle.names.specs.Lists.{regionAttr, nameOf}

@@ -15,7 +15,7 @@ use Rattle.scan.specs.Part.{stringAt}
 use Rattle.scan.specs.Names.{sameBytes, sameFolded}
 use Rattle.scan.specs.Loop.{loop}
 use Rattle.unicode.specs.White.{trimmed, whiteEnd, whiteStart}
-use Rattle.unicode.proofs.Utf8Laws.{by-test}
+use Rattle.scan.proofs.Every.{by-test}
 use Rattle.colors.specs.declared.read.Rgba.{Rgba}
 use Rattle.colors.specs.declared.read.Color.{Color}
 use Rattle.colors.specs.Colors.{color, colorIn}

@@ -15,7 +15,7 @@ use lib.Dec.{eqb, leb, ltb}
 use borrow.Author.Tests.{eq-eqb, ne-eqb, leb-true, lt-ltb, ltb-true, ltb-false}
 use Rattle.scan.specs.Loop.{loop, go}
 use Rattle.unicode.specs.Utf8.{utf8End, LongestValid}
-use Rattle.unicode.proofs.Utf8Laws.{by-test}
+use Rattle.scan.proofs.Every.{by-test}
 use Rattle.decimals.proofs.Tests.{no}
 use Rattle.tree.specs.declared.answers.Refusal.{Refusal}
 use Rattle.track.specs.declared.strings.Span.{Span}

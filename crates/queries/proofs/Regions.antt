@@ -9,7 +9,7 @@ use mathlib.Core.Option.{Option, none, some}
 use native.Mathlib.Omega.{arith}
 use lib.ListN.{length, getD}
 use Rattle.scan.specs.Part.{stringAt}
-use Rattle.unicode.proofs.Utf8Laws.{by-test}
+use Rattle.scan.proofs.Every.{by-test}
 use Rattle.track.specs.declared.strings.Span.{Span}
 use Rattle.track.specs.declared.values.Look as values
 use Rattle.track.specs.Track.{Bytes, Look, Extra, Style, Region}

@@ -14,8 +14,7 @@ use Rattle.scan.specs.Names.{sameBytes}
 use Rattle.track.specs.Tables.{Tables, cell, rowsFrom, styleAt, regionAt}
 use Rattle.track.specs.Layout.{each, isSome}
 use Rattle.track.specs.Meaning.{isSpan, styleStrings, isStyle, isRegion, styleIn, regionIn}
-use Rattle.unicode.proofs.Utf8Laws.{by-test}
-use Rattle.scan.proofs.Every.{both}
+use Rattle.scan.proofs.Every.{by-test, both}
 use Rattle.scan.specs.declared.table.Found.{Found}
 use Rattle.records.specs.Find.{isNamed, firstRow, firstWith, firstThat, isEmpty, chainFrom, extrasFrom, findStyle, findChain, findExtras}
 use Rattle.records.specs.Find.{findRegion, foundIn, Named}

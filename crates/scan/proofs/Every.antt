@@ -1,13 +1,18 @@
--- Tests that every entry of a list passes. Assumes nothing.
+-- Tests, and tests that every entry of a list passes. Assumes nothing.
+--     by-test                                what holds whichever way a test goes
 --     both                                   both parts of a test hold
 --     every-at, every-as, every-append       the test over a list, at each entry, of one test from another, of two lists
 use Prim.Native.Nat.{ℕ, zero, suc, _<_}
 use mathlib.Core.Path.{_≡_, refl}
-use mathlib.Core.Bool.{Bool, true, _&&_, and-eq-true-iff}
+use mathlib.Core.Bool.{Bool, true, false, _&&_, and-eq-true-iff}
 use mathlib.Core.List.{List, [], _∷_, _++_}
 use native.Mathlib.Omega.{arith}
 use lib.ListN.{length, getD}
 use Rattle.scan.specs.Every.{every}
+
+pub by-test {ℓ} : {A : Type ℓ} (t : Bool) → (t ≡ true → A) → (t ≡ false → A) → A
+by-test true f g = f refl
+by-test false f g = g refl
 
 pub both : {a b : Bool} → (a && b) ≡ true → (a ≡ true) × (b ≡ true)
 both {a} {b} e = and-eq-true-iff a b .0 e

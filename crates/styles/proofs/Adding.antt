@@ -17,7 +17,7 @@ use lib.Dec.{eqb, ltb}
 use borrow.Author.Tests.{eqb-true, eqb-false, ltb-true, ltb-false}
 use Rattle.scan.specs.Part.{stringAt}
 use Rattle.scan.proofs.Stores.{sets-other}
-use Rattle.unicode.proofs.Utf8Laws.{by-test}
+use Rattle.scan.proofs.Every.{by-test}
 use Rattle.track.specs.Track.{Bytes}
 use Rattle.styles.specs.Ids.{sourceOf, bytesOf, rowAt, rowsIn, idAt, RowWithin, hashOf, turn, half, fromOne, met, Tree, Held, Ends, Added}
 use Rattle.styles.specs.Ids.{AddPost}

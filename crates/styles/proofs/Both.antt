@@ -24,7 +24,7 @@ use mathlib.Core.List.{
 }
 use lib.ListN.{length}
 use Rattle.unicode.specs.White.{words}
-use Rattle.unicode.proofs.Utf8Laws.{by-test}
+use Rattle.scan.proofs.Every.{by-test}
 use Rattle.names.specs.Numbers.{isIn}
 use Rattle.decimals.proofs.Tests.{no}
 use Rattle.track.specs.Track.{Bytes, Style}

@@ -12,7 +12,7 @@ use native.Mathlib.Omega.{arith}
 use lib.ListN.{length}
 use Rattle.scan.specs.Names.{sameBytes}
 use Rattle.scan.proofs.Naming.{same-eq}
-use Rattle.unicode.proofs.Utf8Laws.{by-test}
+use Rattle.scan.proofs.Every.{by-test}
 use Rattle.names.specs.Numbers.{isIn}
 use Rattle.decimals.proofs.Tests.{no}
 use Rattle.track.specs.Track.{Bytes, Style}

@@ -24,7 +24,7 @@ use lib.ListN.{length, length-append}
 use Rattle.scan.specs.Names.{sameBytes}
 use Rattle.scan.proofs.Naming.{same-eq, same-refl}
 use Rattle.names.specs.Numbers.{isIn}
-use Rattle.unicode.proofs.Utf8Laws.{by-test}
+use Rattle.scan.proofs.Every.{by-test}
 use Rattle.decimals.proofs.Tests.{no}
 use Rattle.track.specs.Track.{Bytes}
 use Rattle.styles.specs.Reaches.{_∈_, Distinct, empty, fresh, Exactly}

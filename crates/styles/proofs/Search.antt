@@ -21,7 +21,7 @@ use borrow.Author.Tests.{eqb-true, eqb-false, ne-eqb, leb-true, leb-false, ltb-t
 use Rattle.scan.specs.Names.{sameBytes}
 use Rattle.scan.specs.Part.{stringAt}
 use Rattle.scan.proofs.Naming.{same-eq}
-use Rattle.unicode.proofs.Utf8Laws.{by-test}
+use Rattle.scan.proofs.Every.{by-test}
 use Rattle.names.specs.Numbers.{isIn}
 use Rattle.decimals.proofs.Tests.{no}
 use Rattle.track.specs.Track.{Bytes}

@@ -7,7 +7,7 @@ use native.Mathlib.Nat.{max-le, max-eq-left, max-eq-right}
 use lib.IntN.{ℤ}
 use lib.ListN.{length, set, length-append}
 use Rattle.scan.specs.Posts.{Appended}
-use Rattle.scan.proofs.Stores.{sets-on}
+use Rattle.scan.proofs.Stores.{appended-on}
 use Rattle.numerals.specs.Written.{padded, decimalWidth}
 use Rattle.numerals.proofs.Writing.{padded-length, width-few}
 use Rattle.times.specs.Written.{millis, field, hoursWidth, clockOfMillis, clockText}
@@ -42,19 +42,11 @@ unfolding clockText
 text-length z t e = rw (sym e) (clock-length t)
 
 -- ---- one piece after another
-pub laid-on : (a b t t′ t″ : List ℕ) (at n m : ℕ) → Appended a at t t′ n → Appended b n t′ t″ m → length t′ ≡ length t → Appended (a ++ b) at t t″ m
-laid-on a b t t′ t″ at n m p q l =
-    record {
-      next = simp length-append (omega (arith, p .next, q .next));
-      within = omega (arith, q .within);
-      laid = sets-on a b t t′ t″ at n (p .laid) (q .laid) (p .next);
-    }
-
 pub field-laid : (w k mark : ℕ) (t t′ : List ℕ) (at n : ℕ) → Appended (padded 10 w k) at t t′ n → n + 1 ≤ length t → length t′ ≡ length t
     → Appended (field w k mark) at t (set t′ n mark) (n + 1)
 unfolding field
 field-laid w k mark t t′ at n p h l =
-    laid-on (padded 10 w k) (mark ∷ []) t t′ (set t′ n mark) at n (n + 1) p (record { next = refl; within = omega arith; laid = refl }) l
+    appended-on p (record { next = refl; within = omega arith; laid = refl })
 
 -- hours, minutes, seconds and the rest, each where the one before ends
 pub clock-laid : (z : ℤ) (ms : ℕ) → ms ≡ millis z → (t t₁ t₂ t₃ t₄ : List ℕ) (at w n₁ n₂ n₃ n₄ : ℕ)
@@ -67,4 +59,4 @@ pub clock-laid : (z : ℤ) (ms : ℕ) → ms ≡ millis z → (t t₁ t₂ t₃ 
 unfolding clockText clockOfMillis
 clock-laid z ms e t t₁ t₂ t₃ t₄ at w n₁ n₂ n₃ n₄ ew a l b m c n d =
     rw (sym e, sym ew)
-    (laid-on _ _ t t₃ t₄ at n₃ n₄ (laid-on _ _ t t₂ t₃ at n₂ n₃ (laid-on _ _ t t₁ t₂ at n₁ n₂ a b l) c m) d n)
+    (appended-on (appended-on (appended-on a b) c) d)

@@ -10,7 +10,7 @@ use lib.Signed.{mag, ltZ, leZ, nonNeg}
 use mir.Syntax.{w64}
 use mir.Val.{toZ}
 use borrow.Author.Tests.{ltb-true, ltb-false, leb-false, lt-ltb, le-ltb}
-use Rattle.unicode.proofs.Utf8Laws.{by-test}
+use Rattle.scan.proofs.Every.{by-test}
 use Rattle.times.specs.declared.sums.Sum.{Sum}
 use Rattle.times.specs.Sums.{isI64, checked, signed}
 use Rattle.times.specs.Written.{millis}

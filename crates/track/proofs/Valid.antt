@@ -16,8 +16,7 @@ use lib.Ieee.{Float}
 use borrow.Author.Tests.{eqb-true}
 use Rattle.scan.specs.Part.{stringAt}
 use Rattle.unicode.specs.Utf8.{Utf8}
-use Rattle.unicode.proofs.Utf8Laws.{by-test}
-use Rattle.scan.proofs.Every.{both}
+use Rattle.scan.proofs.Every.{by-test, both}
 use Rattle.track.specs.declared.strings.Span.{Span}
 use Rattle.track.specs.declared.segments.Segment.{Segment}
 use Rattle.track.specs.Track.{Bytes, Extra, Param, Style, Region, Wrapper, Segments, Cue, Track}

@@ -9,7 +9,8 @@ use lib.Dec.{leb}
 use lib.ListN.{length, take, replicate}
 use borrow.Author.Tests.{le-leb, leb-true}
 use Rattle.unicode.specs.Utf8.{Utf8, utf8End}
-use Rattle.unicode.proofs.Utf8Laws.{utf8-end, by-test}
+use Rattle.scan.proofs.Every.{by-test}
+use Rattle.unicode.proofs.Utf8Laws.{utf8-end}
 use Rattle.entities.specs.Decode.{decoded}
 use Rattle.grammar.specs.Tree.{Forest}
 use Rattle.grammar.specs.Demand.{Derives, decodeForest}

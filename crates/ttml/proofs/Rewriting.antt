@@ -15,7 +15,7 @@ use lib.Seq.{length-take-le}
 use lib.IntN.{ℤ, pos}
 use lib.Signed.{mag}
 use borrow.Author.Tests.{ltb-true, ltb-false}
-use Rattle.unicode.proofs.Utf8Laws.{by-test}
+use Rattle.scan.proofs.Every.{by-test}
 use Rattle.track.specs.Track.{Bytes, Track}
 use Rattle.track.specs.Tables as track
 use Rattle.tree.specs.declared.answers.Refusal.{Refusal}

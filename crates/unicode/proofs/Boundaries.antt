@@ -15,7 +15,8 @@ use lib.Dec.{eqb, leb, ltb}
 use borrow.Author.Tests.{eq-eqb, ne-eqb, le-leb, lt-leb, leb-true, eqb-true, eqb-false, ltb-true, ltb-false}
 use Rattle.scan.specs.Part.{stringAt}
 use Rattle.unicode.specs.Utf8.{Range, _to_, table, fitsAt, firstFit, sequenceAt, WellFormed, Utf8, empty, sequence, boundary}
-use Rattle.unicode.proofs.Utf8Laws.{by-test, range-low, range-high, fits-first}
+use Rattle.scan.proofs.Every.{by-test}
+use Rattle.unicode.proofs.Utf8Laws.{range-low, range-high, fits-first}
 
 module _ (s : List ℕ) (i : ℕ) where
   pub boundary-start : i ≡ 0 → boundary s i ≡ true

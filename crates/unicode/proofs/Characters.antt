@@ -13,7 +13,8 @@ use lib.Dec.{leb}
 use borrow.Author.Tests.{leb-true, le-leb}
 use Rattle.unicode.specs.Utf8.{Range, _to_, within, table, fitsAt, firstFit, sequenceAt, WellFormed, Utf8, empty, sequence, encode, charAt}
 use Rattle.unicode.specs.Utf8.{FirstChars, taken, ended, next}
-use Rattle.unicode.proofs.Utf8Laws.{by-test, range-low, range-high, fits-first, encode-1, encode-2, encode-3, encode-4, sequence-none}
+use Rattle.scan.proofs.Every.{by-test}
+use Rattle.unicode.proofs.Utf8Laws.{range-low, range-high, fits-first, encode-1, encode-2, encode-3, encode-4, sequence-none}
 use Rattle.unicode.proofs.Utf8Laws.{utf8-one, utf8-rest}
 use Rattle.unicode.proofs.Boundaries.{Inside, well-inside}
 

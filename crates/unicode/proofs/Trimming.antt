@@ -21,7 +21,8 @@ use Rattle.unicode.specs.Utf8.{sequenceAt, charAt, WellFormed}
 use Rattle.unicode.specs.WhiteSpace.{isWhite, WhiteCharacter, WhiteSpace, nothing, character, Trims}
 use Rattle.unicode.specs.Steps.{WhiteEnd, whiteAt, endsWith, whiteBefore, whiteEnd, whiteBack, whiteStart}
 use Rattle.unicode.specs.White.{trimmed, Trimmed}
-use Rattle.unicode.proofs.Utf8Laws.{by-test, sequence-none, sequence-short, sequence-within, well-at, well-part, part-length, part-agrees}
+use Rattle.scan.proofs.Every.{by-test}
+use Rattle.unicode.proofs.Utf8Laws.{sequence-none, sequence-short, sequence-within, well-at, well-part, part-length, part-agrees}
 use Rattle.unicode.proofs.Boundaries.{sequence-inside}
 use Rattle.unicode.proofs.WhiteLaws.{whiteAt-white, whiteAt-visible, whiteAt-within, endsWith-here, endsWith-on, whiteBefore-low}
 use Rattle.unicode.proofs.WhiteLaws.{whiteEnd-here, whiteEnd-on, whiteEnd-out}

@@ -10,16 +10,13 @@ use lib.Seq.{length-take-le, take-length, drop-at, take-add, getD-take, getD-dro
 use lib.Dec.{eqb, leb, ltb}
 use borrow.Author.Tests.{ltb-true, ltb-false, leb-true, lt-ltb, le-ltb, le-leb, lt-leb, ne-eqb, eqb-true, eqb-false}
 use Rattle.scan.specs.Loop.{halt, more, loop}
+use Rattle.scan.proofs.Every.{by-test}
 use Rattle.scan.proofs.Loop.{loop-out, loop-halt, loop-more, loop-ind, halt-inj, more-inj, halt≢more, more≢halt}
 use Rattle.unicode.specs.Utf8.{Range, _to_, within, table, fitsAt, firstFit, sequenceAt, WellFormed, Utf8, empty, sequence, utf8Turn}
 use Rattle.unicode.specs.Utf8.{utf8End, LongestValid, Sequence, scalar, encode, charAt}
 use Rattle.unicode.specs.Steps.{Bounded, AsciiTo, tails, followed}
 
 -- ---- tests
-pub by-test : {A : Type 0} (t : Bool) → (t ≡ true → A) → (t ≡ false → A) → A
-by-test true f g = f refl
-by-test false f g = g refl
-
 either : {A : Type 0} (a b : Bool) → a || b ≡ true → (a ≡ true → A) → (b ≡ true → A) → A
 either true b h f g = f refl
 either false b h f g = g h

@@ -14,7 +14,8 @@ use Rattle.scan.specs.Loop.{Next, halt, more, loop}
 use Rattle.scan.specs.Part.{part}
 use Rattle.scan.proofs.Loop.{loop-out, loop-halt, loop-more}
 use Rattle.unicode.specs.Utf8.{sequenceAt, charAt}
-use Rattle.unicode.proofs.Utf8Laws.{by-test, sequence-within, sequence-ascii}
+use Rattle.scan.proofs.Every.{by-test}
+use Rattle.unicode.proofs.Utf8Laws.{sequence-within, sequence-ascii}
 use Rattle.unicode.specs.WhiteSpace.{whiteSpace, isAmong, isWhite}
 use Rattle.unicode.specs.Steps.{whiteAt, endsWith, whiteBefore, whiteTurn, whiteEnd, whiteBack, whiteStart, wordTurn, wordEnd, wordsTurn}
 use Rattle.unicode.specs.Steps.{wordsFrom}

@@ -13,7 +13,7 @@ use Rattle.scan.specs.Part.{part}
 use Rattle.unicode.specs.WhiteSpace.{WhiteCharacter, WhiteSpace, Bare, Parted, ends, white, Splits, no-word, word}
 use Rattle.unicode.specs.Steps.{WhiteEnd, whiteAt, whiteEnd, wordEnd, wordsFrom}
 use Rattle.unicode.specs.White.{words, WordAt}
-use Rattle.unicode.proofs.Utf8Laws.{by-test}
+use Rattle.scan.proofs.Every.{by-test}
 use Rattle.unicode.proofs.WhiteLaws.{whiteAt-within, whiteEnd-here, whiteEnd-out, whiteEnd-low, whiteEnd-high, whiteEnd-stops, wordEnd-here}
 use Rattle.unicode.proofs.WhiteLaws.{wordEnd-on, wordEnd-out}
 use Rattle.unicode.proofs.WhiteLaws.{wordEnd-low, wordEnd-high, wordEnd-stops, wordEnd-some, wordsFrom-none, wordsFrom-next, wordsFrom-after}

@@ -12,7 +12,7 @@ use native.Mathlib.Omega.{arith}
 use native.Mathlib.Nat.{sub-zero, zero-add}
 use lib.ListN.{length, replicate}
 use lib.Dec.{leb}
-use Rattle.grammar.proofs.Tests.{by-test}
+use Rattle.scan.proofs.Every.{by-test}
 use Rattle.tree.specs.declared.answers.Refusal.{Refusal}
 use Rattle.track.specs.declared.check.Check.{Check}
 use Rattle.track.specs.Track.{Bytes, Cue, Track}

@@ -25,7 +25,7 @@ use Rattle.grammar.specs.Grammar.{Blanks, Name, Opening, Comment, Before, a-com
 use Rattle.grammar.specs.Grammar.{an-element, Element, without-content, with-content, Content, Nodes, Document, document}
 use Rattle.grammar.specs.Scan.{prefix, from}
 use Rattle.grammar.proofs.Reader.{NodeKind, as-text, as-section, as-element, Kind, as-close, as-comment, as-node, kind}
-use Rattle.grammar.proofs.Tests.{by-test}
+use Rattle.scan.proofs.Every.{by-test}
 use Rattle.grammar.proofs.Scans.{begins-prefix, from-first, from-lacks}
 use Rattle.grammar.proofs.Complete.{blank-gt, tag-end-stops, kind-text, kind-close, kind-element, Tagged, tagged-append, element-tagged}
 use Rattle.grammar.proofs.Complete.{element-mark, not-begins, comment-length, begins-more, node-complete, prolog-complete}

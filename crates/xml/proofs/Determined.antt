@@ -15,7 +15,7 @@ use Rattle.scan.specs.Part.{stringAt}
 use Rattle.grammar.specs.Tree.{Forest}
 use Rattle.grammar.specs.Demand.{Result}
 use Rattle.grammar.specs.Demand as demand
-use Rattle.grammar.proofs.Tests.{by-test}
+use Rattle.scan.proofs.Every.{by-test}
 use Rattle.tree.specs.Trees as placed
 use Rattle.tree.specs.Trees.{Attr, nil, text, section, elem, Span, attrSpans, spans}
 use Rattle.tree.specs.declared.answers.Answer.{Answer}

@@ -12,7 +12,7 @@ use mathlib.Core.List.{List, [], _∷_, _++_, append-assoc}
 use native.Mathlib.Omega.{arith}
 use lib.ListN.{length}
 use Rattle.scan.specs.Names.{sameFolded}
-use Rattle.unicode.proofs.Utf8Laws.{by-test}
+use Rattle.scan.proofs.Every.{by-test}
 use Rattle.tree.specs.Trees.{Attr, Forest, nil, text, section, elem, size, attrsOf, row, rows, attrRows, Span, attrSpans, spans, InOrder}
 use Rattle.tree.specs.Walks.{Stands, Listed, RowIs}
 use Rattle.tree.proofs.Tags.{attrRows-append}

@@ -15,7 +15,8 @@ use lib.Seq.{sets, sets-eq, take-at, drop-at, getD-append-add}
 use lib.Dec.{ltb}
 use borrow.Author.Tests.{ltb-true, ltb-false}
 use Rattle.unicode.specs.Utf8.{Utf8, empty, sequence, boundary, _to_}
-use Rattle.unicode.proofs.Utf8Laws.{by-test, in-range, no-row, utf8-append, utf8-ascii}
+use Rattle.scan.proofs.Every.{by-test}
+use Rattle.unicode.proofs.Utf8Laws.{in-range, no-row, utf8-append, utf8-ascii}
 use Rattle.unicode.proofs.Boundaries.{boundary-start, boundary-end, boundary-below, boundary-above}
 use Rattle.xml.specs.Reading.{Placed, lay}
 use Rattle.xml.proofs.Lays.{Ordered, ordered-whole}

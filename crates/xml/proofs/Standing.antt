@@ -26,7 +26,7 @@ use Rattle.grammar.specs.Grammar.{Blanks, Value, quoted, unquoted, Attribute, a
 use Rattle.grammar.specs.Grammar.{Opening, opening}
 use Rattle.grammar.specs.Scan.{past, run, prefix, beyond}
 use Rattle.grammar.proofs.Reader.{tagEnd}
-use Rattle.grammar.proofs.Tests.{by-test}
+use Rattle.scan.proofs.Every.{by-test}
 use Rattle.grammar.proofs.Scans.{run-past, run-only, past-is, prefix-begins, beyond-is}
 use Rattle.grammar.proofs.Complete.{stop-at, blank-equals, equals-no-name, value-stops, Front, attribute-front, front-length, attributes-stops}
 use Rattle.derivation.proofs.RunLaws.{past-drop, byte-at}

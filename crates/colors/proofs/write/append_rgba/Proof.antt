@@ -1,6 +1,7 @@
 -- `append_rgba` writes the colour where nine bytes are left.
 use native.Mathlib.Omega.{arith}
-use Rattle.colors.proofs.Writing.{rgb-length, rgba-length, appended-kept, rgba-put}
+use Rattle.scan.proofs.Stores.{appended-kept}
+use Rattle.colors.proofs.Writing.{rgb-length, rgba-length, rgba-put}
 use borrow.Author.Needs.{needs}
 use Rattle.colors.proofs.write.append_rgba.Statement.{statement}
 use Rattle.colors.proofs.write.append_rgba.Tie as tie

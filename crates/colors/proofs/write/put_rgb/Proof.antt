@@ -1,7 +1,8 @@
 -- `put_rgb` writes `#` and the three channels, one after the other.
 use native.Mathlib.Omega.{arith}
 use lib.ListN.{length-set}
-use Rattle.colors.proofs.Writing.{hex-length, appended-kept, rgb-put}
+use Rattle.scan.proofs.Stores.{appended-kept}
+use Rattle.colors.proofs.Writing.{hex-length, rgb-put}
 use borrow.Author.Needs.{needs}
 use Rattle.colors.proofs.write.put_rgb.Statement.{statement}
 use Rattle.colors.proofs.write.put_rgb.Tie as tie

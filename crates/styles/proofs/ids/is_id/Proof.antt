@@ -5,7 +5,7 @@ use native.Mathlib.Omega.{arith}
 use lib.Dec.{eqb}
 use lib.ListN.{getD}
 use borrow.Author.Tests.{eqb-true, eqb-false, ne-eqb}
-use Rattle.unicode.proofs.Utf8Laws.{by-test}
+use Rattle.scan.proofs.Every.{by-test}
 use Rattle.styles.proofs.Search.{row-text, row-strings}
 use Rattle.scan.specs.Part.{stringAt}
 use Rattle.styles.specs.Ids.{idAt}
