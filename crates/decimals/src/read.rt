@@ -1,9 +1,10 @@
 // Reading a decimal: its sign, its digits as a whole number, and how many stand behind the point.
 ghost use mathlib.Core.Path.{_≡_};
-ghost use mathlib.Core.Bool.{cond};
+ghost use mathlib.Core.Bool.{cond, _&&_};
 ghost use mathlib.Core.List.{_++_};
 ghost use Prim.Native.Nat.{_-_, _≤_, _<_, _^_};
 ghost use lib.ListN.{length, take, drop};
+ghost use lib.Dec.{leb, ltb};
 ghost use Rattle.scan.specs.Bytes.{digitByte};
 ghost use Rattle.scan.specs.Posts.{Ends};
 ghost use Rattle.decimals.specs.Decimal.{isSign, onlyDigits, isExponent, isWord, limited, unsignedDecimal, Reads};
@@ -215,6 +216,19 @@ fn few_digits(text: &[u8], from: usize, before: u64) -> Run
     Run { end: i, value }
 }
 
+// Is there a digit, and are they, and those behind the point, within the limits?
+fn is_within(count: usize, scale: usize, digits: usize, decimals: usize) -> bool
+    ensures { λ r. ⌜ r ≡ ltb 0 count && (leb count digits && leb scale decimals) ⌝ }
+{
+    if count == 0 {
+        return false;
+    }
+    if digits < count {
+        return false;
+    }
+    scale <= decimals
+}
+
 // A decimal without its sign. One of few digits and nothing else, as most are, is read in one pass.
 fn read_unsigned(text: &[u8], negative: bool, digits: usize, decimals: usize) -> Decimal
     requires { ⌜ (digits ≤ 18) × (decimals < 2 ^ 32) ⌝ }
@@ -228,17 +242,12 @@ fn read_unsigned(text: &[u8], negative: bool, digits: usize, decimals: usize) ->
         let end = last.end;
         if text.len() <= end {
             let scale = end - from;
-            let count = whole + scale;
-            if 0 < count {
-                if count <= digits {
-                    if scale <= decimals {
-                        return Decimal::Is(Digits {
-                            negative,
-                            digits: last.value,
-                            scale: scale as u32,
-                        });
-                    }
-                }
+            if is_within(whole + scale, scale, digits, decimals) {
+                return Decimal::Is(Digits {
+                    negative,
+                    digits: last.value,
+                    scale: scale as u32,
+                });
             }
         }
     }

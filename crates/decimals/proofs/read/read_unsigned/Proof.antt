@@ -1,9 +1,13 @@
 -- `read_unsigned` meets its contract: few digits and nothing else are what one pass reads, and any other text is read as `read_any` reads it.
-use Prim.Native.Nat.{ℕ}
-use mathlib.Core.Path.{ap, _∙_}
+use Prim.Native.Nat.{ℕ, _+_, _-_}
+use mathlib.Core.Path.{_≡_, ap, sym, _∙_}
+use mathlib.Core.Bool.{true, _&&_}
 use mathlib.Core.List.{List}
 use native.Mathlib.Omega.{arith}
+use lib.Dec.{leb, ltb}
 use borrow.Author.Needs.{needs}
+use borrow.Author.Tests.{leb-true, ltb-true}
+use Rattle.scan.proofs.Every.{both}
 use Rattle.scan.proofs.Splits.{whole-part}
 use Rattle.decimals.specs.Decimal.{unsignedDecimal}
 use Rattle.decimals.proofs.Reading.{ran-room, ran-is}
@@ -27,20 +31,30 @@ few-digits-requires-2 c κs =
 sub-scale : tie.Need-sub-scale
 sub-scale c = search needs
 
-add-count : tie.Need-add-count
-add-count c = search needs
+add-is-within : tie.Need-add-is-within
+add-is-within c = search needs
 
-cast-t19 : tie.Need-cast-t19
-cast-t19 c = search needs
+is-within-requires : tie.Need-is-within-requires
+is-within-requires c κs = search needs
+
+cast-t17 : tie.Need-cast-t17
+cast-t17 c = search needs
 
 returns : tie.Need-returns
 returns c =
-    let c4 = c .before .before .before .before in
-    let f = c4 .before .fraction-start in
-    let w = c4 .before .before .few-digits in
-    let a = c4 .before .before .before .before .before .args in
-    ran-is (a .text .now) (w .result) (f .result) (w .ensures) (f .ensures) (c4 .few-digits2 .result) (c4 .few-digits2 .ensures) (a .negative)
-    (a .digits) (a .decimals) (omega arith) (omega arith) (omega arith) (omega arith)
+    let c3 = c .before .before .before in
+    let f = c3 .before .fraction-start in
+    let w = c3 .before .before .few-digits in
+    let a = c3 .before .before .before .before .before .args in
+    let q = sym (c .before .is-within .ensures) ∙ c .if3 .taken in
+    let s = c3 .few-digits2 .result .end - f .result in
+    let n = w .result .end + s in
+    let r : leb n (a .digits) && leb s (a .decimals) ≡ true = both {a = ltb 0 n} q .1 in
+    let some = ltb-true 0 n (both {a = ltb 0 n} {b = leb n (a .digits) && leb s (a .decimals)} q .0) in
+    let few = leb-true n (a .digits) (both {a = leb n (a .digits)} {b = leb s (a .decimals)} r .0) in
+    let near = leb-true s (a .decimals) (both {a = leb n (a .digits)} {b = leb s (a .decimals)} r .1) in
+    ran-is (a .text .now) (w .result) (f .result) (w .ensures) (f .ensures) (c3 .few-digits2 .result) (c3 .few-digits2 .ensures) (a .negative)
+    (a .digits) (a .decimals) (omega arith) some few near
 
 sub-read-any : tie.Need-sub-read-any
 sub-read-any c = search needs
@@ -67,8 +81,9 @@ read-unsigned-spec =
     fraction-start-requires
     few-digits-requires-2
     sub-scale
-    add-count
-    cast-t19
+    add-is-within
+    is-within-requires
+    cast-t17
     returns
     sub-read-any
     part-read-any-start
