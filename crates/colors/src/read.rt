@@ -176,11 +176,11 @@ fn hex_color(text: &[u8]) -> Color
     any_color(&text[0..], width)
 }
 
-// A decimal channel, white space around it passed over.
+// A decimal channel, white space around it passed over: after a comma some stands as a rule.
 fn decimal_channel(text: &[u8]) -> Channel
     ensures { λ r. ⌜ r ≡ decimalChannel (now (text .entry)) ⌝ }
 {
-    let span = unicode::trim(text);
+    let span = unicode::trim_white(text);
     let start = span.start;
     let end = span.end;
     small_channel(numerals::read_numeral(&text[start..end], 10, 255, false))

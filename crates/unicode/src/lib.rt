@@ -11,4 +11,5 @@ pub use white::Span;
 pub use white::Word;
 pub use white::next_word;
 pub use white::trim;
+pub use white::trim_white;
 pub use white::white_at;

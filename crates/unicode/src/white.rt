@@ -152,8 +152,8 @@ fn white_start(src: &[u8]) -> usize
     i
 }
 
-// The text without the white space at its two ends.
-fn trim_white(src: &[u8]) -> Span
+// The text without the white space at its two ends. Who knows of some there calls it at once.
+pub fn trim_white(src: &[u8]) -> Span
     ensures { λ r. ⌜ Trimmed (now (src .entry)) (r .start) (r .end) ⌝ }
 {
     let start = white_end(src, 0);
@@ -164,7 +164,8 @@ fn trim_white(src: &[u8]) -> Span
     Span { start, end }
 }
 
-// The same. Most texts have a visible ASCII character at both ends.
+// The same. Most texts have a visible ASCII character at both ends; any other is handed on as a part of its own, so that this one stays in
+// registers.
 pub fn trim(src: &[u8]) -> Span
     ensures { λ r. ⌜ Trimmed (now (src .entry)) (r .start) (r .end) ⌝ }
 {
@@ -176,7 +177,7 @@ pub fn trim(src: &[u8]) -> Span
             return Span { start: 0, end };
         }
     }
-    trim_white(src)
+    trim_white(&src[0..])
 }
 
 // Where the word at the place ends: before the next white space.

@@ -10,8 +10,8 @@ use borrow.Author.Needs.{needs}
 use Rattle.colors.proofs.read.decimal_channel.Statement.{statement}
 use Rattle.colors.proofs.read.decimal_channel.Tie as tie
 
-trim-requires : tie.Need-trim-requires
-trim-requires c κs = search needs
+trim-white-requires : tie.Need-trim-white-requires
+trim-white-requires c κs = search needs
 
 sub-read-numeral : tie.Need-sub-read-numeral
 sub-read-numeral c = search needs
@@ -32,13 +32,13 @@ returns : tie.Need-returns
 returns c =
     let c3 = c .before .before .before in
     c .small-channel .ensures ∙ ap channelOf (c .before .read-numeral .ensures
-    ∙ ap (λ (l : List ℕ). numeralOf l 10 255 false) (c3 .trim .ensures .is))
+    ∙ ap (λ (l : List ℕ). numeralOf l 10 255 false) (c3 .trim-white .ensures .is))
 
 pub decimal-channel-spec : {M : Type 1} → statement M
 decimal-channel-spec =
     tie.close
     (tie.spec
-    trim-requires
+    trim-white-requires
     sub-read-numeral
     part-read-numeral-start
     part-read-numeral-end
