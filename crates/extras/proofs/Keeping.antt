@@ -36,8 +36,8 @@ use Rattle.meaning.specs.Styling.{extraOfStyle, extraIf, extrasFrom}
 use Rattle.xml.specs.declared.find.Attribute.{Attribute}
 use Rattle.xml.specs.declared.find.Value.{Value}
 use Rattle.xml.proofs.AttrRows.{row-cells}
-use Rattle.styling.specs.Posts.{valueIn}
-use Rattle.extras.specs.Kept.{wantedBy, extrasOf, keptIn, FoundFits, keptCells, keptCount, RoomFor, placedCells, Collected, rowsFrom, Lists}
+use Rattle.styling.specs.Posts.{valueIn, FoundFits}
+use Rattle.extras.specs.Kept.{wantedBy, extrasOf, keptIn, keptCells, keptCount, RoomFor, placedCells, Collected, rowsFrom, Lists}
 use Rattle.extras.specs.Kept.{noted, FirstRows, entryExtra}
 use Rattle.extras.proofs.Few.{extras-fit}
 use Rattle.extras.proofs.Noting.{few-names}

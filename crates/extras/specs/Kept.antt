@@ -84,10 +84,6 @@ abbrev pub keptIn : (z : List ℕ) (i : ℕ) → Value → List (Extra Placed)
 keptIn z i (Value.At h) = record { number = i; value = valueIn z h } ∷ []
 keptIn z i Value.Absent = []
 
-abbrev pub FoundFits : List ℕ → Value → Type 0
-FoundFits z (Value.At h) = h .place + h .len ≤ length z
-FoundFits z Value.Absent = Unit {0}
-
 -- its row
 abbrev pub keptCells : (i : ℕ) → Value → List ℕ
 keptCells i (Value.At h) = i ∷ h .place ∷ h .len ∷ []

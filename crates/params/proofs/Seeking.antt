@@ -37,10 +37,10 @@ use Rattle.meaning.specs.Kinds.{withPlaces, attrsIn}
 use Rattle.meaning.specs.Meaning.{rateAnswer, floatOr, isParam, rateOf}
 use Rattle.xml.specs.declared.find.Attribute.{Attribute}
 use Rattle.xml.specs.declared.find.Value.{Value}
-use Rattle.styling.specs.Posts.{nameAt, valueIn, turned, Finds}
+use Rattle.styling.specs.Posts.{nameAt, valueIn, turned, Finds, FoundFits}
 use Rattle.styling.proofs.Attributes.{found-valued, none-valued}
 use Rattle.params.specs.declared.seek.Sought.{Sought}
-use Rattle.params.specs.Named.{isParamName, soughtBy, firstBy, IsBy, NoneBy, Meets, foundIn, FoundFits, ticked, afterFrame, timingOf}
+use Rattle.params.specs.Named.{isParamName, soughtBy, firstBy, IsBy, NoneBy, Meets, foundIn, ticked, afterFrame, timingOf}
 
 -- ---- row by row
 abbrev pub sought : (p : List ℕ → Bool) (z : List ℕ) → List Attr → Option (nodes.Attr Placed)

@@ -55,10 +55,6 @@ abbrev pub foundIn : (z : List ℕ) → Value → Option Placed
 foundIn z (Value.At h) = some (valueIn z h)
 foundIn z Value.Absent = none
 
-abbrev pub FoundFits : (z : List ℕ) → Value → Type 0
-FoundFits z (Value.At h) = h .place + h .len ≤ length z
-FoundFits z Value.Absent = Unit {0}
-
 -- ---- rates
 abbrev pub rateSaid : RateSaid → Answer (Option Float)
 rateSaid (RateSaid.Is x) = is (some x)

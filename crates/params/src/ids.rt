@@ -3,8 +3,8 @@ ghost use mathlib.Core.Path.{_≡_};
 ghost use Rattle.meaning.specs.Nodes.{idOf};
 ghost use Rattle.meaning.specs.Kinds.{withPlaces};
 ghost use Rattle.meaning.specs.Meaning.{langOf};
-ghost use Rattle.styling.specs.Posts.{HasRows, OfRows};
-ghost use Rattle.params.specs.Named.{foundIn, FoundFits};
+ghost use Rattle.styling.specs.Posts.{HasRows, OfRows, FoundFits};
+ghost use Rattle.params.specs.Named.{foundIn};
 use crate::seek::Sought;
 use xml::Value;
 

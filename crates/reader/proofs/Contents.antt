@@ -39,11 +39,11 @@ use Rattle.laid.proofs.Fitting.{styles-many, regions-many, cues-many, segments-
 use Rattle.styling.specs.declared.space.WsMode.{WsMode}
 use Rattle.xml.specs.declared.find.Attribute.{Attribute}
 use Rattle.xml.specs.declared.find.Value.{Value}
-use Rattle.styling.specs.Posts.{spaceIn, turned}
+use Rattle.styling.specs.Posts.{spaceIn, turned, FoundFits}
 use Rattle.extras.specs.Counts.{attrsNamed}
 use Rattle.extras.proofs.Counts.{attrs-apart}
 use Rattle.inline.specs.Stood.{spanIn}
-use Rattle.params.specs.Named.{foundIn, FoundFits}
+use Rattle.params.specs.Named.{foundIn}
 use Rattle.heads.specs.declared.collect.Heads.{Heads}
 use Rattle.heads.specs.declared.collect.Heading.{Heading}
 use Rattle.heads.specs.Steps.{Children, four, Cleared, AsksHead, Headed, HeadPost, insideHead, inHead}
