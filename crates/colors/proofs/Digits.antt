@@ -1,22 +1,23 @@
 -- Laws of colours of hexadecimal digits alone: a byte that is a digit, places between digits, and a channel by its digits. Assumes nothing.
-use Prim.Native.Nat.{ℕ, zero, suc, _+_, _-_, _*_, _/_, _%_, _≤_, _<_}
-use mathlib.Core.Path.{_≡_, sym, ap, _∙_}
-use mathlib.Core.Bool.{true, false, false≢true, and-eq-true-iff}
+use Prim.Native.Nat.{ℕ, zero, suc, _+_, _-_, _*_, _/_, _%_, _^_, _≤_, _<_}
+use mathlib.Core.Path.{_≡_, refl, sym, ap, _∙_}
+use mathlib.Core.Bool.{Bool, true, false, not, cond, _&&_, false≢true, and-eq-true-iff}
 use mathlib.Core.List.{List, [], _∷_}
+use mathlib.Core.Logic.{_⊎_, inl, inr}
 use native.Mathlib.Omega.{arith}
 use lib.Dec.{eqb, leb, ltb}
-use lib.ListN.{length, getD}
+use lib.ListN.{length, getD, drop, drop-of-length-le}
 use lib.Seq.{drop-cons}
-use borrow.Author.Tests.{eqb-true, eqb-false, leb-true, leb-false, ltb-true, ltb-false, lt-ltb, eq-eqb, ne-eqb}
+use borrow.Author.Tests.{eqb-true, eqb-false, leb-true, leb-false, ltb-true, ltb-false, lt-ltb, le-ltb, eq-eqb, ne-eqb}
 use Rattle.scan.specs.Part.{part}
 use Rattle.unicode.specs.Utf8.{boundary}
-use Rattle.scan.proofs.Every.{by-test}
+use Rattle.scan.proofs.Every.{by-test, both}
 use Rattle.unicode.proofs.Boundaries.{boundary-start, boundary-end, boundary-below}
 use Rattle.numerals.specs.Numerals.{digitOf, digitsOnly, valueFrom, signedBy, numeralOf}
-use Rattle.numerals.proofs.Numerals.{digit-byte, digit-capital, digit-small, digit-none, unsigned-is, numeral-bare}
+use Rattle.numerals.proofs.Numerals.{digit-byte, digit-capital, digit-small, digit-none, unsigned-is, numeral-bare, digits-step}
 use Rattle.colors.specs.declared.read.Channel.{Channel}
 use Rattle.colors.specs.Colors.{channelOf, full, hexColor}
-use Rattle.colors.specs.Steps.{Channels, copies, channelAt, hexChannels, alphaAt}
+use Rattle.colors.specs.Steps.{Channels, copies, channelAt, hexChannels, alphaAt, hexAt, threeHex, HexLength}
 use Rattle.colors.proofs.Reading.{channel-is, narrow, wide, hex-three, hex-six, hex-eight}
 
 -- ---- a byte that is a hexadecimal digit
@@ -59,12 +60,89 @@ module _ (b : ℕ) (h : digitOf b < 16) where
   pub hex : Hex b
   hex = by-test (leb b 57) (λ t. hex-low (leb-true b 57 t)) (λ t. hex-above (omega (arith, leb-false b 57 t)))
 
+-- the same as a bit of a word: one for the bytes up to 63, one for those up to 127
+abbrev below : (ℕ → Bool) → ℕ → Bool
+below t zero = true
+below t (suc n) = t n && below t n
+
+below-at : (t : ℕ → Bool) (n i : ℕ) → below t n ≡ true → i < n → t i ≡ true
+below-at t zero i e h = absurd (omega arith)
+below-at t (suc n) i e h =
+    by-test (eqb i n) (λ q. rw (eqb-true i n q) (both {b = below t n} e .0))
+    (λ q. let k : i ≡ n → ⊥ = eqb-false i n q in below-at t n i (both {a = t n} e .1) (omega arith))
+
+abbrev same : Bool → Bool → Bool
+same true b = b
+same false b = not b
+
+same-eq : (a b : Bool) → same a b ≡ true → a ≡ b
+same-eq true b e = sym e
+same-eq false true e = absurd (false≢true e)
+same-eq false false e = refl
+
+abbrev pub hexBit : ℕ → ℕ → Bool
+hexBit word b = eqb (word / 2 ^ (b % 64) % 2) 1
+
+pub bit-low : (b : ℕ) → b ≤ 63 → hexBit 0x03FF_0000_0000_0000 b ≡ ltb (digitOf b) 16
+unfolding digitOf
+bit-low b h =
+    same-eq (hexBit 0x03FF_0000_0000_0000 b) (ltb (digitOf b) 16)
+    (below-at (λ b. same (hexBit 0x03FF_0000_0000_0000 b) (ltb (digitOf b) 16)) 64 b refl (omega arith))
+
+pub bit-high : (b : ℕ) → 63 < b → b ≤ 127 → hexBit 0x7E_0000_007E b ≡ ltb (digitOf b) 16
+unfolding digitOf
+bit-high b h g =
+    same-eq (hexBit 0x7E_0000_007E b) (ltb (digitOf b) 16)
+    (by-test (leb 64 b)
+    (λ t. rw (t) at (below-at (λ b. cond (leb 64 b) (same (hexBit 0x7E_0000_007E b) (ltb (digitOf b) 16)) true) 128 b refl (omega arith)))
+    (λ t. absurd (omega (arith, leb-false 64 b t))))
+
+pub no-bit : (b : ℕ) → 127 < b → ltb (digitOf b) 16 ≡ false
+no-bit b h = le-ltb (digitOf b) 16 (omega (arith, digit-none b (λ x y. omega arith) (λ x y. omega arith) (λ x y. omega arith)))
+
 -- ---- a text of digits
 pub hex-at : (s : List ℕ) (i : ℕ) → digitsOnly 16 s ≡ true → i < length s → digitOf (getD s i 0) < 16
 unfolding digitsOnly
 hex-at [] i d h = absurd (omega arith)
 hex-at (b ∷ s) zero d h = ltb-true (digitOf b) 16 (and-eq-true-iff (ltb (digitOf b) 16) (digitsOnly 16 s) .0 d .0)
 hex-at (b ∷ s) (suc i) d h = hex-at s i (and-eq-true-iff (ltb (digitOf b) 16) (digitsOnly 16 s) .0 d .1) (omega arith)
+
+-- three bytes at a time; the lengths that a colour has
+three-and : (a b c d : Bool) → a && (b && (c && d)) ≡ (a && (b && c)) && d
+three-and true true c d = refl
+three-and true false c d = refl
+three-and false b c d = refl
+
+module _ (s : List ℕ) where
+  pub one-step : (i j : ℕ) → j ≡ i + 1 → i < length s → digitsOnly 16 (drop i s) ≡ (hexAt s i && digitsOnly 16 (drop j s))
+  one-step i j e h = rw e (digits-step 16 s i h)
+
+  pub three-step : (i : ℕ) → i + 3 ≤ length s → digitsOnly 16 (drop i s) ≡ (threeHex s i && digitsOnly 16 (drop (i + 3) s))
+  three-step i h =
+      one-step i (i + 1) refl (omega arith)
+      ∙ (ap (λ (x : Bool). hexAt s i && x)
+      (one-step (i + 1) (i + 2) (omega arith) (omega arith)
+      ∙ ap (λ (x : Bool). hexAt s (i + 1) && x) (one-step (i + 2) (i + 3) (omega arith) (omega arith)))
+      ∙ three-and (hexAt s i) (hexAt s (i + 1)) (hexAt s (i + 2)) (digitsOnly 16 (drop (i + 3) s)))
+
+  pub no-more : (i : ℕ) → length s ≤ i → digitsOnly 16 (drop i s) ≡ true
+  unfolding digitsOnly
+  no-more i h = rw (drop-of-length-le s h)
+
+  pub from-three : HexLength s → 3 ≤ length s
+  from-three (inl e) = omega arith
+  from-three (inr (inl e)) = omega arith
+  from-three (inr (inr e)) = omega arith
+
+  pub from-six : HexLength s → (length s ≡ 3 → ⊥) → 6 ≤ length s
+  from-six (inl e) n = absurd (n e)
+  from-six (inr (inl e)) n = omega arith
+  from-six (inr (inr e)) n = omega arith
+
+  pub all-eight : HexLength s → (length s ≡ 3 → ⊥) → (length s ≡ 6 → ⊥) → length s ≡ 8
+  all-eight (inl e) n m = absurd (n e)
+  all-eight (inr (inl e)) n m = absurd (m e)
+  all-eight (inr (inr e)) n m = e
 
 -- a character starts at each place
 digit-boundary : (s : List ℕ) → digitsOnly 16 s ≡ true → (i : ℕ) → i ≤ length s → boundary s i ≡ true
@@ -114,6 +192,7 @@ module _ (s : List ℕ) (at width : ℕ) (l : 1 ≤ width) (h : width ≤ 2) (r 
 pub record HexWidth (s : List ℕ) (width : ℕ) : Type 0 where
   pub channels : Channels s width
   pub is : hexColor s ≡ hexChannels s width (alphaAt s)
+  pub sized : HexLength s
 
 module _ (s : List ℕ) where
   pub alpha-some : length s ≡ 8 → channelAt s 6 2 ≡ alphaAt s
@@ -126,16 +205,19 @@ module _ (s : List ℕ) where
   hex-once e = record {
     channels = record { some = omega arith; few = omega arith; room = omega arith };
     is = hex-three s e ∙ ap (hexChannels s 1) (alpha-none (λ z. omega arith));
+    sized = inl e;
   }
 
   pub hex-twice : length s ≡ 6 → HexWidth s 2
   hex-twice e = record {
     channels = record { some = omega arith; few = omega arith; room = omega arith };
     is = hex-six s e ∙ ap (hexChannels s 2) (alpha-none (λ z. omega arith));
+    sized = inr (inl e);
   }
 
   pub hex-alpha : length s ≡ 8 → HexWidth s 2
   hex-alpha e = record {
     channels = record { some = omega arith; few = omega arith; room = omega arith };
     is = hex-eight s e ∙ ap (hexChannels s 2) (alpha-some e);
+    sized = inr (inr e);
   }

@@ -1,12 +1,15 @@
 -- Steps of the program, which contracts of inner functions cite. They need not be believed: `proofs/Names.antt` and `proofs/Reading.antt`
 -- show that they make up what `Named` and `Colors` say.
 use Prim.Native.Nat.{ℕ, _+_, _*_, _≤_}
-use mathlib.Core.Bool.{cond}
+use mathlib.Core.Path.{_≡_}
+use mathlib.Core.Bool.{Bool, cond, _&&_}
+use mathlib.Core.Logic.{_⊎_}
 use mathlib.Core.List.{List}
-use lib.Dec.{eqb}
+use lib.Dec.{eqb, ltb}
 use lib.ListN.{length, getD, take}
 use Rattle.scan.specs.Bytes.{other, runEnd}
 use Rattle.numerals.specs.declared.Numeral.{Numeral}
+use Rattle.numerals.specs.Numerals.{digitOf}
 use Rattle.colors.specs.declared.read.Rgba.{Rgba}
 use Rattle.colors.specs.declared.read.Color.{Color}
 use Rattle.colors.specs.declared.read.Channel.{Channel}
@@ -48,3 +51,13 @@ hexChannels s width alpha = colorOf (channelAt s 0 width) (channelAt s width wid
 -- the alpha of a text of eight bytes; any other is opaque
 abbrev pub alphaAt : List ℕ → Channel
 alphaAt s = cond (eqb (length s) 8) (channelAt s 6 2) full
+
+-- the byte at a place is a hexadecimal digit; the three from a place on are; a text of the length of a colour
+abbrev pub hexAt : List ℕ → ℕ → Bool
+hexAt s i = ltb (digitOf (getD s i 0)) 16
+
+abbrev pub threeHex : List ℕ → ℕ → Bool
+threeHex s i = hexAt s i && (hexAt s (i + 1) && hexAt s (i + 2))
+
+abbrev pub HexLength : List ℕ → Type 0
+HexLength s = (length s ≡ 3) ⊎ (length s ≡ 6) ⊎ (length s ≡ 8)

@@ -2,12 +2,13 @@
 ghost use mathlib.Core.Path.{_≡_};
 ghost use Prim.Native.Nat.{_+_, _≤_, _<_};
 ghost use lib.ListN.{length};
+ghost use lib.Dec.{ltb};
 ghost use mathlib.Core.Bool.{true};
 ghost use Rattle.numerals.specs.Numerals.{digitOf, digitsOnly};
 ghost use Rattle.scan.specs.Split.{splitAt};
 ghost use Rattle.colors.specs.Colors as colors;
 ghost use Rattle.colors.specs.Colors.{channelOf, colorOf, hexColor, decimalChannel, rgbParts, colorIn, opaque, ReadsColor};
-ghost use Rattle.colors.specs.Steps.{Small, Channels, channelAt, hexChannels, alphaAt};
+ghost use Rattle.colors.specs.Steps.{Small, Channels, channelAt, hexChannels, alphaAt, threeHex, HexLength};
 use numerals::Numeral;
 
 pub struct Rgba {
@@ -113,18 +114,56 @@ fn any_color(text: &[u8], width: usize) -> Color
     hex_channels(text, width, alpha)
 }
 
-// Are all bytes hexadecimal digits?
+// Is a byte a hexadecimal digit? Each bit of two words stands for an ASCII character: digits and letters come in no order, and a branch between
+// them would be guessed wrong.
+fn is_hex_digit(b: u8) -> bool
+    ensures { λ r. ⌜ r ≡ ltb (digitOf b) 16 ⌝ }
+{
+    if 127 < b {
+        return false;
+    }
+    let mut digits = 0x03FF_0000_0000_0000u64;
+    if 63 < b {
+        digits = 0x7E_0000_007Eu64;
+    }
+    (digits >> (b % 64)) % 2 == 1
+}
+
+// Are the three bytes from the place on?
+fn are_hex_digits(text: &[u8], at: usize) -> bool
+    requires { ⌜ at + 3 ≤ length (now text) ⌝ }
+    ensures { λ r. ⌜ r ≡ threeHex (now (text .entry)) at ⌝ }
+{
+    if !is_hex_digit(text[at]) {
+        return false;
+    }
+    if !is_hex_digit(text[at + 1]) {
+        return false;
+    }
+    is_hex_digit(text[at + 2])
+}
+
+// Are all bytes? There are 3, 6 or 8 of them, and no loop is needed.
 fn is_hex(text: &[u8]) -> bool
+    requires { ⌜ HexLength (now text) ⌝ }
     ensures { λ r. ⌜ r ≡ digitsOnly 16 (now (text .entry)) ⌝ }
 {
-    let mut i = 0;
-    while i < text.len() {
-        if 16 <= numerals::digit(text[i]) {
-            return false;
-        }
-        i += 1;
+    if !are_hex_digits(text, 0) {
+        return false;
     }
-    true
+    if text.len() == 3 {
+        return true;
+    }
+    if !are_hex_digits(text, 3) {
+        return false;
+    }
+    if text.len() == 6 {
+        return true;
+    }
+    if !is_hex_digit(text[6]) {
+        return false;
+    }
+    is_hex_digit(text[7])
 }
 
 // The value of a byte that is a hexadecimal digit, without a branch.

@@ -23,7 +23,7 @@ by-width c =
     (c .if1 .came)
 
 is-hex-requires : tie.Need-is-hex-requires
-is-hex-requires c κs = search needs
+is-hex-requires c κs = by-width c .sized
 
 digit-color-requires : tie.Need-digit-color-requires
 digit-color-requires c κs = (by-width (c .before .before) .channels, sym (c .before .is-hex .ensures) ∙ c .if4 .taken)

@@ -1,68 +1,110 @@
--- `is_hex` meets its contract. The loop's invariant: the bytes before `i` are digits, so that those from there on decide.
-use Prim.Native.Nat.{_-_, _≤_}
+-- `is_hex` meets its contract: the digits three by three, and the last two.
 use mathlib.Core.Path.{_≡_, refl, sym, _∙_}
+use mathlib.Core.Bool.{and-true}
 use native.Mathlib.Omega.{arith}
-use lib.ListN.{length, getD, drop, drop-of-length-le}
-use borrow.Author.Tests.{lt-ltb, le-ltb}
+use lib.ListN.{length, drop}
 use borrow.Author.Needs.{needs}
-use Rattle.numerals.specs.Numerals.{digitOf, digitsOnly}
-use Rattle.numerals.proofs.Numerals.{digits-step}
+use borrow.Author.Tests.{not-true, not-false}
+use Rattle.numerals.specs.Numerals.{digitsOnly}
+use Rattle.colors.specs.Steps.{hexAt}
+use Rattle.colors.proofs.Digits.{one-step, three-step, no-more, from-three, from-six, all-eight}
 use Rattle.colors.proofs.read.is_hex.Statement.{statement}
 use Rattle.colors.proofs.read.is_hex.Tie as tie
 
-abbrev Inv-loop : tie.InvT-loop
-Inv-loop text i₀ i = (i ≤ length text) × (digitsOnly 16 text ≡ digitsOnly 16 (drop i text))
+-- where the first three are digits, and the second, those after them decide; there are eight, if not three or six
+from-fourth : (c : tie.Else1)
+    → digitsOnly 16 (c .before .before .before .args .text .now) ≡ digitsOnly 16 (drop 3 (c .before .before .before .args .text .now))
+from-fourth c =
+    let a = c .before .before .before in
+    let s = a .args .text .now in
+    three-step s 0 (from-three s (a .pre)) ∙ rw (sym (c .before .are-hex-digits .ensures) ∙ not-false _ (c .if1 .left))
 
-abbrev μ-loop : tie.MeasureT-loop
-μ-loop text i₀ i = length text - i
+from-seventh : (c : tie.Else3)
+    → digitsOnly 16 (c .before .before .before .before .before .before .args .text .now)
+    ≡ digitsOnly 16 (drop 6 (c .before .before .before .before .before .before .args .text .now))
+from-seventh c =
+    let e = c .before .before in
+    let a = e .before .before .before .before in
+    let s = a .args .text .now in
+    from-fourth (e .before)
+    ∙ (three-step s 3 (from-six s (a .pre) (e .if2 .left)) ∙ rw (sym (c .before .are-hex-digits2 .ensures) ∙ not-false _ (c .if3 .left)))
 
-loop-holds : tie.Need-loop-holds Inv-loop μ-loop
-loop-holds c = (omega arith, refl)
+eight : (c : tie.Else4) → length (c .before .before .before .before .before .before .before .args .text .now) ≡ 8
+eight c =
+    let e = c .before .before .before in
+    let a = e .before .before .before .before in
+    all-eight (a .args .text .now) (a .pre) (e .if2 .left) (c .if4 .left)
 
-shared-slice-read-digit : tie.Need-shared-slice-read-digit Inv-loop μ-loop
-shared-slice-read-digit c = search needs
+are-hex-digits-requires : tie.Need-are-hex-digits-requires
+are-hex-digits-requires c κs = from-three (c .before .args .text .now) (c .before .pre)
 
-digit-requires : tie.Need-digit-requires Inv-loop μ-loop
-digit-requires c κs = search needs
-
-returns : tie.Need-returns Inv-loop μ-loop
+returns : tie.Need-returns
 returns c =
-    let l = c .before .before .before .before .loop in
-    let s = c .before .before .before .before .before .before .args .text .now in
-    let e = c .before .digit .ensures in
-    let step = digits-step 16 s (l .i) (c .before .before .before .loop-test .taken) in
-    sym (l .inv .1 ∙ (step ∙ rw (le-ltb (digitOf (getD s (l .i) 0)) 16 (omega arith))))
+    let a = c .before .before .before in
+    let s = a .args .text .now in
+    sym (three-step s 0 (from-three s (a .pre)) ∙ rw (sym (c .before .are-hex-digits .ensures) ∙ not-true _ (c .if1 .taken)))
 
-add-i : tie.Need-add-i Inv-loop μ-loop
-add-i c = search needs
+returns-2 : tie.Need-returns-2
+returns-2 c = sym (from-fourth (c .before) ∙ no-more (c .before .before .before .before .args .text .now) 3 (omega (arith, c .if2 .taken)))
 
-loop-less : tie.Need-loop-less Inv-loop μ-loop
-loop-less c = search needs
+are-hex-digits-requires-2 : tie.Need-are-hex-digits-requires-2
+are-hex-digits-requires-2 c κs = let a = c .before .before .before .before in from-six (a .args .text .now) (a .pre) (c .if2 .left)
 
-loop-again : tie.Need-loop-again Inv-loop μ-loop
-loop-again c =
-    let l = c .before .before .before .before .loop in
-    let s = c .before .before .before .before .before .before .args .text .now in
-    let e = c .before .digit .ensures in
-    let step = digits-step 16 s (l .i) (c .before .before .before .loop-test .taken) in
-    (omega arith, l .inv .1 ∙ (step ∙ rw (lt-ltb (digitOf (getD s (l .i) 0)) 16 (omega arith))))
+returns-3 : tie.Need-returns-3
+returns-3 c =
+    let e = c .before .before in
+    let a = e .before .before .before .before in
+    let s = a .args .text .now in
+    sym (from-fourth (e .before)
+    ∙ (three-step s 3 (from-six s (a .pre) (e .if2 .left)) ∙ rw (sym (c .before .are-hex-digits2 .ensures) ∙ not-true _ (c .if3 .taken))))
 
-returns-2 : tie.Need-returns-2 Inv-loop μ-loop
-unfolding digitsOnly
-returns-2 c =
-    sym (c .before .loop .inv .1 ∙ rw (drop-of-length-le (c .before .before .before .args .text .now) (c .loop-test .left)))
+returns-4 : tie.Need-returns-4
+returns-4 c =
+    sym (from-seventh (c .before)
+    ∙ no-more (c .before .before .before .before .before .before .before .args .text .now) 6 (omega (arith, c .if4 .taken)))
+
+shared-slice-read-is-hex-digit : tie.Need-shared-slice-read-is-hex-digit
+shared-slice-read-is-hex-digit c = omega (arith, eight (c .before))
+
+is-hex-digit-requires : tie.Need-is-hex-digit-requires
+is-hex-digit-requires c κs = search needs
+
+returns-5 : tie.Need-returns-5
+returns-5 c =
+    let e = c .before .before .before in
+    let s = e .before .before .before .before .before .before .before .args .text .now in
+    sym (from-seventh (e .before)
+    ∙ (one-step s 6 7 refl (omega (arith, eight e)) ∙ rw (sym (c .before .is-hex-digit .ensures) ∙ not-true _ (c .if5 .taken))))
+
+shared-slice-read-is-hex-digit-2 : tie.Need-shared-slice-read-is-hex-digit-2
+shared-slice-read-is-hex-digit-2 c = omega (arith, eight (c .before .before .before .before))
+
+is-hex-digit-requires-2 : tie.Need-is-hex-digit-requires-2
+is-hex-digit-requires-2 c κs = search needs
+
+returns-6 : tie.Need-returns-6
+returns-6 c =
+    let d = c .before .before in
+    let e = d .before .before .before in
+    let s = e .before .before .before .before .before .before .before .args .text .now in
+    let first = sym (d .before .is-hex-digit .ensures) ∙ not-false _ (d .if5 .left) in
+    let last : digitsOnly 16 (drop 7 s) ≡ hexAt s 7 =
+        rw (one-step s 7 8 refl (omega (arith, eight e)), no-more s 8 (omega (arith, eight e)), and-true) in
+    c .is-hex-digit2 .ensures ∙ sym (from-seventh (e .before) ∙ (one-step s 6 7 refl (omega (arith, eight e)) ∙ rw first last))
 
 pub is-hex-spec : {M : Type 1} → statement M
 is-hex-spec =
     tie.close
     (tie.spec
-    Inv-loop
-    μ-loop
-    loop-holds
-    shared-slice-read-digit
-    digit-requires
+    are-hex-digits-requires
     returns
-    add-i
-    loop-less
-    loop-again
-    returns-2)
+    returns-2
+    are-hex-digits-requires-2
+    returns-3
+    returns-4
+    shared-slice-read-is-hex-digit
+    is-hex-digit-requires
+    returns-5
+    shared-slice-read-is-hex-digit-2
+    is-hex-digit-requires-2
+    returns-6)
