@@ -6,7 +6,7 @@ use Rattle.scan.specs.Names.{sameFolded}
 use Rattle.scan.specs.Text.{ascii}
 use Rattle.colors.specs.declared.read.Rgba.{Rgba}
 use Rattle.colors.specs.declared.read.Color.{Color}
-use Rattle.colors.specs.declared.read.Color.the-variants.{Is, Nothing, Cut}
+use Rattle.colors.specs.declared.read.Color.the-variants.{Is, Nothing}
 
 abbrev pub rgba : ℕ → ℕ → ℕ → ℕ → Rgba
 rgba r g b a = record { r = r; g = g; b = b; a = a }

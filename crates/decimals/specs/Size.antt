@@ -1,9 +1,9 @@
 -- A size: an f32 beside the spelling that Rust's `{}` prints for it (document 01, "What must change shape"). Definitions alone.
 use Prim.Native.Nat.{ℕ, zero, suc, _/_, _%_, _^_}
-use mathlib.Core.Bool.{Bool, true, false, cond, not, _&&_, _||_}
+use mathlib.Core.Bool.{Bool, cond, not, _&&_, _||_}
 use mathlib.Core.List.{List, [], _∷_, _++_}
-use lib.Dec.{eqb, leb, ltb}
-use lib.Ieee.{Float, binary32}
+use lib.Dec.{eqb, leb}
+use lib.Ieee.{binary32}
 use Rattle.numerals.specs.Written.{padded, decimalWidth}
 use Rattle.decimals.specs.declared.read.Digits.{Digits}
 use Rattle.decimals.specs.declared.size.Size.{Size}

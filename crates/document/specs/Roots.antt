@@ -11,14 +11,13 @@ use Rattle.entities.specs.Escape.{escaped}
 use Rattle.names.specs.declared.tables.Listed.{Listed}
 use Rattle.names.specs.declared.tables.Listed.the-variants.{StyleExtra, InlineExtra, RegionAttr, InlineModelled, Imsc1Extension}
 use Rattle.names.specs.Numbers.{containsName, isIn}
-use Rattle.track.specs.declared.values.Param.{Param}
-use Rattle.track.specs.Track.{Bytes, Style, Region, Cue}
+use Rattle.track.specs.Track.{Bytes, Style, Region}
 use Rattle.track.specs.Tables.{Tables, cell, paramAt, paramCount, styleCount, regionCount, cueCount}
 use Rattle.track.specs.Meaning.{bytesAt}
 use Rattle.records.specs.Find.{isEmpty}
 use Rattle.scan.specs.Text.{ascii}
 use Rattle.written.specs.Attributes.{contains}
-use Rattle.written.specs.Written.{stylingLines, layoutLines, lines, cueText}
+use Rattle.written.specs.Written.{stylingLines, layoutLines, lines}
 use Rattle.writer.specs.Puts.{quoted}
 use Rattle.writer.specs.Rows.{over, extraText, ExtrasReady}
 use Rattle.writer.specs.Cues.{cueTables, CuesReady}

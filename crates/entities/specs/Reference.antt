@@ -1,7 +1,7 @@
 -- References, from XML 1.0, 4.1 "Character and Entity References", and the Rust's `lookup_entity`. Definitions alone.
 -- Where the two differ, docs/DIFFERENCES.md says how.
 use Prim.Native.Nat.{ℕ, suc}
-use mathlib.Core.Bool.{Bool, true, false, cond, not, _&&_, _||_}
+use mathlib.Core.Bool.{Bool, false, cond, not, _&&_, _||_}
 use mathlib.Core.List.{List, [], _∷_}
 use lib.ListN.{getD, take}
 use lib.Dec.{eqb, leb}

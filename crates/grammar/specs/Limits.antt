@@ -1,8 +1,7 @@
 -- The measures of a tree and its limits (document 01, "Grammar", last sentence). Definitions alone.
 use Prim.Native.Nat.{ℕ, suc, _+_, _≤_, max}
-use mathlib.Core.List.{List}
 use lib.ListN.{length}
-use Rattle.grammar.specs.Tree.{Attr, Tree, text, section, element, Forest, none, more}
+use Rattle.grammar.specs.Tree.{Tree, text, section, element, Forest, none, more}
 
 -- ---- "Text 65,536 bytes; depth 64; nodes and attributes 8,192 each": said here once
 abbrev pub mostBytes : ℕ

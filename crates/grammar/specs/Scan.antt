@@ -2,7 +2,7 @@
 -- specifications of the crates above cite `run` and `prefix`, and the proofs all.
 use Prim.Native.Nat.{ℕ}
 use mathlib.Core.Bool.{Bool, true, false, cond, _&&_}
-use mathlib.Core.List.{List, [], _∷_}
+use mathlib.Core.List.{[], _∷_}
 use lib.ListN.{length, drop}
 use lib.Dec.{eqb}
 use Rattle.grammar.specs.Words.{Bytes}

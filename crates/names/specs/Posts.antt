@@ -1,7 +1,7 @@
 -- What the functions ensure of a name that they answer.
 use Prim.Native.Nat.{ℕ, _-_, _≤_}
 use mathlib.Core.Path.{_≡_}
-use mathlib.Core.List.{List, [], _∷_}
+use mathlib.Core.List.{List, []}
 use lib.ListN.{length, getD, take, drop, replicate}
 use Rattle.scan.specs.Bytes.{other, runEnd}
 use Rattle.names.specs.declared.tables.Name.{Name}

@@ -13,7 +13,7 @@ use Rattle.track.specs.Layout.{isSome}
 use Rattle.records.specs.Find.{firstThat}
 use Rattle.xml.specs.Reading.{Placed}
 use Rattle.meaning.specs.Words.{ascii}
-use Rattle.meaning.specs.Answers.{Answer, is, refused, _>>=_}
+use Rattle.meaning.specs.Answers.{Answer, is, _>>=_}
 use Rattle.meaning.specs.Nodes.{Attr}
 use Rattle.meaning.specs.Kinds.{withPlaces}
 use Rattle.meaning.specs.Meaning.{floatOr, timing, rateOf}

@@ -2,19 +2,17 @@
 --     e are the extras, z the strings, k the number of a name in REGION_ATTR_ORDER; n rows from row i on
 use Prim.Native.Nat.{ℕ, zero, suc, _+_, _*_, _≤_, _<_}
 use mathlib.Core.Path.{_≡_}
-use mathlib.Core.Bool.{Bool, true, false, cond, not, _&&_, _||_}
-use mathlib.Core.List.{List, [], _∷_}
+use mathlib.Core.Bool.{Bool, true, false, cond, _||_}
+use mathlib.Core.List.{List, []}
 use mathlib.Core.Option.{Option, none, some}
 use lib.ListN.{length, getD, take, replicate}
 use lib.Dec.{eqb, leb}
-use lib.Ieee.{Float}
 use Rattle.scan.specs.Names.{sameFolded}
 use Rattle.scan.specs.Bytes.{runLength}
 use Rattle.colors.specs.declared.read.Rgba.{Rgba}
 use Rattle.colors.specs.Colors.{colorIn}
 use Rattle.decimals.specs.declared.size.Size.{Size}
 use Rattle.decimals.specs.Decimal.{decimalOf}
-use Rattle.tree.specs.declared.answers.Refusal.{Refusal}
 use Rattle.track.specs.declared.strings.Span.{Span}
 use Rattle.track.specs.declared.values.Look as values
 use Rattle.track.specs.declared.check.Check.{Check}
@@ -39,7 +37,6 @@ use Rattle.queries.specs.declared.own.SizeRead.{SizeRead}
 use Rattle.queries.specs.declared.own.OwnRead.{OwnRead}
 use Rattle.queries.specs.declared.region.Part.{Part}
 use Rattle.queries.specs.declared.region.PartRead.{PartRead}
-use Rattle.queries.specs.declared.query.Styled.{Styled}
 use Rattle.queries.specs.declared.query.Resolved.{Resolved}
 
 -- ---- rows of extras

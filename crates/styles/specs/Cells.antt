@@ -1,10 +1,8 @@
 -- What a style says as the program holds it: a struct in which a part that is absent is zero. Definitions alone.
-use Prim.Native.Nat.{ℕ}
 use mathlib.Core.Path.{_≡_}
-use mathlib.Core.Bool.{Bool, true, false, cond, not, _&&_, _||_}
+use mathlib.Core.Bool.{Bool, false, cond, not, _&&_, _||_}
 use Rattle.colors.specs.declared.read.Rgba.{Rgba}
 use Rattle.decimals.specs.declared.size.Size.{Size}
-use Rattle.track.specs.declared.strings.Span.{Span}
 use Rattle.track.specs.declared.values.Align.{Align}
 use Rattle.track.specs.declared.values.Look.{Look}
 use Rattle.track.specs.Tables.{span, zeroFloat}

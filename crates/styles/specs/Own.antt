@@ -2,8 +2,8 @@
 -- textDecoration is not among them: `REGION_ATTR_ORDER` has it not.
 use Prim.Native.Nat.{ℕ}
 use Prim.Native.String.{String}
-use mathlib.Core.Bool.{Bool, true, false, cond, _||_}
-use mathlib.Core.List.{List, [], _∷_}
+use mathlib.Core.Bool.{Bool, false, _||_}
+use mathlib.Core.List.{List}
 use mathlib.Core.Option.{Option, none, some}
 use lib.ListN.{take}
 use lib.Dec.{eqb}
@@ -21,6 +21,7 @@ use Rattle.decimals.specs.Size.{sizeOf}
 use Rattle.names.specs.declared.tables.Listed.{Listed}
 use Rattle.names.specs.Lists.{nameOf}
 use Rattle.track.specs.declared.values.Align.{Align}
+use Rattle.track.specs.Alignment.{alignWord}
 use Rattle.track.specs.Track.{Bytes, Look, Extra}
 use Rattle.records.specs.Find.{firstThat}
 
@@ -73,15 +74,10 @@ abbrev pub isWord : String → Option Bytes → Bool
 isWord word none = false
 isWord word (some v) = sameFolded v (ascii word)
 
--- the Rust's `parse_text_align`; an unknown word sets nothing
+-- white space around the word does not count
 abbrev pub alignIn : Option Bytes → Align
 alignIn none = Align.Start
-alignIn (some v) =
-    let w = trimmed v in
-    cond (sameFolded w (ascii "end")) Align.End
-    (cond (sameFolded w (ascii "center")) Align.Center
-    (cond (sameFolded w (ascii "left")) Align.Left
-    (cond (sameFolded w (ascii "right")) Align.Right Align.Start)))
+alignIn (some v) = alignWord (trimmed v)
 
 -- colour, background and size are read in this order: the first that is refused is the answer
 unfoldable pub ownValues : List (Extra Bytes) → Read (Look Bytes)

@@ -1,7 +1,7 @@
 -- The three queries on a track (document 01, Styles). Definitions alone.
 -- The style's name in an answer: `trimmed` of the value asked for, the region's id, and nothing for a cue.
 use Prim.Native.Nat.{ℕ, zero, suc}
-use mathlib.Core.Bool.{Bool, true, false, cond}
+use mathlib.Core.Bool.{cond}
 use mathlib.Core.List.{List, [], _∷_, _++_}
 use mathlib.Core.Option.{Option, none, some}
 use Rattle.names.specs.Numbers.{isIn}
@@ -9,7 +9,7 @@ use Rattle.track.specs.Track.{Bytes, Look, Style, Region, Cue, Track}
 use Rattle.records.specs.Find.{findRegion}
 use Rattle.styles.specs.Values.{unstyled, laidOver}
 use Rattle.styles.specs.Resolve.{Resolution, resolve}
-use Rattle.styles.specs.Own.{Read, is, refused, next, valueOf, ownValues}
+use Rattle.styles.specs.Own.{Read, is, next, valueOf, ownValues}
 
 -- ---- a value that may be absent
 unfoldable pub nothing : Resolution

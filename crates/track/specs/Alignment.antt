@@ -1,4 +1,5 @@
--- The alignment that a word is. Definitions alone.
+-- The alignment that a word of `tts:textAlign` is, in any letter case (TTML 2, 10.2; the Rust's `parse_text_align`). An unknown word, `start` and
+-- `justify` are `Start`. Definitions alone.
 use Prim.Native.Nat.{ℕ}
 use mathlib.Core.Bool.{cond}
 use mathlib.Core.List.{List}

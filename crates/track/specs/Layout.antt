@@ -1,6 +1,6 @@
 -- How a track stands in its tables: every cell. Definitions alone.
 -- A placed track has rows by value, each string by its place and length in `strings` or `texts`.
-use Prim.Native.Nat.{ℕ, zero, suc, _+_, _-_, _*_}
+use Prim.Native.Nat.{ℕ, _+_, _-_, _*_}
 use mathlib.Core.Bool.{Bool, true, false, cond}
 use mathlib.Core.List.{List, [], _∷_, _++_}
 use mathlib.Core.Option.{Option, none, some}

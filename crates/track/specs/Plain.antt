@@ -2,7 +2,6 @@
 use mathlib.Core.Path.{_≡_}
 use mathlib.Core.Bool.{Bool, true, false, not, _&&_}
 use mathlib.Core.List.{List, [], _∷_}
-use mathlib.Core.Option.{none, some}
 use Rattle.track.specs.Track.{Bytes, Wrapper, Segments, Cue, Track, noSegments, oneSegment, isBareFont}
 use Rattle.track.specs.Track as track
 

@@ -1,12 +1,12 @@
 -- The tests of the check of a handed track, as the program makes them. This file need not be believed: `Check` says what is promised, and
 -- `proofs/Exactly` shows that these tests give it.
-use Prim.Native.Nat.{ℕ, _+_, _*_}
+use Prim.Native.Nat.{ℕ}
 use mathlib.Core.Bool.{Bool, cond, _&&_}
 use lib.ListN.{length}
 use lib.Dec.{leb}
 use Rattle.track.specs.declared.check.Check.{Check}
 use Rattle.track.specs.Tables.{Tables}
-use Rattle.track.specs.Meaning.{isTrack, bytesMean, rowsMean}
+use Rattle.track.specs.Meaning.{isTrack}
 
 abbrev pub refusedAs : ℕ → Check
 refusedAs n = Check.Refused (record { number = n; place = 0 })

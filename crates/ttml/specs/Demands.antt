@@ -15,8 +15,8 @@ use Prim.Native.Nat.{ℕ, _-_, _≤_, _<_, _^_}
 use mathlib.Core.Path.{_≡_}
 use mathlib.Core.Bool.{true}
 use mathlib.Core.Logic.{_↔_}
-use mathlib.Core.List.{List, [], _∷_, _++_}
-use mathlib.Core.Option.{Option, none, some}
+use mathlib.Core.List.{List, _++_}
+use mathlib.Core.Option.{none, some}
 use lib.ListN.{length, take, getD, replicate}
 use lib.IntN.{pos}
 use lib.Signed.{mag}
@@ -38,14 +38,13 @@ use Rattle.track.specs.Layout.{each}
 use Rattle.track.specs.Plain.{isPlainTrack}
 use Rattle.records.specs.Find.{findStyle}
 use Rattle.xml.specs.Promise as xml
-use Rattle.meaning.specs.Answers.{is, refused}
+use Rattle.meaning.specs.Answers.{is}
 use Rattle.meaning.specs.Kinds.{bare, nodesOf}
-use Rattle.meaning.specs.Meaning.{trackOf, cueOf}
-use Rattle.written.specs.Written.{writtenOf, cueWritten}
+use Rattle.meaning.specs.Meaning.{trackOf}
+use Rattle.written.specs.Written.{writtenOf}
 use Rattle.readback.specs.Back.{cueBack}
 use Rattle.promised.specs.declared.Answer as reader
 use Rattle.promised.specs.Promise.{Tables, LongEnough, AllZero, Parsed, CueParsed, numberOf}
-use Rattle.laid.specs.Laid.{alone}
 use Rattle.writer.specs.declared.calls.Answer as writer
 use Rattle.writer.specs.Promise.{Promise, wholeText, cueNumber}
 use Rattle.writer.specs.Promise as writing

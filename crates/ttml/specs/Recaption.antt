@@ -1,7 +1,5 @@
 -- What reading a text and writing it anew promises. Definitions alone.
 use mathlib.Core.Path.{_≡_}
-use mathlib.Core.List.{List}
-use Prim.Native.Nat.{ℕ}
 use lib.ListN.{length, replicate}
 use Rattle.track.specs.Track.{Bytes}
 use Rattle.promised.specs.declared.Answer as reader

@@ -1,7 +1,6 @@
 -- How a call in C tells its answer, in 64 bits. Definitions alone.
 use Prim.Native.Nat.{ℕ, _+_, _*_, _%_, _^_}
 use mathlib.Core.Path.{_≡_}
-use mathlib.Core.List.{List, [], _∷_}
 use Rattle.tree.specs.declared.answers.Answer as tree
 use Rattle.track.specs.declared.check.Check as track
 use Rattle.promised.specs.declared.Answer as reader

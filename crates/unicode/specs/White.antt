@@ -6,7 +6,6 @@ use mathlib.Core.Path.{_≡_}
 use mathlib.Core.List.{List, [], _∷_, _++_}
 use lib.ListN.{length, drop}
 use Rattle.scan.specs.Part.{part}
-use Rattle.unicode.specs.declared.white.Span.{Span}
 use Rattle.unicode.specs.declared.white.Word.{Word}
 use Rattle.unicode.specs.declared.white.Word.the-variants.{At, Nothing}
 use Rattle.unicode.specs.WhiteSpace.{WhiteSpace, Trims, Bare, Parted}
