@@ -237,7 +237,7 @@ module _ (t : ℕ) (fits : t * 1000 < 2 ^ 63) where
   unfolding hoursWidth
   hours-some = le-max-left 2 (decimalWidth hours)
 
-  back : (ctx : TimingCtx) → timeIn (clockOfMillis t) ctx ≡ Time.Is (pos (t * 1000))
+  pub back : (ctx : TimingCtx) → timeIn (clockOfMillis t) ctx ≡ Time.Is (pos (t * 1000))
   unfolding clockTime hours minutes seconds
   back ctx =
       let l : 4 ≤ length text = omega (arith, clock-length t, ap length laid-out) in

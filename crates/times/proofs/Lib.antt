@@ -5,4 +5,5 @@ pub mod Clocks
 pub mod Fractions
 pub mod Parts
 pub mod Back
+pub mod UsualTimes
 pub mod Examples

@@ -1,9 +1,12 @@
 -- Steps of the program, which contracts of inner functions cite. They need not be believed: `proofs/Parts.antt` shows that they make up
 -- what `Expressions` says.
-use Prim.Native.Nat.{ℕ}
+use Prim.Native.Nat.{ℕ, _+_, _-_, _*_, _<_}
+use mathlib.Core.Path.{_≡_}
+use mathlib.Core.Bool.{cond}
 use mathlib.Core.List.{List, [], _∷_}
 use lib.IntN.{ℤ, pos, _+ℤ_, _*ℤ_}
 use lib.Ieee.{Float, binary64, mul}
+use Rattle.scan.specs.Bytes.{digitByte}
 use Rattle.decimals.specs.declared.read.Decimal.{Decimal}
 use Rattle.numerals.specs.declared.Whole.{Whole}
 use Rattle.times.specs.declared.sums.Sum.{Sum}
@@ -12,6 +15,7 @@ use Rattle.times.specs.declared.offset.Time.{Time}
 use Rattle.times.specs.Sums.{checked, signed}
 use Rattle.times.specs.Expressions.{_>>=_, tested, timeDecimal, truncated, Rate, counted, withValue, frameRate}
 use Rattle.times.specs.Expressions.{whole, micros, secondsOf, hoursMinutes, framesIn}
+use Rattle.times.specs.Written.{clockOfMillis}
 
 -- a sum of sums, each tested
 abbrev pub plus : Sum → Sum → Sum
@@ -64,3 +68,23 @@ afterHours h [] ctx = Time.Nothing
 afterHours h (m ∷ more) ctx = do
   y ← whole m
   afterMinutes h y more ctx
+
+-- ---- clock times of the usual form
+-- a digit's value; past every limit for any other byte
+abbrev pub digitOr : ℕ → ℕ
+digitOr b = cond (digitByte b) (b - 48) 1000
+
+-- an answer below 100 hours is the sum, and each part is below its limit
+pub record Summed (h m s ms r : ℕ) : Type 0 where
+  pub hours : h < 100
+  pub minutes : m < 60
+  pub seconds : s < 60
+  pub millis : ms < 1000
+  pub is : r ≡ ((h * 60 + m) * 60 + s) * 1000 + ms
+
+abbrev pub InMillis : (h m s ms r : ℕ) → Type 0
+InMillis h m s ms r = r < 360000000 → Summed h m s ms r
+
+-- Milliseconds below 100 hours are those that the text is written for. Of any other answer nothing is asked: the text is then read as a whole.
+abbrev pub UsualMillis : List ℕ → ℕ → Type 0
+UsualMillis s r = r < 360000000 → s ≡ clockOfMillis r

@@ -222,6 +222,12 @@ fn expression(text: &[u8], ctx: TimingCtx) -> Time
 pub fn parse_ttml_time(text: &[u8], ctx: TimingCtx) -> Time
     ensures { λ r. ⌜ ReadsTime (timeIn (now (text .entry)) ctx) r ⌝ }
 {
+    if text.len() == 12 {
+        let ms = crate::usual::usual_millis(text);
+        if ms < 360000000 {
+            return Time::Is((ms * 1000) as i64);
+        }
+    }
     let span = unicode::trim(&text[0..]);
     let start = span.start;
     let end = span.end;

@@ -2,6 +2,7 @@
 mod clock;
 mod offset;
 mod sums;
+mod usual;
 mod write;
 
 pub use clock::parse_ttml_time;
