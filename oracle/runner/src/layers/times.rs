@@ -44,6 +44,7 @@ fn compare(run: &mut Run) {
             check(run, &text, (rate, None));
         }
     });
+    every_usual(|text| check(run, text, (None, None)));
     for (text, rates) in corners() {
         check(run, &text, rates);
     }
@@ -76,6 +77,28 @@ fn compare(run: &mut Run) {
     for ms in 0..200_000 {
         write(run, lent, ms * 999);
         write(run, lent, i64::MAX - ms * 7_777_777);
+    }
+}
+
+/// Times of the form `hh:mm:ss.mmm`, which the port reads apart: every pair of two fields, every fraction, and some with each
+/// place changed to each character below U+0100.
+fn every_usual(mut ask: impl FnMut(&str)) {
+    for a in 0..100 {
+        for b in 0..100 {
+            ask(&format!("{a:02}:{b:02}:07.250"));
+            ask(&format!("03:{a:02}:{b:02}.999"));
+            ask(&format!("{a:02}:59:{b:02}.001"));
+        }
+    }
+    for ms in 0..1_000 {
+        ask(&format!("00:00:05.{ms:03}"));
+    }
+    for text in ["00:00:05.000", "12:34:56.789", "99:59:59.999", "09:60:61.100"] {
+        for place in 0..text.len() {
+            for c in '\0'..='\u{FF}' {
+                ask(&format!("{}{c}{}", &text[..place], &text[place + 1..]));
+            }
+        }
     }
 }
 
