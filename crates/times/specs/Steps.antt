@@ -1,9 +1,10 @@
 -- Steps of the program, which contracts of inner functions cite. They need not be believed: `proofs/Parts.antt` shows that they make up
 -- what `Expressions` says.
-use Prim.Native.Nat.{ℕ, _+_, _-_, _*_, _<_}
-use mathlib.Core.Path.{_≡_}
+use Prim.Native.Nat.{ℕ, _+_, _-_, _*_}
 use mathlib.Core.Bool.{cond}
 use mathlib.Core.List.{List, [], _∷_}
+use lib.ListN.{getD}
+use lib.Dec.{eqb, ltb}
 use lib.IntN.{ℤ, pos, _+ℤ_, _*ℤ_}
 use lib.Ieee.{Float, binary64, mul}
 use Rattle.scan.specs.Bytes.{digitByte}
@@ -15,7 +16,6 @@ use Rattle.times.specs.declared.offset.Time.{Time}
 use Rattle.times.specs.Sums.{checked, signed}
 use Rattle.times.specs.Expressions.{_>>=_, tested, timeDecimal, truncated, Rate, counted, withValue, frameRate}
 use Rattle.times.specs.Expressions.{whole, micros, secondsOf, hoursMinutes, framesIn}
-use Rattle.times.specs.Written.{clockOfMillis}
 
 -- a sum of sums, each tested
 abbrev pub plus : Sum → Sum → Sum
@@ -74,17 +74,24 @@ afterHours h (m ∷ more) ctx = do
 abbrev pub digitOr : ℕ → ℕ
 digitOr b = cond (digitByte b) (b - 48) 1000
 
--- an answer below 100 hours is the sum, and each part is below its limit
-pub record Summed (h m s ms r : ℕ) : Type 0 where
-  pub hours : h < 100
-  pub minutes : m < 60
-  pub seconds : s < 60
-  pub millis : ms < 1000
-  pub is : r ≡ ((h * 60 + m) * 60 + s) * 1000 + ms
+-- the number at two places, and at three
+abbrev pub twoAt : List ℕ → ℕ → ℕ
+twoAt s i = digitOr (getD s i 0) * 10 + digitOr (getD s (i + 1) 0)
 
-abbrev pub InMillis : (h m s ms r : ℕ) → Type 0
-InMillis h m s ms r = r < 360000000 → Summed h m s ms r
+abbrev pub threeAt : List ℕ → ℕ → ℕ
+threeAt s i = digitOr (getD s i 0) * 100 + twoAt s (i + 1)
 
--- Milliseconds below 100 hours are those that the text is written for. Of any other answer nothing is asked: the text is then read as a whole.
-abbrev pub UsualMillis : List ℕ → ℕ → Type 0
-UsualMillis s r = r < 360000000 → s ≡ clockOfMillis r
+-- 100 hours in milliseconds: said where the text has another form
+abbrev pub other : ℕ
+other = 360000000
+
+-- so many hours, minutes, seconds and milliseconds, each below its limit
+abbrev pub inMillis : (h m s ms : ℕ) → ℕ
+inMillis h m s ms =
+    cond (ltb h 100) (cond (ltb m 60) (cond (ltb s 60) (cond (ltb ms 1000) (((h * 60 + m) * 60 + s) * 1000 + ms) other) other) other) other
+
+-- the milliseconds that twelve bytes `hh:mm:ss.mmm` say
+abbrev pub usualMillis : List ℕ → ℕ
+usualMillis s =
+    cond (eqb (getD s 2 0) 58) (cond (eqb (getD s 5 0) 58) (cond (eqb (getD s 8 0) 46)
+      (inMillis (twoAt s 0) (twoAt s 3) (twoAt s 6) (threeAt s 9)) other) other) other

@@ -2,7 +2,7 @@
 ghost use mathlib.Core.Path.{_≡_};
 ghost use Prim.Native.Nat.{_+_, _*_};
 ghost use lib.ListN.{length};
-ghost use Rattle.times.specs.Steps.{digitOr, InMillis, UsualMillis};
+ghost use Rattle.times.specs.Steps.{digitOr, inMillis, usualMillis};
 
 // A digit's value; 1,000 for any other byte, so that a sum over it passes every limit below.
 fn digit(b: u8) -> u64
@@ -28,7 +28,7 @@ fn three_digits(hundreds: u8, tens: u8, ones: u8) -> u64
 
 // So many hours, minutes, seconds and milliseconds, each below its limit, as milliseconds; 360,000,000 where one is not.
 fn in_millis(h: u64, m: u64, s: u64, ms: u64) -> u64
-    ensures { λ r. ⌜ InMillis h m s ms r ⌝ }
+    ensures { λ r. ⌜ r ≡ inMillis h m s ms ⌝ }
 {
     if 100 <= h {
         return 360000000;
@@ -48,7 +48,7 @@ fn in_millis(h: u64, m: u64, s: u64, ms: u64) -> u64
 // The milliseconds that twelve bytes say in this form; 360,000,000 where they have another, or a minute or a second past 59.
 pub fn usual_millis(text: &[u8]) -> u64
     requires { ⌜ length (now text) ≡ 12 ⌝ }
-    ensures { λ r. ⌜ UsualMillis (now (text .entry)) r ⌝ }
+    ensures { λ r. ⌜ r ≡ usualMillis (now (text .entry)) ⌝ }
 {
     if text[2] != b':' {
         return 360000000;

@@ -23,9 +23,10 @@ cast-t11 c = search needs
 
 returns : tie.Need-returns
 returns c =
-    let a = c .before .before .before .before .args in
+    let c4 = c .before .before .before .before in
+    let a = c4 .args in
     let ms = c .before .usual-millis .result in
-    let said = usual-time (a .text .now) ms (c .if2 .taken) (c .before .usual-millis .ensures (c .if2 .taken)) (a .ctx) in
+    let said = usual-time (a .text .now) ms (c .before .usual-millis .ensures) (c .before .before .if1 .taken) (c .if2 .taken) (a .ctx) in
     reads-time (ap Time.Is (low-bits (ms * 1000) (omega (arith, c .if2 .taken))) ∙ sym said)
 
 sub-trim : tie.Need-sub-trim

@@ -1,6 +1,5 @@
--- Twelve bytes with their marks are what their milliseconds are written as.
-use native.Mathlib.Omega.{arith}
-use Rattle.times.proofs.UsualTimes.{usual-written}
+-- Each mark is tested before the digits are read.
+use Rattle.times.proofs.UsualTimes.{no-first, no-second, no-point, all-marks}
 use borrow.Author.Needs.{needs}
 use Rattle.times.proofs.usual.usual_millis.Statement.{statement}
 use Rattle.times.proofs.usual.usual_millis.Tie as tie
@@ -9,19 +8,19 @@ shared-slice-read-if1 : tie.Need-shared-slice-read-if1
 shared-slice-read-if1 c = search needs
 
 returns : tie.Need-returns
-returns c = λ h. absurd (omega arith)
+returns c = no-first (c .before .before .before .args .text .now) (c .if1 .taken)
 
 shared-slice-read-if2 : tie.Need-shared-slice-read-if2
 shared-slice-read-if2 c = search needs
 
 returns-2 : tie.Need-returns-2
-returns-2 c = λ h. absurd (omega arith)
+returns-2 c = no-second (c .before .before .before .before .before .args .text .now) (c .before .before .if1 .left) (c .if2 .taken)
 
 shared-slice-read-if3 : tie.Need-shared-slice-read-if3
 shared-slice-read-if3 c = search needs
 
 returns-3 : tie.Need-returns-3
-returns-3 c = λ h. absurd (omega arith)
+returns-3 c = no-point (c .before .before .before .before .before .before .before .args .text .now) (c .before .before .before .before .if1 .left) (c .before .before .if2 .left) (c .if3 .taken)
 
 shared-slice-read-two-digits : tie.Need-shared-slice-read-two-digits
 shared-slice-read-two-digits c = search needs
@@ -74,8 +73,8 @@ returns-4 c =
     let c16 = c14 .before .before in
     let c18 = c16 .before .before in
     let c21 = c18 .before .before .before in
-    λ h. usual-written (c21 .args .text .now) (c21 .pre) (c18 .if1 .left) (c16 .if2 .left) (c14 .if3 .left) _ _ _ _ _ (c11 .two-digits .ensures)
-    (c8 .two-digits2 .ensures) (c5 .two-digits3 .ensures) (c .before .three-digits .ensures) (c .in-millis .ensures h)
+    all-marks (c21 .args .text .now) (c18 .if1 .left) (c16 .if2 .left) (c14 .if3 .left) _ _ _ _ _
+    (c11 .two-digits .ensures) (c8 .two-digits2 .ensures) (c5 .two-digits3 .ensures) (c .before .three-digits .ensures) (c .in-millis .ensures)
 
 pub usual-millis-spec : {M : Type 1} → statement M
 usual-millis-spec =
