@@ -1,7 +1,7 @@
 #include <stdio.h>
 #include "postgarlic.h"
 
-static pg_tables tables; /* 1.4 MB, nothing is allocated */
+static pg_tables tables; /* 1.1 MB, nothing is allocated */
 
 int main(void)
 {

@@ -171,13 +171,43 @@ static void calls(void)
 {
     memset(&tables, 0, sizeof tables);
     const uint64_t told = pg_check_track(tables.head, 9, PG_LEND(tables.params), PG_LEND(tables.styles), PG_LEND(tables.regions),
-        PG_LEND(tables.cues), PG_LEND(tables.times), PG_LEND(tables.segments), PG_LEND(tables.reveal), PG_LEND(tables.sizes),
-        PG_LEND(tables.extras), PG_LEND(tables.strings), PG_LEND(tables.texts));
+        PG_LEND(tables.cues), PG_LEND(tables.times), PG_LEND(tables.segments), PG_LEND(tables.sizes), PG_LEND(tables.extras),
+        PG_LEND(tables.strings), PG_LEND(tables.texts));
     SHOULD(told == PG_SHORT_TABLE && pg_check(&tables).number == PG_TAKEN);
     pg_answer answer = pg_write_cue(&tables, 0, written, sizeof written);
     SHOULD(answer.number == PG_NO_TRACK && answer.place == 0);
     answer = pg_write_track(&tables, written, 10);
     SHOULD(answer.number == PG_NO_ROOM && answer.place == 0);
+}
+
+/* One cue with one segment that has no children: its kind, and the four cells of its data. */
+static pg_number one_segment(pg_kind kind, uint32_t a, uint32_t b, uint32_t c, uint32_t d)
+{
+    const uint32_t row[6] = {(uint32_t)kind, 1, a, b, c, d};
+    memset(&tables, 0, sizeof tables);
+    tables.head[3] = tables.head[4] = tables.cues[8] = 1;
+    memcpy(tables.segments, row, sizeof row);
+    return pg_check(&tables).number;
+}
+
+/* Times and sizes in the cells of segments, at the ends of what they hold. */
+static void packed(void)
+{
+    static const int64_t times[] = {INT64_MIN, -4294967296, -1, 0, 1, 4294967295, 4294967296, INT64_MAX};
+    static const uint32_t halves[][2] = {
+        {0, 0x80000000}, {0, 0xFFFFFFFF}, {0xFFFFFFFF, 0xFFFFFFFF}, {0, 0}, {1, 0}, {0xFFFFFFFF, 0}, {0, 1}, {0xFFFFFFFF, 0x7FFFFFFF}};
+    for (size_t i = 0; i < PG_COUNT(times); i++) {
+        SHOULD(one_segment(PG_TIMESTAMP, halves[i][0], halves[i][1], 0, 0) == PG_TAKEN && pg_segment_time(&tables, 0) == times[i]);
+    }
+    SHOULD(one_segment(PG_FONT, 0, 0, 0, 0) == PG_TAKEN && !pg_segment_family(&tables, 0).bytes && !pg_segment_size(&tables, 0).has);
+    SHOULD(one_segment(PG_FONT, 0, 0, 1, 0) == PG_TAKEN && is(pg_segment_family(&tables, 0), ""));
+    SHOULD(one_segment(PG_FONT, 0, 0, 1 << 1, 0) == PG_TAKEN && is_size(pg_segment_size(&tables, 0), 0, false, 0, 0));
+    SHOULD(one_segment(PG_FONT, 0, 0, 2 << 1, 0x80000000) == PG_TAKEN && is_size(pg_segment_size(&tables, 0), 0, true, 0, 0));
+    SHOULD(one_segment(PG_FONT, 0, 0, 2 << 1 | 10 << 3 | 999999u << 7, 0xB8D1B70A) == PG_TAKEN);
+    SHOULD(is_size(pg_segment_size(&tables, 0), -0.0000999999f, true, 999999, 10));
+    SHOULD(one_segment(PG_FONT, 0, 0, 3 << 1, 0) == PG_NO_TRACK);
+    SHOULD(one_segment(PG_FONT, 0, 0, 2 << 1, 0) == PG_NO_TRACK);
+    SHOULD(one_segment(PG_FONT, 0, 0, 1 << 1 | 1u << 3 | 50u << 7, 0x40A00000) == PG_NO_TRACK);
 }
 
 static unsigned flags_of(pg_style style)
@@ -244,6 +274,7 @@ int main(void)
     writers();
     readers();
     calls();
+    packed();
     one_by_one();
     names();
     printf("header.c: %d tests, %d failed\n", tests, failed);

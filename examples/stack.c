@@ -98,8 +98,8 @@ static void wrap(uint32_t wrappers)
     tables.head[4] = wrappers + 1;
     tables.cues[8] = wrappers + 1;
     for (uint32_t row = 0; row <= wrappers; row++) {
-        tables.segments[8 * row] = row < wrappers ? PG_FONT : PG_TEXT;
-        tables.segments[8 * row + 1] = wrappers + 1 - row;
+        tables.segments[6 * row] = row < wrappers ? PG_FONT : PG_TEXT;
+        tables.segments[6 * row + 1] = wrappers + 1 - row;
     }
 }
 

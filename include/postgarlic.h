@@ -4,7 +4,7 @@
  *     cc -I include board.c target/staticlib/libttml.a
  *
  * The library allocates nothing, keeps nothing between calls and takes any bytes. A caller lends tables of fixed lengths: `pg_tables` has
- * them all, 1,434,664 bytes, and can stand in static memory. `pg_read` fills them, the accessors below read them, `pg_write_track` writes them
+ * them all, 1,106,984 bytes, and can stand in static memory. `pg_read` fills them, the accessors below read them, `pg_write_track` writes them
  * as TTML again. docs/TABLES.md says what stands in each cell, docs/REFUSALS.md what to do about each refusal.
  *
  * This file is not proved: it declares the proved calls and passes the parts of `pg_tables` to them. examples/run tests it.
@@ -18,6 +18,7 @@
 #include <stdbool.h>
 #include <stddef.h>
 #include <stdint.h>
+#include <string.h>
 
 #ifdef __cplusplus
 extern "C" {
@@ -46,7 +47,6 @@ extern "C" {
 /* Every table that is lent, with its fixed length. What it holds before a call to pg_read is of no account. */
 typedef struct pg_tables {
     int64_t times[2 * PG_CUES];             /*  32,768 bytes: begin and end of each cue, in microseconds */
-    int64_t reveal[PG_SEGMENTS];            /* 131,072 bytes: the times of timestamps */
     uint32_t nodes[6 * PG_NODES];           /* 196,608 bytes: the tree that was read */
     uint32_t attrs[4 * PG_ATTRS];           /* 131,072 bytes: its attributes */
     uint32_t head[10];                      /*      40 bytes: how many rows the other tables have */
@@ -54,14 +54,14 @@ typedef struct pg_tables {
     uint32_t styles[27 * PG_STYLES];        /*  27,648 bytes */
     uint32_t regions[4 * PG_REGIONS];       /*   4,096 bytes */
     uint32_t cues[11 * PG_CUES];            /*  90,112 bytes */
-    uint32_t segments[8 * PG_SEGMENTS];     /* 524,288 bytes */
+    uint32_t segments[6 * PG_SEGMENTS];     /* 393,216 bytes */
     uint32_t extras[3 * PG_EXTRAS];         /*  98,304 bytes: attributes that are kept as they were */
-    float sizes[PG_SEGMENTS + PG_STYLES];   /*  66,560 bytes: font sizes of segments, then of styles */
+    float sizes[PG_STYLES];                 /*   1,024 bytes: the font sizes of styles */
     uint8_t strings[PG_TEXT_BYTES];         /*  65,536 bytes */
     uint8_t texts[PG_TEXT_BYTES];           /*  65,536 bytes */
 } pg_tables;
 
-PG_ASSERT(sizeof(pg_tables) == 1434664, "the sizes in the comments above");
+PG_ASSERT(sizeof(pg_tables) == 1106984, "the sizes in the comments above");
 PG_ASSERT(sizeof(float) == 4, "a float is an IEEE 754 binary32");
 
 /* ---- answers */
@@ -104,57 +104,52 @@ typedef struct pg_answer {
 uint64_t pg_parse(const uint8_t *text, size_t text_len, uint32_t *nodes, size_t nodes_len, uint32_t *attrs, size_t attrs_len,
     uint32_t *head, size_t head_len, uint32_t *params, size_t params_len, uint32_t *styles, size_t styles_len, uint32_t *regions,
     size_t regions_len, uint32_t *cues, size_t cues_len, int64_t *times, size_t times_len, uint32_t *segments, size_t segments_len,
-    int64_t *reveal, size_t reveal_len, float *sizes, size_t sizes_len, uint32_t *extras, size_t extras_len, uint8_t *strings,
-    size_t strings_len, uint8_t *texts, size_t texts_len);
+    float *sizes, size_t sizes_len, uint32_t *extras, size_t extras_len, uint8_t *strings, size_t strings_len, uint8_t *texts,
+    size_t texts_len);
 
 uint64_t pg_bytes_to_cue(const uint8_t *text, size_t text_len, uint32_t *nodes, size_t nodes_len, uint32_t *attrs, size_t attrs_len,
     uint32_t *head, size_t head_len, uint32_t *params, size_t params_len, uint32_t *styles, size_t styles_len, uint32_t *regions,
     size_t regions_len, uint32_t *cues, size_t cues_len, int64_t *times, size_t times_len, uint32_t *segments, size_t segments_len,
-    int64_t *reveal, size_t reveal_len, float *sizes, size_t sizes_len, uint32_t *extras, size_t extras_len, uint8_t *strings,
-    size_t strings_len, uint8_t *texts, size_t texts_len);
+    float *sizes, size_t sizes_len, uint32_t *extras, size_t extras_len, uint8_t *strings, size_t strings_len, uint8_t *texts,
+    size_t texts_len);
 
 uint64_t pg_parse_xml(const uint8_t *text, size_t text_len, uint32_t *nodes, size_t nodes_len, uint32_t *attrs, size_t attrs_len,
     uint8_t *strings, size_t strings_len, uint32_t *counts, size_t counts_len);
 
 uint64_t pg_check_track(const uint32_t *head, size_t head_len, const uint32_t *params, size_t params_len, const uint32_t *styles,
     size_t styles_len, const uint32_t *regions, size_t regions_len, const uint32_t *cues, size_t cues_len, const int64_t *times,
-    size_t times_len, const uint32_t *segments, size_t segments_len, const int64_t *reveal, size_t reveal_len, const float *sizes,
-    size_t sizes_len, const uint32_t *extras, size_t extras_len, const uint8_t *strings, size_t strings_len, const uint8_t *texts,
-    size_t texts_len);
+    size_t times_len, const uint32_t *segments, size_t segments_len, const float *sizes, size_t sizes_len, const uint32_t *extras,
+    size_t extras_len, const uint8_t *strings, size_t strings_len, const uint8_t *texts, size_t texts_len);
 
 uint64_t pg_write(const uint32_t *head, size_t head_len, const uint32_t *params, size_t params_len, const uint32_t *styles,
     size_t styles_len, const uint32_t *regions, size_t regions_len, const uint32_t *cues, size_t cues_len, const int64_t *times,
-    size_t times_len, const uint32_t *segments, size_t segments_len, const int64_t *reveal, size_t reveal_len, const float *sizes,
-    size_t sizes_len, const uint32_t *extras, size_t extras_len, const uint8_t *strings, size_t strings_len, const uint8_t *texts,
-    size_t texts_len, uint8_t *out, size_t out_len);
+    size_t times_len, const uint32_t *segments, size_t segments_len, const float *sizes, size_t sizes_len, const uint32_t *extras,
+    size_t extras_len, const uint8_t *strings, size_t strings_len, const uint8_t *texts, size_t texts_len, uint8_t *out, size_t out_len);
 
 uint64_t pg_cue_to_bytes(const uint32_t *head, size_t head_len, const uint32_t *params, size_t params_len, const uint32_t *styles,
     size_t styles_len, const uint32_t *regions, size_t regions_len, const uint32_t *cues, size_t cues_len, const int64_t *times,
-    size_t times_len, const uint32_t *segments, size_t segments_len, const int64_t *reveal, size_t reveal_len, const float *sizes,
-    size_t sizes_len, const uint32_t *extras, size_t extras_len, const uint8_t *strings, size_t strings_len, const uint8_t *texts,
-    size_t texts_len, size_t index, uint8_t *out, size_t out_len);
+    size_t times_len, const uint32_t *segments, size_t segments_len, const float *sizes, size_t sizes_len, const uint32_t *extras,
+    size_t extras_len, const uint8_t *strings, size_t strings_len, const uint8_t *texts, size_t texts_len, size_t index, uint8_t *out,
+    size_t out_len);
 
 /* The queries answer in `out`, 27 cells, and `size`, one; `ids` has four cells for each id that is reached. */
 uint64_t pg_resolve_referenced_style(const uint8_t *value, size_t value_len, const uint32_t *head, size_t head_len, const uint32_t *params,
     size_t params_len, const uint32_t *styles, size_t styles_len, const uint32_t *regions, size_t regions_len, const uint32_t *cues,
-    size_t cues_len, const int64_t *times, size_t times_len, const uint32_t *segments, size_t segments_len, const int64_t *reveal,
-    size_t reveal_len, const float *sizes, size_t sizes_len, const uint32_t *extras, size_t extras_len, const uint8_t *strings,
-    size_t strings_len, const uint8_t *texts, size_t texts_len, uint32_t *ids, size_t ids_len, uint64_t *out, size_t out_len, float *size,
-    size_t size_len);
+    size_t cues_len, const int64_t *times, size_t times_len, const uint32_t *segments, size_t segments_len, const float *sizes,
+    size_t sizes_len, const uint32_t *extras, size_t extras_len, const uint8_t *strings, size_t strings_len, const uint8_t *texts,
+    size_t texts_len, uint32_t *ids, size_t ids_len, uint64_t *out, size_t out_len, float *size, size_t size_len);
 
 uint64_t pg_region_style(const uint8_t *id, size_t id_len, const uint32_t *head, size_t head_len, const uint32_t *params,
     size_t params_len, const uint32_t *styles, size_t styles_len, const uint32_t *regions, size_t regions_len, const uint32_t *cues,
-    size_t cues_len, const int64_t *times, size_t times_len, const uint32_t *segments, size_t segments_len, const int64_t *reveal,
-    size_t reveal_len, const float *sizes, size_t sizes_len, const uint32_t *extras, size_t extras_len, const uint8_t *strings,
-    size_t strings_len, const uint8_t *texts, size_t texts_len, uint32_t *ids, size_t ids_len, uint64_t *out, size_t out_len, float *size,
-    size_t size_len);
+    size_t cues_len, const int64_t *times, size_t times_len, const uint32_t *segments, size_t segments_len, const float *sizes,
+    size_t sizes_len, const uint32_t *extras, size_t extras_len, const uint8_t *strings, size_t strings_len, const uint8_t *texts,
+    size_t texts_len, uint32_t *ids, size_t ids_len, uint64_t *out, size_t out_len, float *size, size_t size_len);
 
 uint64_t pg_effective_style_for_cue_index(const uint32_t *head, size_t head_len, const uint32_t *params, size_t params_len,
     const uint32_t *styles, size_t styles_len, const uint32_t *regions, size_t regions_len, const uint32_t *cues, size_t cues_len,
-    const int64_t *times, size_t times_len, const uint32_t *segments, size_t segments_len, const int64_t *reveal, size_t reveal_len,
-    const float *sizes, size_t sizes_len, const uint32_t *extras, size_t extras_len, const uint8_t *strings, size_t strings_len,
-    const uint8_t *texts, size_t texts_len, size_t cue_index, uint32_t *ids, size_t ids_len, uint64_t *out, size_t out_len, float *size,
-    size_t size_len);
+    const int64_t *times, size_t times_len, const uint32_t *segments, size_t segments_len, const float *sizes, size_t sizes_len,
+    const uint32_t *extras, size_t extras_len, const uint8_t *strings, size_t strings_len, const uint8_t *texts, size_t texts_len,
+    size_t cue_index, uint32_t *ids, size_t ids_len, uint64_t *out, size_t out_len, float *size, size_t size_len);
 
 /* ---- the calls on pg_tables
  *
@@ -165,8 +160,7 @@ uint64_t pg_effective_style_for_cue_index(const uint32_t *head, size_t head_len,
 #define PG_LEND_TREE(t) PG_LEND((t)->nodes), PG_LEND((t)->attrs)
 #define PG_LEND_TRACK(t)                                                                                                          \
     PG_LEND((t)->head), PG_LEND((t)->params), PG_LEND((t)->styles), PG_LEND((t)->regions), PG_LEND((t)->cues), PG_LEND((t)->times), \
-        PG_LEND((t)->segments), PG_LEND((t)->reveal), PG_LEND((t)->sizes), PG_LEND((t)->extras), PG_LEND((t)->strings),            \
-        PG_LEND((t)->texts)
+        PG_LEND((t)->segments), PG_LEND((t)->sizes), PG_LEND((t)->extras), PG_LEND((t)->strings), PG_LEND((t)->texts)
 
 static inline pg_number pg_number_of(uint64_t told) { return (pg_number)(told & 0xFFFFFFFFu); }
 
@@ -350,7 +344,7 @@ static inline pg_style pg_style_at(const pg_tables *t, size_t row)
     style.color = pg_color_in(cells + 4);
     style.background = pg_color_in(cells + 9);
     style.family = pg_optional_in(t->strings, cells + 14);
-    style.size = pg_size_in(cells + 17, t->sizes[PG_SEGMENTS + row]);
+    style.size = pg_size_in(cells + 17, t->sizes[row]);
     style.bold = cells[20] != 0;
     style.italic = cells[21] != 0;
     style.underline = cells[22] != 0;
@@ -380,8 +374,8 @@ static inline pg_rows pg_cue_extras(const pg_tables *t, size_t cue) { return pg_
 
 /* A segment stands in one row and what it holds in the rows after it. The siblings of a list of rows are
  *     for (row = rows.first; row < rows.first + rows.count; row += pg_segment_rows(t, row)) */
-static inline pg_kind pg_segment_kind(const pg_tables *t, size_t row) { return (pg_kind)t->segments[8 * row]; }
-static inline size_t pg_segment_rows(const pg_tables *t, size_t row) { return t->segments[8 * row + 1]; }
+static inline pg_kind pg_segment_kind(const pg_tables *t, size_t row) { return (pg_kind)t->segments[6 * row]; }
+static inline size_t pg_segment_rows(const pg_tables *t, size_t row) { return t->segments[6 * row + 1]; }
 
 static inline pg_rows pg_segment_children(const pg_tables *t, size_t row)
 {
@@ -391,12 +385,19 @@ static inline pg_rows pg_segment_children(const pg_tables *t, size_t row)
     return rows;
 }
 
-static inline pg_string pg_segment_text(const pg_tables *t, size_t row) { return pg_string_in(t->texts, t->segments + 8 * row + 2); }
-static inline int64_t pg_segment_time(const pg_tables *t, size_t row) { return t->reveal[row]; }
+static inline pg_string pg_segment_text(const pg_tables *t, size_t row) { return pg_string_in(t->texts, t->segments + 6 * row + 2); }
+
+/* The halves of a 64-bit two's complement, which no cast need make. */
+static inline int64_t pg_segment_time(const pg_tables *t, size_t row)
+{
+    const uint32_t *cells = t->segments + 6 * row;
+    const uint64_t bits = (uint64_t)cells[3] << 32 | cells[2];
+    return bits >> 63 ? -1 - (int64_t)~bits : (int64_t)bits;
+}
 
 static inline pg_color pg_segment_color(const pg_tables *t, size_t row)
 {
-    const uint32_t *cells = t->segments + 8 * row;
+    const uint32_t *cells = t->segments + 6 * row;
     pg_color color;
     color.has = true;
     color.red = (uint8_t)cells[2];
@@ -406,8 +407,22 @@ static inline pg_color pg_segment_color(const pg_tables *t, size_t row)
     return color;
 }
 
-static inline pg_string pg_segment_family(const pg_tables *t, size_t row) { return pg_optional_in(t->strings, t->segments + 8 * row + 2); }
-static inline pg_size pg_segment_size(const pg_tables *t, size_t row) { return pg_size_in(t->segments + 8 * row + 5, t->sizes[row]); }
+/* Cell 4 of a font has the flag of its family and the spelling of its size, cell 5 the bits of the float. */
+static inline pg_string pg_segment_family(const pg_tables *t, size_t row)
+{
+    const uint32_t *cells = t->segments + 6 * row;
+    const uint32_t family[3] = {cells[4] & 1, cells[2], cells[3]};
+    return pg_optional_in(t->strings, family);
+}
+
+static inline pg_size pg_segment_size(const pg_tables *t, size_t row)
+{
+    const uint32_t *cells = t->segments + 6 * row;
+    const uint32_t size[3] = {cells[4] >> 1 & 3, cells[4] >> 7, cells[4] >> 3 & 15};
+    float value;
+    memcpy(&value, cells + 5, sizeof value);
+    return pg_size_in(size, value);
+}
 
 /* The text of a cue, with a line feed for each break: as much of it as there is room for, and no zero byte. How long the whole text is. */
 static inline size_t pg_cue_text(const pg_tables *t, size_t cue, char *out, size_t room)

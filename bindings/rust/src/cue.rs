@@ -171,7 +171,7 @@ impl Segments<'_> {
     /// Adds the text of the rows, whatever they stand in.
     fn add_text(&self, out: &mut String) {
         for row in self.row..self.end {
-            let cells = &self.tables.segments[8 * row..][..8];
+            let cells = &self.tables.segments[6 * row..][..6];
             match cells[0] {
                 1 => out.push_str(self.tables.text(&cells[2..])),
                 2 => out.push('\n'),
@@ -189,23 +189,27 @@ impl<'t> Iterator for Segments<'t> {
             return None;
         }
         let (tables, row) = (self.tables, self.row);
-        let cells = &tables.segments[8 * row..][..8];
+        let cells = &tables.segments[6 * row..][..6];
         self.row += cells[1] as usize;
         let children = Segments { tables, row: row + 1, end: self.row };
         Some(match cells[0] {
             1 => Segment::Text(tables.text(&cells[2..])),
             2 => Segment::Break,
-            3 => Segment::Timestamp(tables.reveal[row]),
+            3 => Segment::Timestamp((u64::from(cells[3]) << 32 | u64::from(cells[2])) as i64),
             4 => Segment::Bold(children),
             5 => Segment::Italic(children),
             6 => Segment::Underline(children),
             7 => Segment::Strike(children),
             8 => Segment::Color { rgb: [2, 3, 4].map(|cell| cells[cell] as u8), children },
-            9 => Segment::Font {
-                family: tables.optional(&cells[2..]),
-                size: style::size(&cells[5..], tables.sizes[row]),
-                children,
-            },
+            9 => {
+                // the flag of the family, and the size's sign, scale and digits
+                let marks = cells[4];
+                Segment::Font {
+                    family: tables.optional(&[marks % 2, cells[2], cells[3]]),
+                    size: style::size(&[marks / 2 % 4, marks / 128, marks / 8 % 16], f32::from_bits(cells[5])),
+                    children,
+                }
+            }
             kind => unreachable!("a track has no segment of kind {kind}"),
         })
     }

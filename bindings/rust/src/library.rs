@@ -40,39 +40,39 @@ macro_rules! calls {
 calls! {
     fn pg_parse(
         text: &[u8], nodes: &mut [u32], attrs: &mut [u32], head: &mut [u32], params: &mut [u32], styles: &mut [u32],
-        regions: &mut [u32], cues: &mut [u32], times: &mut [i64], segments: &mut [u32], reveal: &mut [i64],
-        sizes: &mut [f32], extras: &mut [u32], strings: &mut [u8], texts: &mut [u8]
+        regions: &mut [u32], cues: &mut [u32], times: &mut [i64], segments: &mut [u32], sizes: &mut [f32],
+        extras: &mut [u32], strings: &mut [u8], texts: &mut [u8]
     );
     fn pg_bytes_to_cue(
         text: &[u8], nodes: &mut [u32], attrs: &mut [u32], head: &mut [u32], params: &mut [u32], styles: &mut [u32],
-        regions: &mut [u32], cues: &mut [u32], times: &mut [i64], segments: &mut [u32], reveal: &mut [i64],
-        sizes: &mut [f32], extras: &mut [u32], strings: &mut [u8], texts: &mut [u8]
+        regions: &mut [u32], cues: &mut [u32], times: &mut [i64], segments: &mut [u32], sizes: &mut [f32],
+        extras: &mut [u32], strings: &mut [u8], texts: &mut [u8]
     );
     fn pg_check_track(
         head: &[u32], params: &[u32], styles: &[u32], regions: &[u32], cues: &[u32], times: &[i64], segments: &[u32],
-        reveal: &[i64], sizes: &[f32], extras: &[u32], strings: &[u8], texts: &[u8]
+        sizes: &[f32], extras: &[u32], strings: &[u8], texts: &[u8]
     );
     fn pg_write(
         head: &[u32], params: &[u32], styles: &[u32], regions: &[u32], cues: &[u32], times: &[i64], segments: &[u32],
-        reveal: &[i64], sizes: &[f32], extras: &[u32], strings: &[u8], texts: &[u8], out: &mut [u8]
+        sizes: &[f32], extras: &[u32], strings: &[u8], texts: &[u8], out: &mut [u8]
     );
     fn pg_cue_to_bytes(
         head: &[u32], params: &[u32], styles: &[u32], regions: &[u32], cues: &[u32], times: &[i64], segments: &[u32],
-        reveal: &[i64], sizes: &[f32], extras: &[u32], strings: &[u8], texts: &[u8], index: usize, out: &mut [u8]
+        sizes: &[f32], extras: &[u32], strings: &[u8], texts: &[u8], index: usize, out: &mut [u8]
     );
     fn pg_resolve_referenced_style(
         value: &[u8], head: &[u32], params: &[u32], styles: &[u32], regions: &[u32], cues: &[u32], times: &[i64],
-        segments: &[u32], reveal: &[i64], sizes: &[f32], extras: &[u32], strings: &[u8], texts: &[u8],
-        ids: &mut [u32], out: &mut [u64], size: &mut [f32]
+        segments: &[u32], sizes: &[f32], extras: &[u32], strings: &[u8], texts: &[u8], ids: &mut [u32],
+        out: &mut [u64], size: &mut [f32]
     );
     fn pg_region_style(
         id: &[u8], head: &[u32], params: &[u32], styles: &[u32], regions: &[u32], cues: &[u32], times: &[i64],
-        segments: &[u32], reveal: &[i64], sizes: &[f32], extras: &[u32], strings: &[u8], texts: &[u8],
-        ids: &mut [u32], out: &mut [u64], size: &mut [f32]
+        segments: &[u32], sizes: &[f32], extras: &[u32], strings: &[u8], texts: &[u8], ids: &mut [u32],
+        out: &mut [u64], size: &mut [f32]
     );
     fn pg_effective_style_for_cue_index(
         head: &[u32], params: &[u32], styles: &[u32], regions: &[u32], cues: &[u32], times: &[i64], segments: &[u32],
-        reveal: &[i64], sizes: &[f32], extras: &[u32], strings: &[u8], texts: &[u8], cue_index: usize,
-        ids: &mut [u32], out: &mut [u64], size: &mut [f32]
+        sizes: &[f32], extras: &[u32], strings: &[u8], texts: &[u8], cue_index: usize, ids: &mut [u32],
+        out: &mut [u64], size: &mut [f32]
     );
 }

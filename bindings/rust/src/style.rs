@@ -2,7 +2,7 @@
 
 use crate::Extras;
 use crate::refusal::{Reason, Refusal, told};
-use crate::tables::{SEGMENTS, Tables, part};
+use crate::tables::{Tables, part};
 use std::fmt;
 
 /// What a style says.
@@ -136,7 +136,7 @@ pub(crate) fn head_style<'t>(tables: &'t Tables, row: usize, extras: Extras<'t>)
         color: color(&cells[4..]),
         background: color(&cells[9..]),
         family: tables.optional(&cells[14..]),
-        size: size(&cells[17..], tables.sizes[SEGMENTS + row]),
+        size: size(&cells[17..], tables.sizes[row]),
         bold,
         italic,
         underline,

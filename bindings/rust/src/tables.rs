@@ -5,11 +5,10 @@ use crate::refusal::{Refusal, told};
 use crate::{Cue, Track};
 use std::fmt;
 
-pub(crate) const SEGMENTS: usize = 16_384;
 /// The longest text that is read or written.
 pub(crate) const BYTES: usize = 65_536;
 
-/// The tables that a track is read into: 1,434,664 bytes on the heap, made once and used for one text after the other.
+/// The tables that a track is read into: 1,106,984 bytes on the heap, made once and used for one text after the other.
 ///
 /// A [`Track`] borrows them, so that they cannot be filled again while it is looked at. The fields are for a caller who lays
 /// out a track of his own, as docs/TABLES.md says, and then calls [`check`](Tables::check).
@@ -47,12 +46,10 @@ pub struct Tables {
     pub cues: Box<[u32; 11 * 2_048]>,
     /// Begin and end of each cue, in microseconds.
     pub times: Box<[i64; 2 * 2_048]>,
-    /// Segments: rows of 8.
-    pub segments: Box<[u32; 8 * SEGMENTS]>,
-    /// The times of segments that are timestamps.
-    pub reveal: Box<[i64; SEGMENTS]>,
-    /// Font sizes of segments, then of styles.
-    pub sizes: Box<[f32; SEGMENTS + 256]>,
+    /// Segments: rows of 6.
+    pub segments: Box<[u32; 6 * 16_384]>,
+    /// The font sizes of styles.
+    pub sizes: Box<[f32; 256]>,
     /// Attributes that are kept as they were: rows of 3.
     pub extras: Box<[u32; 3 * 8_192]>,
     /// The bytes of all strings.
@@ -84,13 +81,13 @@ macro_rules! read {
     ($call:ident, $t:expr, $text:expr) => {
         library::$call(
             $text, &mut *$t.nodes, &mut *$t.attrs, &mut *$t.head, &mut *$t.params, &mut *$t.styles, &mut *$t.regions,
-            &mut *$t.cues, &mut *$t.times, &mut *$t.segments, &mut *$t.reveal, &mut *$t.sizes, &mut *$t.extras,
-            &mut *$t.strings, &mut *$t.texts,
+            &mut *$t.cues, &mut *$t.times, &mut *$t.segments, &mut *$t.sizes, &mut *$t.extras, &mut *$t.strings,
+            &mut *$t.texts,
         )
     };
 }
 
-/// Calls with a track's twelve tables, what stands before them and what after.
+/// Calls with a track's eleven tables, what stands before them and what after.
 macro_rules! hand {
     ($call:ident, [$($before:expr),*], $t:expr, [$($after:expr),*]) => {
         $crate::library::$call(
@@ -102,7 +99,6 @@ macro_rules! hand {
             &*$t.cues,
             &*$t.times,
             &*$t.segments,
-            &*$t.reveal,
             &*$t.sizes,
             &*$t.extras,
             &*$t.strings,
@@ -126,7 +122,6 @@ impl Tables {
             cues: cells(),
             times: cells(),
             segments: cells(),
-            reveal: cells(),
             sizes: cells(),
             extras: cells(),
             strings: cells(),

@@ -109,6 +109,40 @@ fn sizes_are_spelled_as_rust_prints_them() {
     }
 }
 
+#[test]
+fn times_and_sizes_are_those_of_their_cells() {
+    let mut tables = Tables::new();
+    tables.head[3] = 1;
+    tables.head[4] = 1;
+    tables.cues[8] = 1;
+    for time in [i64::MIN, -1, 0, 1, (1 << 32) - 1, 1 << 32, i64::MAX] {
+        tables.segments[..4].copy_from_slice(&[3, 1, time as u32, (time >> 32) as u32]);
+        let track = tables.check().unwrap();
+        let Some(Segment::Timestamp(read)) = track.cue(0).unwrap().segments().next() else { panic!("{time}") };
+        assert_eq!(read, time);
+    }
+    // no family and no size; an empty family; zero, and minus zero
+    for (marks, bits, family, size) in [
+        (0, 0, None, None),
+        (1, 0, Some(""), None),
+        (1 << 1, 0, None, Some("0")),
+        (2 << 1, 1 << 31, None, Some("-0")),
+        (1 | 2 << 1 | 2 << 3 | 1225 << 7, (-12.25_f32).to_bits(), Some(""), Some("-12.25")),
+    ] {
+        tables.segments[..6].copy_from_slice(&[9, 1, 0, 0, marks, bits]);
+        let track = tables.check().unwrap();
+        let Some(Segment::Font { family: read, size: spelled, .. }) = track.cue(0).unwrap().segments().next() else {
+            panic!("{marks}")
+        };
+        assert_eq!((read, spelled.map(|size| size.to_string()).as_deref()), (family, size));
+        assert!(spelled.is_none_or(|size| size.value.to_bits() == bits));
+    }
+    for (marks, bits) in [(3 << 1, 0), (2 << 1, 0), (1 << 1 | 1 << 3 | 50 << 7, 5_f32.to_bits())] {
+        tables.segments[..6].copy_from_slice(&[9, 1, 0, 0, marks, bits]);
+        assert_eq!(tables.check().unwrap_err().number(), 17);
+    }
+}
+
 /// A track in words, to compare two.
 fn all(track: Track) -> String {
     format!("{track:?}")

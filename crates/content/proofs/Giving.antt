@@ -12,7 +12,6 @@ use mathlib.Core.Option.{none, some}
 use native.Mathlib.Omega.{arith}
 use native.Mathlib.Nat.{add-zero}
 use lib.IntN.{ℤ}
-use lib.Ieee.{Float}
 use lib.ListN.{length}
 use lib.Seq.{sets}
 use Rattle.decimals.specs.declared.size.Size.{Size}
@@ -22,12 +21,12 @@ use Rattle.track.specs.declared.segments.Segment.{Segment}
 use Rattle.track.specs.Track.{Wrapper, Segments, segmentRows}
 use Rattle.track.specs.Track as track
 use Rattle.track.specs.Meaning.{given}
-use Rattle.track.specs.Layout.{preorder, each, segmentCells, segmentTime, segmentSize}
+use Rattle.track.specs.Layout.{preorder, each, segmentCells}
 use Rattle.track.proofs.SegmentsLaid.{rows-many}
 use Rattle.records.specs.declared.cells.Added.{Added}
 use Rattle.records.specs.Find.{isEmpty}
-use Rattle.records.specs.Posts.{AddPost, TimePost, ValuePost}
-use Rattle.records.specs.Siblings.{joined, Three, Stands, Room, later, Put}
+use Rattle.records.specs.Posts.{AddPost}
+use Rattle.records.specs.Siblings.{joined, Stands, Room, later}
 use Rattle.records.proofs.Beside.{each-append}
 use Rattle.records.proofs.SegmentRows.{joined-done, text-one, break-one}
 use Rattle.records.proofs.Standing.{stands-room, stands-add}
@@ -45,7 +44,7 @@ use Rattle.styling.specs.Posts as posts
 use Rattle.inline.specs.declared.collapse.Collapsed.{Collapsed}
 use Rattle.inline.specs.declared.wrappers.Wrappers.{Wrappers}
 use Rattle.inline.specs.Texts.{edge, Written}
-use Rattle.inline.specs.Wraps.{three, wrappersFrom, stampedIf, Spanned}
+use Rattle.inline.specs.Wraps.{wrappersFrom, stampedIf, Spanned}
 use Rattle.inline.specs.Stood.{spanIn, spansIn, textsIn, Laid}
 use Rattle.inline.proofs.TrimSegments.{order-trimmed}
 use Rattle.inline.proofs.TrimStands.{trim-stands}
@@ -78,30 +77,26 @@ module _ (sg : Segment) (h : Segments Placed) (one : preorder (spansIn h) ≡ re
   one-row = sym (rows-spans h) ∙ sym (rows-many (spansIn h)) ∙ ap length one
 
   -- the segments are changed by ψ first, then the row is added
-  pub add-given : (place first n hi hi′ : ℕ) (flag : Bool) (ψ : Segments Placed → Segments Placed) (s s₁ s′ : Three) (y y′ : List ℕ) → Wide s₁
+  pub add-given : (place first n hi hi′ : ℕ) (flag : Bool) (ψ : Segments Placed → Segments Placed) (s s₁ s′ y y′ : List ℕ) → Wide s₁
       → ((w : Frame) (f : Segments Placed) → Standing w hi first n f s y
       → Stands (w .pre) (later (n - first) (w .rest)) first n (spansIn (ψ f)) s₁ × Laid (joined (ψ f) h) [] (w .base) y′ (w .lo) hi′)
-      → (a : Added) → AddPost 16384 8 (segmentCells sg 1) (s₁ .cells) (s′ .cells) n a → TimePost n (segmentTime sg) (s₁ .times) (s′ .times) a
-      → ValuePost n (segmentSize sg) (s₁ .floats) (s′ .floats) a
+      → (a : Added) → AddPost 16384 6 (segmentCells sg 1) s₁ s′ n a
       → Given place first n hi hi′ flag (λ f. joined (ψ f) h) s y s′ y′ (addedIn a flag place)
-  add-given place first n hi hi′ flag ψ s s₁ s′ y y′ wide at (Added.Next m) a b c = (
+  add-given place first n hi hi′ flag ψ s s₁ s′ y y′ wide at (Added.Next m) a = (
     omega (arith, a .0, a .1),
     refl,
     λ w f x.
         let r = at w f x in
         let rest = later (n - first) (w .rest) in
-        let room : Room 1 rest =
-        stands-room (w .pre) rest first n (spansIn (ψ f)) s₁ (r .0) 1 (omega (arith, a .0, wide .in-cells)) (omega (arith, a .0, wide .in-times))
-        (omega (arith, a .0, wide .in-floats)) in
-        let put : Put n 1 sg s₁ s′ = record { in-cells = a .2; in-times = b; in-floats = c } in
+        let room : Room 1 rest = stands-room (w .pre) rest first n (spansIn (ψ f)) s₁ (r .0) 1 (omega (arith, a .0)) in
         let st : Stands (w .pre) (later 1 rest) first (n + 1) (joined (spansIn (ψ f)) (spansIn h)) s′ =
-        stands-add (w .pre) rest first n (spansIn (ψ f)) s₁ (r .0) s′ (spansIn h) (record { segment = sg; rows = 1 }) one room put in
+        stands-add (w .pre) rest first n (spansIn (ψ f)) s₁ (r .0) s′ (spansIn h) (record { segment = sg; rows = 1 }) one room (a .2) in
         record {
           rows = rw (later-one first n m (w .rest) (omega (arith, r .0 .count)) (a .1), spans-joined (ψ f) h, ← (a .1)) at st;
           texts = r .1;
         },
   )
-  add-given place first n hi hi′ flag ψ s s₁ s′ y y′ wide at Added.Full a b c = (
+  add-given place first n hi hi′ flag ψ s s₁ s′ y y′ wide at Added.Full a = (
     refl,
     refl,
     λ w f x.
@@ -131,7 +126,7 @@ unfolding textIn
 text-is collapse before p b = rw (add-zero p)
 text-is preserve before p b = refl
 
-module _ (sp : Space) (before : Before) (p m : ℕ) (b : List ℕ) (place first n hi : ℕ) (s : Three) (y y′ : List ℕ) (c : Collapsed) where
+module _ (sp : Space) (before : Before) (p m : ℕ) (b : List ℕ) (place first n hi : ℕ) (s y y′ : List ℕ) (c : Collapsed) where
   abbrev whole : Placed
   whole = record { place = p; bytes = b }
 
@@ -139,7 +134,7 @@ module _ (sp : Space) (before : Before) (p m : ℕ) (b : List ℕ) (place first 
   left = textIn withPlaces sp before whole .bytes
 
   module _ (low : hi ≤ p) (room : p + m ≤ length y) (short : length b ≤ m) (wr : Written left b before p y y′ c) where
-    abbrev gives : (s′ : Three) → Collecting → Type 0
+    abbrev gives : (s′ : List ℕ) → Collecting → Type 0
     gives s′ r =
         Given place first n hi (p + m) (edge (lastOf before b)) (λ f. joined f (textSegment withPlaces
             (textIn withPlaces sp before whole))) s y s′ y′ r
@@ -151,12 +146,11 @@ module _ (sp : Space) (before : Before) (p m : ℕ) (b : List ℕ) (place first 
         let segment : textSegment withPlaces (textIn withPlaces sp before whole) ≡ track.done = rw none in
         (few, wr .flag, λ w f x. rw (same, segment, joined-done f) (standing-higher x (p + m) (omega arith) room))
 
-    pub text-some : (c .len ≡ 0 → ⊥) → (s′ : Three) → Wide s → (a : Added)
+    pub text-some : (c .len ≡ 0 → ⊥) → (s′ : List ℕ) → Wide s → (a : Added)
         → let sg : Segment = Segment.Text (record { place = p; len = c .len }) in
-        AddPost 16384 8 (segmentCells sg 1) (s .cells) (s′ .cells) n a → TimePost n (segmentTime sg) (s .times) (s′ .times) a
-        → ValuePost n (segmentSize sg) (s .floats) (s′ .floats) a → gives s′ (addedIn a (c .boundary) place)
+        AddPost 16384 6 (segmentCells sg 1) s s′ n a → gives s′ (addedIn a (c .boundary) place)
     unfolding segmentsBy
-    text-some e s′ wide a u v r =
+    text-some e s′ wide a u =
         let some : isEmpty left ≡ false = some-of left (λ h. e (wr .long ∙ h)) in
         let x : Placed = record { place = p; bytes = left } in
         let segment : textSegment withPlaces (textIn withPlaces sp before whole) ≡ track.text x track.done = rw some (rw (text-is sp before p b)) in
@@ -166,48 +160,41 @@ module _ (sp : Space) (before : Before) (p m : ℕ) (b : List ℕ) (place first 
         let short′ : length left ≤ m = omega (arith, wr .long, wr .within) in
         rw (segment, ← (wr .flag))
         (add-given (Segment.Text (record { place = p; len = c .len })) (track.text x track.done) one place first n hi (p + m) (c .boundary)
-        (λ f. f) s s s′
-        y y′ wide (λ w f h. (h .rows, rw (wr .laid) (laid-text (h .texts) p m left low short′ room))) a u v r)
+        (λ f. f) s s s′ y y′ wide (λ w f h. (h .rows, rw (wr .laid) (laid-text (h .texts) p m left low short′ room))) a u)
 
 -- ---- a break
 
-pub ended-standing : (ws : WsMode) (hi first n : ℕ) (t t′ : List ℕ) (u : List ℤ) (v : List Float) (y y′ : List ℕ) → Ends ws first n t y t′ y′
-    → (w : Frame) (f : Segments Placed) → Standing w hi first n f (three t u v) y
-    → Standing w hi first n (ended withPlaces (spaceIn ws) f) (three t′ u v) y′
-ended-standing WsMode.Collapse hi first n t t′ u v y y′ e w f h =
+pub ended-standing : (ws : WsMode) (hi first n : ℕ) (t t′ y y′ : List ℕ) → Ends ws first n t y t′ y′
+    → (w : Frame) (f : Segments Placed) → Standing w hi first n f t y → Standing w hi first n (ended withPlaces (spaceIn ws) f) t′ y′
+ended-standing WsMode.Collapse hi first n t t′ y y′ e w f h =
     let rest = later (n - first) (w .rest) in
-    let r = e .1 (w .pre .cells) (rest .cells) f [] (w .base) (w .lo) hi (h .rows .before .0) (h .rows .in-cells) (h .rows .count) (h .texts) in
+    let r = e .1 (w .pre) rest f [] (w .base) (w .lo) hi (h .rows .before) (h .rows .in-cells) (h .rows .count) (h .texts) in
     let o = order-trimmed f (w .lo) hi (ordered-of (textsIn f) (w .lo) hi (laid-order (h .texts))) in
     record {
-      rows = trim-stands (w .pre) rest first n f (three t u v) (h .rows) [] (w .base) y t′ y′ (w .lo) hi (e .0) (h .texts) (e .1);
+      rows = trim-stands (w .pre) rest first n f t (h .rows) [] (w .base) y t′ y′ (w .lo) hi (e .0) (h .texts) (e .1);
       texts = laid-of (r .1 ∙ ap (lay (w .base)) (append-nil (textsIn (trimmedSpace withPlaces f))))
           (in-turn-of (textsIn (trimmedSpace withPlaces f)) (w .lo) hi o) (h .texts .room) (h .texts .blank);
     }
-ended-standing WsMode.Preserve hi first n t t′ u v y y′ e w f h = rw (e .0, e .1) h
+ended-standing WsMode.Preserve hi first n t t′ y y′ e w f h = rw (e .0, e .1) h
 
 break-texts : (f : Segments Placed) → textsIn (joined f (track.break track.done)) ≡ textsIn f
 unfolding textsIn
 break-texts f = texts-joined f (track.break track.done) ∙ append-nil (textsIn f)
 
-pub break-given : (ws : WsMode) (place hi first n : ℕ) (t t₁ : List ℕ) (u : List ℤ) (v : List Float) (s′ : Three) (y y′ : List ℕ)
-    → Ends ws first n t y t₁ y′ → Wide (three t₁ u v) → (a : Added)
-    → AddPost 16384 8 (segmentCells Segment.Break 1) t₁ (s′ .cells) n a → TimePost n (segmentTime Segment.Break) u (s′ .times) a
-    → ValuePost n (segmentSize Segment.Break) v (s′ .floats) a
-    → Given place first n hi hi true (λ f. joined (ended withPlaces (spaceIn ws) f) (track.break track.done)) (three t u v) y s′ y′
-        (addedIn a true place)
+pub break-given : (ws : WsMode) (place hi first n : ℕ) (t t₁ t′ y y′ : List ℕ) → Ends ws first n t y t₁ y′ → Wide t₁ → (a : Added)
+    → AddPost 16384 6 (segmentCells Segment.Break 1) t₁ t′ n a
+    → Given place first n hi hi true (λ f. joined (ended withPlaces (spaceIn ws) f) (track.break track.done)) t y t′ y′ (addedIn a true place)
 unfolding segmentsBy
-break-given ws place hi first n t t₁ u v s′ y y′ e wide a b c d =
-    add-given Segment.Break (track.break track.done) break-one place first n hi hi true (λ f. ended withPlaces (spaceIn ws) f) (three t u v)
-        (three t₁ u v)
-    s′ y y′ wide
+break-given ws place hi first n t t₁ t′ y y′ e wide a b =
+    add-given Segment.Break (track.break track.done) break-one place first n hi hi true (λ f. ended withPlaces (spaceIn ws) f) t t₁ t′ y y′ wide
     (λ w f h.
-    let g = ended-standing ws hi first n t t₁ u v y y′ e w f h in
+    let g = ended-standing ws hi first n t t₁ y y′ e w f h in
     (g .rows, laid-same (break-texts (ended withPlaces (spaceIn ws) f)) (g .texts)))
-    a b c d
+    a b
 
 -- ---- a span
 
-pub span-given : (ws : List (Wrapper Placed)) (place first n hi : ℕ) (flag stamp : Bool) (z : ℤ) (s s′ : Three) (y : List ℕ) (a : Added)
+pub span-given : (ws : List (Wrapper Placed)) (place first n hi : ℕ) (flag stamp : Bool) (z : ℤ) (s s′ y : List ℕ) (a : Added)
     → Spanned first n stamp z (wrappersBy ws) s s′ a
     → Given place first n hi hi flag (λ c. stampedIf stamp z (spanOf ws c)) s y s′ y (addedIn a flag place)
 span-given ws place first n hi flag stamp z s s′ y (Added.Next m) h = (

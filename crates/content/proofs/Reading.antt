@@ -14,7 +14,6 @@ use mathlib.Core.List.{List, [], _++_}
 use mathlib.Core.Option.{Option, none, some}
 use native.Mathlib.Omega.{arith}
 use lib.IntN.{ℤ}
-use lib.Ieee.{Float}
 use lib.ListN.{length, getD}
 use lib.Dec.{eqb}
 use borrow.Author.Tests.{eqb-true, le-leb, lt-leb}
@@ -28,7 +27,7 @@ use Rattle.tree.proofs.Places.{in-lower, in-whole}
 use Rattle.track.specs.Track.{Wrapper, Segments, segmentRows}
 use Rattle.track.specs.Track as track
 use Rattle.track.specs.Layout.{isSome}
-use Rattle.records.specs.Siblings.{joined, Three, later}
+use Rattle.records.specs.Siblings.{joined, later}
 use Rattle.xml.specs.declared.find.Element.{Element}
 use Rattle.xml.specs.Find.{named, Holds, isElement, HasRow, elementRow, TextAt}
 use Rattle.xml.specs.Reading.{Placed}
@@ -49,7 +48,7 @@ use Rattle.styling.specs.declared.space.WsMode.{WsMode}
 use Rattle.styling.specs.Posts.{HasRows, OfRows, spaceIn}
 use Rattle.inline.specs.Texts.{edge}
 use Rattle.inline.specs.Trims.{Ready}
-use Rattle.inline.specs.Wraps.{three, stampedIf}
+use Rattle.inline.specs.Wraps.{stampedIf}
 use Rattle.inline.proofs.Spanning.{stamped-if}
 use Rattle.inline.proofs.TrimStands.{rows-ready}
 use Rattle.content.specs.declared.collect.Run.{Run}
@@ -173,8 +172,8 @@ module _ (w : Frame) (t u z : List ℕ) (base : ℤ) (ctx : TimingCtx) (ws : WsM
   abbrev means : (first : ℕ) → Before → Segments Placed → Nodes Placed → Answer (Segments Placed)
   means first before earlier f = segmentsIn withPlaces ctx base (spaceIn ws) before first earlier f
 
-  pub given-came : (next end first n hi hi′ place : ℕ) (flag : Bool) (φ : Segments Placed → Segments Placed) (s : Three) (y : List ℕ) (s′ : Three)
-      (y′ : List ℕ) (earlier : Segments Placed) (before : Before) (own : ℕ) (f : Forest) (m : Answer (Segments Placed)) (v : Before)
+  pub given-came : (next end first n hi hi′ place : ℕ) (flag : Bool) (φ : Segments Placed → Segments Placed) (s y s′ y′ : List ℕ)
+      (earlier : Segments Placed) (before : Before) (own : ℕ) (f : Forest) (m : Answer (Segments Placed)) (v : Before)
       → Holds t u z next own f → next + size f ≡ end → InOrder hi′ (spans f) (w .limit) → Standing w hi first n earlier s y → flag ≡ edge before
       → m ≡ (counted place first (φ earlier) >>= λ g. means first before g (nodesIn z f)) → v ≡ after withPlaces before (nodesIn z f)
       → (r : Collecting) → Given place first n hi hi′ flag φ s y s′ y′ r → Outcome w t u z next end first base ctx ws s′ y′ m v r
@@ -202,8 +201,8 @@ module _ (w : Frame) (t u z : List ℕ) (base : ℤ) (ctx : TimingCtx) (ws : WsM
       rw (g .0, g .1) (me ∙ bind-no _ (counted-no place first (φ earlier) (g .2 w earlier st)))
 
   -- ---- a text or a section
-  leaf-came : (kind k own end first hi at p m : ℕ) (run : Run) (g : Forest) (earlier : Segments Placed) (before : Before) (s : Three) (y : List ℕ)
-      (s′ : Three) (y′ : List ℕ) (r : Collecting) → TextAt t u z kind k own p m g → k + 1 + size g ≡ end → hi ≤ p
+  leaf-came : (kind k own end first hi at p m : ℕ) (run : Run) (g : Forest) (earlier : Segments Placed) (before : Before) (s y s′ y′ : List ℕ)
+      (r : Collecting) → TextAt t u z kind k own p m g → k + 1 + size g ≡ end → hi ≤ p
       → InOrder (p + m) (spans g) (w .limit)
       → Standing w hi first (run .rows) earlier s y → run .boundary ≡ edge before → nodePlace t k ≡ at → TextGiven t z k ws run s y s′ y′ r
       → let f : Nodes Placed = text at (record { place = p; bytes = stringAt z p m }) (nodesIn z g) in
@@ -218,20 +217,20 @@ module _ (w : Frame) (t u z : List ℕ) (base : ℤ) (ctx : TimingCtx) (ws : WsM
       (a .later) e o st refl (inside-text withPlaces ctx base (spaceIn ws) before first earlier at x (nodesIn z g))
       (after-text withPlaces before at x (nodesIn z g)) r given)
 
-  module _ (k own end first hi : ℕ) (run : Run) (earlier : Segments Placed) (before : Before) (s : Three) (y : List ℕ) where
+  module _ (k own end first hi : ℕ) (run : Run) (earlier : Segments Placed) (before : Before) (s y : List ℕ) where
     -- what is known of a node's entry
     abbrev Facts : Forest → Type 0
     Facts f =
         Holds t u z k own f × (k + size f ≡ end) × InOrder hi (spans f) (w .limit) × Standing w hi first (run .rows) earlier s y
         × (run .boundary ≡ edge before)
 
-    abbrev Result : Forest → (s′ : Three) → List ℕ → Collecting → Type 0
+    abbrev Result : Forest → (s′ y′ : List ℕ) → Collecting → Type 0
     Result f s′ y′ r =
         Outcome w t u z (getD t (k * 6 + 1) 0) end first base ctx ws s′ y′ (means first before earlier (nodesIn z f)) (after withPlaces before
             (nodesIn z f))
         r
 
-    module _ (s′ : Three) (y′ : List ℕ) (r : Collecting) where
+    module _ (s′ y′ : List ℕ) (r : Collecting) where
       pub text-came : (f : Forest) → Facts f → k < end → (getD t (k * 6) 0 ≡ 2 → ⊥) → TextGiven t z k ws run s y s′ y′ r → Result f s′ y′ r
       unfolding nodesIn size spans
       text-came placed.nil x j ne tg = absurd (omega (arith, x .1))
@@ -268,7 +267,7 @@ module _ (w : Frame) (t u z : List ℕ) (base : ℤ) (ctx : TimingCtx) (ws : WsM
 
 -- ---- a list of siblings that is read to its end
 
-pub record Ended (w : Frame) (first : ℕ) (s : Three) (y : List ℕ) (m : Answer (Segments Placed)) (v : Before) (r : Run) : Type 0 where
+pub record Ended (w : Frame) (first : ℕ) (s y : List ℕ) (m : Answer (Segments Placed)) (v : Before) (r : Run) : Type 0 where
   pub few : r .rows ≤ 16384
   pub segments : Segments Placed
   pub means : m ≡ is segments
@@ -277,7 +276,7 @@ pub record Ended (w : Frame) (first : ℕ) (s : Three) (y : List ℕ) (m : Answe
   pub standing : Standing w hi first (r .rows) segments s y
   pub flag : r .boundary ≡ edge v
 
-pub came-end : {w : Frame} {t u z : List ℕ} {end first : ℕ} {base : ℤ} {ctx : TimingCtx} {ws : WsMode} {s : Three} {y : List ℕ}
+pub came-end : {w : Frame} {t u z : List ℕ} {end first : ℕ} {base : ℤ} {ctx : TimingCtx} {ws : WsMode} {s y : List ℕ}
     {m : Answer (Segments Placed)} {v : Before} {r : Run} → Came w t u z end end first base ctx ws s y m v r → Ended w first s y m v r
 unfolding nodesIn spans after
 came-end {w} {t} {u} {z} {end} {first} {base} {ctx} {ws} {s} {y} {m} {v} {r} c =
@@ -298,7 +297,7 @@ came-end {w} {t} {u} {z} {end} {first} {base} {ctx} {ws} {s} {y} {m} {v} {r} c =
 
 -- ---- elements with a list of their own
 
-module _ {w : Frame} {t u z : List ℕ} (k own end first hi : ℕ) (run : Run) (earlier : Segments Placed) (before : Before) (s : Three) (y : List ℕ)
+module _ {w : Frame} {t u z : List ℕ} (k own end first hi : ℕ) (run : Run) (earlier : Segments Placed) (before : Before) (s y : List ℕ)
     (p m : ℕ) (l : List placed.Attr) (c g : Forest) (h : Holds t u z k own (placed.elem p m l c g)) (e : k + size (placed.elem p m l c g) ≡ end)
     (o : InOrder hi (spans (placed.elem p m l c g)) (w .limit)) (st : Standing w hi first (run .rows) earlier s y)
     (fl : run .boundary ≡ edge before) where
@@ -327,7 +326,7 @@ module _ {w : Frame} {t u z : List ℕ} (k own end first hi : ℕ) (run : Run) (
   behind-it = after withPlaces before (nodesIn z c)
 
   -- what stands after it, where its content came to an end and φ of that stands there now
-  came : (base : ℤ) (ctx : TimingCtx) (ws : WsMode) (hi′ : ℕ) (f : Segments Placed) (s′ : Three) (y′ : List ℕ) (r : Run) → r .rows ≤ 16384
+  came : (base : ℤ) (ctx : TimingCtx) (ws : WsMode) (hi′ : ℕ) (f : Segments Placed) (s′ y′ : List ℕ) (r : Run) → r .rows ≤ 16384
       → hi′ ≤ parts .mid → run .rows ≤ r .rows → Standing inner hi′ (run .rows) (r .rows) f s′ y′ → r .boundary ≡ edge behind-it
       → (m : Answer (Segments Placed)) (v : Before)
       → m ≡ segmentsIn withPlaces ctx base (spaceIn ws) behind-it first (joined earlier f) (nodesIn z g)
@@ -365,7 +364,7 @@ module _ {w : Frame} {t u z : List ℕ} (k own end first hi : ℕ) (run : Run) (
     abbrev all : Answer (Segments Placed)
     all = segmentsIn withPlaces ctx base (spaceIn ws) before first earlier node
 
-    abbrev ItsOutcome : Three → List ℕ → Collecting → Type 0
+    abbrev ItsOutcome : (s′ y′ : List ℕ) → Collecting → Type 0
     ItsOutcome s′ y′ r = Outcome w t u z (k + 1 + size c) end first base ctx ws s′ y′ all (after withPlaces before node) r
 
     -- what its content means
@@ -374,7 +373,7 @@ module _ {w : Frame} {t u z : List ℕ} (k own end first hi : ℕ) (run : Run) (
     at-count from mode m e = ap (λ v. segmentsIn withPlaces ctx from (spaceIn mode) before v track.done (nodesIn z c)) count ∙ e
 
     -- ---- an unknown element
-    unknown-elem : inlineOf withPlaces name ≡ unknown → (s′ : Three) (y′ : List ℕ) (r : Collecting)
+    unknown-elem : inlineOf withPlaces name ≡ unknown → (s′ y′ : List ℕ) (r : Collecting)
         → Outcome inner t u z (k + 1 + size c) (k + 1 + size c) (run .rows) base ctx ws s′ y′ (meant inside base ctx ws) (behind inside) r
             → ItsOutcome s′ y′ r
     unknown-elem i s′ y′ (Collecting.Is r) a =
@@ -431,8 +430,8 @@ module _ {w : Frame} {t u z : List ℕ} (k own end first hi : ℕ) (run : Run) (
         refused-inside : (q : Refusal) → meant inside (b .time) ctx mode ≡ refused (q .number) (q .place) → all ≡ refused (q .number) (q .place)
         refused-inside q x = begun-is ∙ bind-no wrap-on (content-is (refused (q .number) (q .place)) x)
 
-        module _ (s′ : Three) (y′ : List ℕ) (d′ : Run)
-            (d : Ended inner (run .rows) s′ y′ (meant inside (b .time) ctx mode) (behind inside) d′) (s″ : Three) where
+        module _ (s′ y′ : List ℕ) (d′ : Run)
+            (d : Ended inner (run .rows) s′ y′ (meant inside (b .time) ctx mode) (behind inside) d′) (s″ : List ℕ) where
           read-is : all ≡ wrap-on (d .segments)
           read-is = begun-is ∙ bind-is wrap-on (content-is (is (d .segments)) (d .means))
 
@@ -465,16 +464,16 @@ module _ {w : Frame} {t u z : List ℕ} (k own end first hi : ℕ) (run : Run) (
 -- ---- the same of a node's entry
 
 module _ (w : Frame) (t u z : List ℕ) (base : ℤ) (ctx : TimingCtx) (ws : WsMode) (k own end first hi : ℕ) (run : Run) (earlier : Segments Placed)
-    (before : Before) (s : Three) (y : List ℕ) (j : k < end) (e : Element) (row : e ≡ elementRow t k) (nb : isElement t z
+    (before : Before) (s y : List ℕ) (j : k < end) (e : Element) (row : e ≡ elementRow t k) (nb : isElement t z
     (ascii "br") k ≡ false) where
   abbrev FactsOf : Forest → Type 0
   FactsOf f = Facts w t u z base ctx ws k own end first hi run earlier before s y f
 
-  abbrev ResultOf : Forest → (s′ : Three) → List ℕ → Collecting → Type 0
+  abbrev ResultOf : Forest → (s′ y′ : List ℕ) → Collecting → Type 0
   ResultOf f s′ y′ r = Result w t u z base ctx ws k own end first hi run earlier before s y f s′ y′ r
 
   pub unknown-came : (f : Forest) → FactsOf f → getD t (k * 6) 0 ≡ 2 → isElement t z (ascii "span") k ≡ false
-      → (s′ : Three) (y′ : List ℕ) (r : Collecting)
+      → (s′ y′ : List ℕ) (r : Collecting)
       → Post t u z (k + 1) (e .end) run base ctx ws s y s′ y′ r → ResultOf f s′ y′ r
   unfolding nodesIn size
   unknown-came placed.nil x kind ns s′ y′ r post = absurd (omega (arith, x .1))
@@ -510,7 +509,7 @@ module _ (w : Frame) (t u z : List ℕ) (base : ℤ) (ctx : TimingCtx) (ws : WsM
         refused-begin k own end first hi run earlier before s y p m l c g (x .0) (x .1) (x .2) (x .3) (x .4) base ctx ws i q (b′ l (a .owned))
 
     module _ (b : Begin) (begins : BeginsWith (Beginning.Is b)) (mode : WsMode)
-        (modes : OfRows u z (e .first) (e .many) (λ l. spaceIn mode ≡ spaceOf withPlaces (spaceIn ws) l)) (s′ : Three) (y′ : List ℕ) where
+        (modes : OfRows u z (e .first) (e .many) (λ l. spaceIn mode ≡ spaceOf withPlaces (spaceIn ws) l)) (s′ y′ : List ℕ) where
       pub span-inside : (f : Forest) → FactsOf f → (q : Refusal) → Post t u z (k + 1) (e .end) run (b .time) ctx mode s y s′ y′ (Collecting.Refused q)
           → MeansNo f q
       unfolding nodesIn size
@@ -531,7 +530,7 @@ module _ (w : Frame) (t u z : List ℕ) (base : ℤ) (ctx : TimingCtx) (ws : WsM
           (inside k own end first hi run earlier before s y p m l c g (x .0) (x .1) (x .2) (x .3) (x .4)))
 
       pub span-came : (f : Forest) → FactsOf f → (d : Run) → Post t u z (k + 1) (e .end) run (b .time) ctx mode s y s′ y′ (Collecting.Is d)
-          → (s″ : Three) (r : Collecting)
+          → (s″ : List ℕ) (r : Collecting)
           → OfRows u z (e .first) (e .many) (λ l. (v : List ℕ)
           → SpanGiven (wrappersOf withPlaces l) (e .place) (run .rows) (d .rows) (d .boundary) (b .has) (b .time) s′ v s″ r)
           → ResultOf f s″ y′ r
@@ -557,7 +556,7 @@ module _ (w : Frame) (t u z : List ℕ) (base : ℤ) (ctx : TimingCtx) (ws : WsM
 
 -- ---- what a node's entry says of its row
 
-module _ {w : Frame} {t u z : List ℕ} {k end first n : ℕ} {boundary : Bool} {s : Three} {y : List ℕ} (x : Entry w t u z k end first n boundary s y)
+module _ {w : Frame} {t u z : List ℕ} {k end first n : ℕ} {boundary : Bool} {s y : List ℕ} (x : Entry w t u z k end first n boundary s y)
     (j : k < end) where
   pub node-row : HasRow t z k
   node-row = has-row (siblings-of (x .holds)) (omega (arith, x .rows))
@@ -570,7 +569,7 @@ row-end t u z k own end (placed.text p m g) h e j = let q = holds-text h .row .e
 row-end t u z k own end (placed.section p m g) h e j = let q = holds-section h .row .end-is in (omega (arith, q), omega (arith, q))
 row-end t u z k own end (placed.elem p m l c g) h e j = let q = holds-elem h .row .end-is in (omega (arith, q), omega (arith, q))
 
-pub node-end : {w : Frame} {t u z : List ℕ} {k end first n : ℕ} {boundary : Bool} {s : Three} {y : List ℕ}
+pub node-end : {w : Frame} {t u z : List ℕ} {k end first n : ℕ} {boundary : Bool} {s y : List ℕ}
     → Entry w t u z k end first n boundary s y → k < end → (k < getD t (k * 6 + 1) 0) × (getD t (k * 6 + 1) 0 ≤ end)
 node-end {w} {t} {u} {z} {k} {end} x j = row-end t u z k (x .own) end (x .forest) (x .holds) (x .rows) j
 
@@ -582,17 +581,16 @@ text-within t u z k own end (placed.text p m g) h e j ne = let a = holds-text h 
 text-within t u z k own end (placed.section p m g) h e j ne = let a = holds-section h in rw (a .row .place-is, a .row .len-is) (a .within)
 text-within t u z k own end (placed.elem p m l c g) h e j ne = absurd (ne (holds-elem h .row .kind-is))
 
-pub text-asks : {w : Frame} {t u z : List ℕ} {k end first n : ℕ} {boundary : Bool} {s : Three} {y : List ℕ}
+pub text-asks : {w : Frame} {t u z : List ℕ} {k end first n : ℕ} {boundary : Bool} {s y : List ℕ}
     → Entry w t u z k end first n boundary s y → k < end → (getD t (k * 6) 0 ≡ 2 → ⊥) → getD t (k * 6 + 2) 0 + getD t (k * 6 + 3) 0 ≤ length z
 text-asks {w} {t} {u} {z} {k} {end} x j ne = text-within t u z k (x .own) end (x .forest) (x .holds) (x .rows) j ne
 
-pub break-asks : {w : Frame} {hi first n : ℕ} {f : Segments Placed} {s : Three} {y : List ℕ} → Standing w hi first n f s y
-    → (first ≤ n) × Ready (s .cells) y first n
+pub break-asks : {w : Frame} {hi first n : ℕ} {f : Segments Placed} {s y : List ℕ} → Standing w hi first n f s y
+    → (first ≤ n) × Ready s y first n
 break-asks {w} {hi} {first} {n} {f} {s} {y} h = (
   omega (arith, standing-count h),
-  rows-ready (w .pre .cells) (later (n - first) (w .rest) .cells) (s .cells) y first n f [] (w .base) (w .lo) hi (h .rows .before .0)
-      (h .rows .in-cells)
-      (h .rows .count) (h .texts),
+  rows-ready (w .pre) (later (n - first) (w .rest)) s y first n f [] (w .base) (w .lo) hi (h .rows .before) (h .rows .in-cells) (h .rows .count)
+      (h .texts),
 )
 
 own-attrs : (t u z : List ℕ) (k own end : ℕ) (f : Forest) → Holds t u z k own f → k + size f ≡ end → k < end → getD t (k * 6) 0 ≡ 2
@@ -603,13 +601,13 @@ own-attrs t u z k own end (placed.text p m g) h e j kind = absurd (omega (arith,
 own-attrs t u z k own end (placed.section p m g) h e j kind = absurd (omega (arith, kind, holds-section h .row .kind-is))
 own-attrs t u z k own end (placed.elem p m l c g) h e j kind = let a = holds-elem h in rw (a .cells) (l, a .owned)
 
-pub node-attrs : {t u z : List ℕ} {k first : ℕ} {run : Run} {s : Three} {y : List ℕ} (e : Element) → AsksNode t u z k first run s y
+pub node-attrs : {t u z : List ℕ} {k first : ℕ} {run : Run} {s y : List ℕ} (e : Element) → AsksNode t u z k first run s y
     → getD t (k * 6) 0 ≡ 2 → e ≡ elementRow t k → HasRows u z (e .first) (e .many)
 node-attrs {t} {u} {z} {k} e a kind row =
     let x = a .entry in
     rw row (own-attrs t u z k (x .own) (a .end) (x .forest) (x .holds) (x .rows) (a .some) kind)
 
-inner-asks : (t u z : List ℕ) (w : Frame) (k own end first hi : ℕ) (run : Run) (earlier : Segments Placed) (before : Before) (s : Three) (y : List ℕ)
+inner-asks : (t u z : List ℕ) (w : Frame) (k own end first hi : ℕ) (run : Run) (earlier : Segments Placed) (before : Before) (s y : List ℕ)
     (f : Forest) → Holds t u z k own f → k + size f ≡ end → InOrder hi (spans f) (w .limit) → Standing w hi first (run .rows) earlier s y
     → run .boundary ≡ edge before → k < end → getD t (k * 6) 0 ≡ 2 → Roomy z s y → run .rows ≤ 16384
     → Asks t u z (k + 1) (elementRow t k .end) run s y
@@ -631,7 +629,7 @@ pub element-end : (t : List ℕ) (k : ℕ) (e : Element) → e ≡ elementRow t 
 unfolding elementRow
 element-end t k e row = ap (λ (v : Element). v .end) row
 
-pub own-asks : {t u z : List ℕ} {k first : ℕ} {run : Run} {s : Three} {y : List ℕ} (e : Element) → AsksNode t u z k first run s y
+pub own-asks : {t u z : List ℕ} {k first : ℕ} {run : Run} {s y : List ℕ} (e : Element) → AsksNode t u z k first run s y
     → getD t (k * 6) 0 ≡ 2 → e ≡ elementRow t k → Asks t u z (k + 1) (e .end) run s y
 own-asks {t} {u} {z} {k} {first} {run} {s} {y} e a kind row =
     let x = a .entry in
@@ -640,9 +638,8 @@ own-asks {t} {u} {z} {k} {first} {run} {s} {y} e a kind row =
     (x .standing) (x .flag) (a .some) kind (a .roomy) (a .few))
 
 -- rows are added, not too many
-pub post-more : {t u z : List ℕ} {from end : ℕ} {run : Run} {base : ℤ} {ctx : TimingCtx} {ws : WsMode} {s : Three} {y : List ℕ} {s′ : Three} {y′
-    : List ℕ}
-    (d : Run) → Asks t u z from end run s y → Post t u z from end run base ctx ws s y s′ y′ (Collecting.Is d)
+pub post-more : {t u z : List ℕ} {from end : ℕ} {run : Run} {base : ℤ} {ctx : TimingCtx} {ws : WsMode} {s y s′ y′ : List ℕ} (d : Run)
+    → Asks t u z from end run s y → Post t u z from end run base ctx ws s y s′ y′ (Collecting.Is d)
     → (run .rows ≤ d .rows) × (d .rows ≤ 16384)
 post-more d a post =
     let x = came-end (post (a .frame) (a .entry)) in
@@ -651,44 +648,33 @@ post-more d a post =
 -- ---- the loop over siblings
 
 -- the siblings up to row k are read
-pub record Along (t u z : List ℕ) (from end : ℕ) (run₀ : Run) (base : ℤ) (ctx : TimingCtx) (ws : WsMode) (s₀ : Three) (y₀ : List ℕ) (k : ℕ)
-    (run : Run)
-    (s : Three) (y : List ℕ) : Type 0 where
+pub record Along (t u z : List ℕ) (from end : ℕ) (run₀ : Run) (base : ℤ) (ctx : TimingCtx) (ws : WsMode) (s₀ y₀ : List ℕ) (k : ℕ) (run : Run)
+    (s y : List ℕ) : Type 0 where
   pub low : from ≤ k
-  pub same-cells : length (s .cells) ≡ length (s₀ .cells)
-  pub same-times : length (s .times) ≡ length (s₀ .times)
-  pub same-floats : length (s .floats) ≡ length (s₀ .floats)
+  pub same-cells : length s ≡ length s₀
   pub same-texts : length y ≡ length y₀
   pub few : run .rows ≤ 16384
   pub goes : (w : Frame) (x : Entry w t u z from end (run₀ .rows) (run₀ .rows) (run₀ .boundary) s₀ y₀)
       → Came w t u z k end (run₀ .rows) base ctx ws s y (meant x base ctx ws) (behind x) run
 
-module _ {t u z : List ℕ} {from end : ℕ} {run₀ : Run} {base : ℤ} {ctx : TimingCtx} {ws : WsMode} {s₀ : Three} {y₀ : List ℕ}
+module _ {t u z : List ℕ} {from end : ℕ} {run₀ : Run} {base : ℤ} {ctx : TimingCtx} {ws : WsMode} {s₀ y₀ : List ℕ}
     (a : Asks t u z from end run₀ s₀ y₀) where
   pub along-start : Along t u z from end run₀ base ctx ws s₀ y₀ from run₀ s₀ y₀
   along-start = record {
     low = omega arith;
     same-cells = refl;
-    same-times = refl;
-    same-floats = refl;
     same-texts = refl;
     few = a .few;
     goes = λ w x. record { few = a .few; to = x; means = refl; same = refl };
   }
 
-  module _ {k : ℕ} {run : Run} {s : Three} {y : List ℕ} (i : Along t u z from end run₀ base ctx ws s₀ y₀ k run s y) where
+  module _ {k : ℕ} {run : Run} {s y : List ℕ} (i : Along t u z from end run₀ base ctx ws s₀ y₀ k run s y) where
     still-roomy : Roomy z s y
-    still-roomy =
-        let w = a .roomy .wide in
-        record {
-          wide = record {
-            in-cells = omega (arith, i .same-cells, w .in-cells);
-            in-times = omega (arith, i .same-times, w .in-times);
-            in-floats = omega (arith, i .same-floats, w .in-floats);
-          };
-          texts = omega (arith, i .same-texts, a .roomy .texts);
-          small = a .roomy .small;
-        }
+    still-roomy = record {
+      wide = omega (arith, i .same-cells, a .roomy .wide);
+      texts = omega (arith, i .same-texts, a .roomy .texts);
+      small = a .roomy .small;
+    }
 
     pub along-asks : k < end → AsksNode t u z k (run₀ .rows) run s y
     along-asks j = record {
@@ -704,17 +690,15 @@ module _ {t u z : List ℕ} {from end : ℕ} {run₀ : Run} {base : ℤ} {ctx : 
     pub along-next : k < end → (k < getD t (k * 6 + 1) 0) × (getD t (k * 6 + 1) 0 ≤ end)
     along-next j = node-end (i .goes (a .frame) (a .entry) .to) j
 
-    module _ (j : k < end) (s′ : Three) (y′ : List ℕ) where
-      pub along-step : {r : Run} → NodePost t u z k (run₀ .rows) run base ctx ws s y s′ y′ (Collecting.Is r) → length (s′ .cells) ≡ length (s .cells)
-          → length (s′ .times) ≡ length (s .times) → length (s′ .floats) ≡ length (s .floats) → length y′ ≡ length y
+    module _ (j : k < end) (s′ y′ : List ℕ) where
+      pub along-step : {r : Run} → NodePost t u z k (run₀ .rows) run base ctx ws s y s′ y′ (Collecting.Is r) → length s′ ≡ length s
+          → length y′ ≡ length y
           → Along t u z from end run₀ base ctx ws s₀ y₀ (getD t (k * 6 + 1) 0) r s′ y′
-      along-step post c₁ c₂ c₃ c₄ =
+      along-step post c₁ c₂ =
           record {
             low = omega (arith, i .low, node-end (i .goes (a .frame) (a .entry) .to) j .0);
             same-cells = c₁ ∙ i .same-cells;
-            same-times = c₂ ∙ i .same-times;
-            same-floats = c₃ ∙ i .same-floats;
-            same-texts = c₄ ∙ i .same-texts;
+            same-texts = c₂ ∙ i .same-texts;
             few = post (a .frame) end (i .goes (a .frame) (a .entry) .to) j .few;
             goes = λ w x.
                 let c = post w end (i .goes w x .to) j in
@@ -736,7 +720,7 @@ module _ {t u z : List ℕ} {from end : ℕ} {run₀ : Run} {base : ℤ} {ctx : 
 abbrev startRun : ℕ → Run
 startRun row = record { rows = row; boundary = true }
 
-module _ {w : Frame} {t u z : List ℕ} {from end row : ℕ} {s : Three} {y : List ℕ} (x : Content w t u z from end row s y) where
+module _ {w : Frame} {t u z : List ℕ} {from end row : ℕ} {s y : List ℕ} (x : Content w t u z from end row s y) where
   abbrev pub content-entry : Entry w t u z from end row row true s y
   content-entry = record {
     own = x .own;
@@ -751,26 +735,25 @@ module _ {w : Frame} {t u z : List ℕ} {from end row : ℕ} {s : Three} {y : Li
     flag = refl;
   }
 
-pub content-asks : {t u z : List ℕ} {from end row : ℕ} {s : Three} {y : List ℕ} → AsksContent t u z from end row s y
+pub content-asks : {t u z : List ℕ} {from end row : ℕ} {s y : List ℕ} → AsksContent t u z from end row s y
     → Asks t u z from end (startRun row) s y
 content-asks a = record { roomy = a .roomy; few = a .few; frame = a .frame; entry = content-entry (a .content) }
 
-pub content-no : {t u z : List ℕ} {from end row : ℕ} {s : Three} {y : List ℕ} (base : ℤ) (ctx : TimingCtx) (ws : WsMode) (s′ : Three) (y′ : List ℕ)
-    (q : Refusal) → Post t u z from end (startRun row) base ctx ws s y s′ y′ (Collecting.Refused q) → (s″ : Three) (y″ : List ℕ)
+pub content-no : {t u z : List ℕ} {from end row : ℕ} {s y : List ℕ} (base : ℤ) (ctx : TimingCtx) (ws : WsMode) (s′ y′ : List ℕ)
+    (q : Refusal) → Post t u z from end (startRun row) base ctx ws s y s′ y′ (Collecting.Refused q) → (s″ y″ : List ℕ)
     → ContentPost t u z from end row base ctx ws s y s″ y″ (Collecting.Refused q)
 unfolding contentOf
 content-no base ctx ws s′ y′ q post s″ y″ w x = bind-no _ (post w (content-entry x))
 
-module _ {t u z : List ℕ} {from end row : ℕ} {base : ℤ} {ctx : TimingCtx} {ws : WsMode} {s : Three} {y : List ℕ} where
-  pub content-ready : (s′ : Three) (y′ : List ℕ) (r : Run) → AsksContent t u z from end row s y
-      → Post t u z from end (startRun row) base ctx ws s y s′ y′ (Collecting.Is r) → (row ≤ r .rows) × Ready (s′ .cells) y′ row (r .rows)
+module _ {t u z : List ℕ} {from end row : ℕ} {base : ℤ} {ctx : TimingCtx} {ws : WsMode} {s y : List ℕ} where
+  pub content-ready : (s′ y′ : List ℕ) (r : Run) → AsksContent t u z from end row s y
+      → Post t u z from end (startRun row) base ctx ws s y s′ y′ (Collecting.Is r) → (row ≤ r .rows) × Ready s′ y′ row (r .rows)
   content-ready s′ y′ r a post = break-asks (came-end (post (a .frame) (content-entry (a .content))) .standing)
 
-  pub content-left : (a a′ : List ℕ) (b : List ℤ) (c : List Float) (y′ y″ : List ℕ) (r : Run)
-      → Post t u z from end (startRun row) base ctx ws s y (three a b c) y′ (Collecting.Is r) → Ends ws row (r .rows) a y′ a′ y″
-      → ContentPost t u z from end row base ctx ws s y (three a′ b c) y″ (Collecting.Is r)
+  pub content-left : (s₁ s′ y₁ y′ : List ℕ) (r : Run) → Post t u z from end (startRun row) base ctx ws s y s₁ y₁ (Collecting.Is r)
+      → Ends ws row (r .rows) s₁ y₁ s′ y′ → ContentPost t u z from end row base ctx ws s y s′ y′ (Collecting.Is r)
   unfolding contentOf
-  content-left a a′ b c y′ y″ r post e w x =
+  content-left s₁ s′ y₁ y′ r post e w x =
       let d = came-end (post w (content-entry x)) in
       record {
         few = d .few;
@@ -778,5 +761,5 @@ module _ {t u z : List ℕ} {from end row : ℕ} {base : ℤ} {ctx : TimingCtx} 
         means = bind-is _ (d .means);
         hi = d .hi;
         below = d .below;
-        standing = ended-standing ws (d .hi) row (r .rows) a a′ b c y′ y″ e w (d .segments) (d .standing);
+        standing = ended-standing ws (d .hi) row (r .rows) s₁ s′ y₁ y′ e w (d .segments) (d .standing);
       }

@@ -17,7 +17,7 @@ use Rattle.track.specs.declared.strings.Span.{Span}
 use Rattle.track.specs.Track.{Wrapper, Segments, segmentRows, noSegments, oneSegment}
 use Rattle.track.specs.Track as track
 use Rattle.track.specs.Layout.{each}
-use Rattle.records.specs.Siblings.{joined, wrapped, Three, Stands, later, andThese}
+use Rattle.records.specs.Siblings.{joined, wrapped, Stands, later, andThese}
 use Rattle.records.proofs.SegmentRows.{rows-joined}
 use Rattle.records.proofs.Standing.{stands-none, stands-join}
 use Rattle.xml.specs.Reading.{Placed, lay}
@@ -187,31 +187,31 @@ module _ {f : Segments Placed} {base y : List ℕ} {lo hi : ℕ} (h : Laid f [] 
 pub laid-same : {f g : Segments Placed} {base y : List ℕ} {lo hi : ℕ} → textsIn f ≡ textsIn g → Laid g [] base y lo hi → Laid f [] base y lo hi
 laid-same e h = record { is = rw e (h .is); order = rw e (h .order); room = h .room; blank = h .blank }
 
--- ---- the rest of the tables
+-- ---- the rest of the table
 
-later-later : (a b : ℕ) (r : Three) → later a (later b r) ≡ later (b + a) r
+later-later : (a b : ℕ) (r : List ℕ) → later a (later b r) ≡ later (b + a) r
 later-later a b r =
-    let e : b * 8 + a * 8 ≡ (b + a) * 8 = omega arith in
-    rw (drop-drop (a * 8) (b * 8) (r .cells), drop-drop a b (r .times), drop-drop a b (r .floats), e)
+    let e : b * 6 + a * 6 ≡ (b + a) * 6 = omega arith in
+    rw (drop-drop (a * 6) (b * 6) r, e)
 
-pub later-to : (first n m : ℕ) (r : Three) → first ≤ n → n ≤ m → later (m - n) (later (n - first) r) ≡ later (m - first) r
+pub later-to : (first n m : ℕ) (r : List ℕ) → first ≤ n → n ≤ m → later (m - n) (later (n - first) r) ≡ later (m - first) r
 later-to first n m r h g =
     let e : n - first + (m - n) ≡ m - first = omega arith in
     later-later (m - n) (n - first) r ∙ ap (λ k. later k r) e
 
-pub later-one : (first n m : ℕ) (r : Three) → first ≤ n → m ≡ n + 1 → later 1 (later (n - first) r) ≡ later (m - first) r
+pub later-one : (first n m : ℕ) (r : List ℕ) → first ≤ n → m ≡ n + 1 → later 1 (later (n - first) r) ≡ later (m - first) r
 later-one first n m r h g =
     let e : n - first + 1 ≡ m - first = omega arith in
     later-later 1 (n - first) r ∙ ap (λ k. later k r) e
 
-stands-again : {pre rest s : Three} {n : ℕ} {f : Segments Span} → Stands pre rest n n f s → Stands pre (later (n - n) rest) n n f s
+stands-again : {pre rest s : List ℕ} {n : ℕ} {f : Segments Span} → Stands pre rest n n f s → Stands pre (later (n - n) rest) n n f s
 stands-again {pre} {rest} {s} {n} {f} h =
     let e : n - n ≡ 0 = omega arith in
-    rw e (record { count = h .count; before = h .before; in-cells = h .in-cells; in-times = h .in-times; in-floats = h .in-floats })
+    rw e (record { count = h .count; before = h .before; in-cells = h .in-cells })
 
 -- ---- what stands
 
-module _ {w : Frame} {hi first n : ℕ} {f : Segments Placed} {s : Three} {y : List ℕ} (h : Standing w hi first n f s y) where
+module _ {w : Frame} {hi first n : ℕ} {f : Segments Placed} {s y : List ℕ} (h : Standing w hi first n f s y) where
   pub standing-count : n ≡ first + segmentRows f
   standing-count = h .rows .count ∙ ap (λ k. first + k) (rows-spans f)
 
@@ -229,7 +229,7 @@ module _ {w : Frame} {hi first n : ℕ} {f : Segments Placed} {s : Three} {y : L
     texts = laid-own (h .texts);
   }
 
-  pub standing-join : (limit m hi′ : ℕ) (g : Segments Placed) (s′ : Three) (y′ : List ℕ) → n ≤ m → Standing (ownFrame limit) hi′ n m g s′ y′
+  pub standing-join : (limit m hi′ : ℕ) (g : Segments Placed) (s′ y′ : List ℕ) → n ≤ m → Standing (ownFrame limit) hi′ n m g s′ y′
       → Standing w hi′ first m (joined f g) s′ y′
   standing-join limit m hi′ g s′ y′ k j =
       let a : Stands (w .pre) (later (m - n) (later (n - first) (w .rest))) first m (joined (spansIn f) (spansIn g)) s′ =

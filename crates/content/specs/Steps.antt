@@ -1,5 +1,5 @@
 -- What the readers of a cue's inline content ask and ensure. This file need not be believed: `parse` promises what is left in the end.
---     t, u are the tables of nodes and attributes, z the strings; s are the three tables of segments, y the texts
+--     t, u are the tables of nodes and attributes, z the strings; s is the table of segments, y the texts
 use Prim.Native.Nat.{ℕ, _+_, _-_, _*_, _≤_, _<_, _^_}
 use mathlib.Core.Path.{_≡_}
 use mathlib.Core.Bool.{Bool, true, false, cond}
@@ -16,7 +16,7 @@ use Rattle.track.specs.Track.{Wrapper, Segments, segmentRows}
 use Rattle.track.specs.Track as track
 use Rattle.track.specs.Layout.{each, isSome}
 use Rattle.records.specs.declared.cells.Added.{Added}
-use Rattle.records.specs.Siblings.{Three, Stands, later, joined}
+use Rattle.records.specs.Siblings.{Stands, later, joined}
 use Rattle.xml.specs.Find.{Holds, isElement}
 use Rattle.xml.specs.Reading.{Placed}
 use Rattle.meaning.specs.Answers.{Answer, is, refused}
@@ -38,14 +38,12 @@ use Rattle.content.specs.declared.collect.Beginning.{Beginning}
 
 -- ---- tables
 
--- the tables of segments are long enough
-pub record Wide (s : Three) : Type 0 where
-  pub in-cells : 131072 ≤ length (s .cells)
-  pub in-times : 16384 ≤ length (s .times)
-  pub in-floats : 16384 ≤ length (s .floats)
+-- the table of segments is long enough
+abbrev pub Wide : List ℕ → Type 0
+Wide s = 98304 ≤ length s
 
 -- so are the texts, and the strings are no longer than a text
-pub record Roomy (z : List ℕ) (s : Three) (y : List ℕ) : Type 0 where
+pub record Roomy (z s y : List ℕ) : Type 0 where
   pub wide : Wide s
   pub texts : length z ≤ length y
   pub small : length z < 2 ^ 32
@@ -53,14 +51,14 @@ pub record Roomy (z : List ℕ) (s : Three) (y : List ℕ) : Type 0 where
 -- A list of siblings: what stands before its rows; what stood from its first row on; what its texts are laid over, which is blank from lo on;
 -- where its strings end.
 pub record Frame : Type 0 where
-  pub pre : Three
-  pub rest : Three
+  pub pre : List ℕ
+  pub rest : List ℕ
   pub base : List ℕ
   pub lo : ℕ
   pub limit : ℕ
 
 -- the segments f of the list stand in rows `first` up to n, and their texts end at hi or before
-pub record Standing (w : Frame) (hi first n : ℕ) (f : Segments Placed) (s : Three) (y : List ℕ) : Type 0 where
+pub record Standing (w : Frame) (hi first n : ℕ) (f : Segments Placed) (s y : List ℕ) : Type 0 where
   pub rows : Stands (w .pre) (later (n - first) (w .rest)) first n (spansIn f) s
   pub texts : Laid f [] (w .base) y (w .lo) hi
 
@@ -79,8 +77,7 @@ textAt t z k = record { place = getD t (k * 6 + 2) 0; bytes = stringAt z (getD t
 
 -- The rows `first` up to n, whatever segments stand there with their texts up to hi, are now these changed by φ, with texts up to hi′; or there
 -- would be more than 16,384 rows, which is number 13.
-abbrev pub Given : (place first n hi hi′ : ℕ) → Bool → (Segments Placed → Segments Placed) → (s : Three) (y : List ℕ) (s′ : Three) (y′ : List ℕ)
-    → Collecting → Type 0
+abbrev pub Given : (place first n hi hi′ : ℕ) → Bool → (Segments Placed → Segments Placed) → (s y s′ y′ : List ℕ) → Collecting → Type 0
 Given place first n hi hi′ flag φ s y s′ y′ (Collecting.Is r) =
     (r .rows ≤ 16384) × (r .boundary ≡ flag)
     × ((w : Frame) (f : Segments Placed) → Standing w hi first n f s y → Standing w hi′ first (r .rows) (φ f) s′ y′)
@@ -93,7 +90,7 @@ abbrev pub Writes : Placed → Bool → WsMode → (y y′ : List ℕ) → Colla
 Writes x boundary ws y y′ r =
     (before : Before) → boundary ≡ edge before → Written (textIn withPlaces (spaceIn ws) before x .bytes) (x .bytes) before (x .place) y y′ r
 
-abbrev pub TextGiven : (t z : List ℕ) (k : ℕ) → WsMode → Run → (s : Three) (y : List ℕ) (s′ : Three) (y′ : List ℕ) → Collecting → Type 0
+abbrev pub TextGiven : (t z : List ℕ) (k : ℕ) → WsMode → Run → (s y s′ y′ : List ℕ) → Collecting → Type 0
 TextGiven t z k ws run s y s′ y′ r =
     (first hi : ℕ) (before : Before) → hi ≤ getD t (k * 6 + 2) 0 → run .boundary ≡ edge before
     → Given (nodePlace t k) first (run .rows) hi (getD t (k * 6 + 2) 0 + getD t (k * 6 + 3) 0) (edge (lastOf before (textAt t z k .bytes)))
@@ -104,7 +101,7 @@ abbrev pub Ends : WsMode → (first n : ℕ) → (t y t′ y′ : List ℕ) → 
 Ends WsMode.Collapse first n t y t′ y′ = (b : Bool) × Trims first n t y t′ y′ b
 Ends WsMode.Preserve first n t y t′ y′ = (t′ ≡ t) × (y′ ≡ y)
 
-abbrev pub BreakGiven : (place first n : ℕ) → WsMode → (s : Three) (y : List ℕ) (s′ : Three) (y′ : List ℕ) → Collecting → Type 0
+abbrev pub BreakGiven : (place first n : ℕ) → WsMode → (s y s′ y′ : List ℕ) → Collecting → Type 0
 BreakGiven place first n ws s y s′ y′ r =
     (hi : ℕ) → Given place first n hi hi true (λ f. joined (ended withPlaces (spaceIn ws) f) (track.break track.done)) s y s′ y′ r
 
@@ -113,8 +110,7 @@ abbrev pub wrappersBy : List (Wrapper Placed) → List (Wrapper Span)
 wrappersBy l = each (wrapperBy spanIn) l
 
 -- a span whose content stands in the rows `first` up to n; its wrappers may be refused
-abbrev pub SpanGiven : Answer (List (Wrapper Placed)) → (place first n : ℕ) → Bool → (stamp : Bool) → ℤ → (s : Three) (y : List ℕ) (s′ : Three)
-    → Collecting → Type 0
+abbrev pub SpanGiven : Answer (List (Wrapper Placed)) → (place first n : ℕ) → Bool → (stamp : Bool) → ℤ → (s y s′ : List ℕ) → Collecting → Type 0
 SpanGiven (is ws) place first n flag stamp time s y s′ r =
     (hi : ℕ) → Given place first n hi hi flag (λ c. stampedIf stamp time (spanOf ws c)) s y s′ y r
 SpanGiven (refused i p) place first n flag stamp time s y s′ r = r ≡ Collecting.Refused (record { number = i; place = p })
@@ -131,7 +127,7 @@ beginFrom place base (refused i p) = Beginning.Refused (record { number = i; pla
 -- ---- nodes
 
 -- The nodes `forest` stand in the rows `from` up to `end`, after `before`. Their earlier siblings gave what stands in rows `first` up to n.
-pub record Entry (w : Frame) (t u z : List ℕ) (from end first n : ℕ) (boundary : Bool) (s : Three) (y : List ℕ) : Type 0 where
+pub record Entry (w : Frame) (t u z : List ℕ) (from end first n : ℕ) (boundary : Bool) (s y : List ℕ) : Type 0 where
   pub own : ℕ
   pub forest : Forest
   pub holds : Holds t u z from own forest
@@ -143,7 +139,7 @@ pub record Entry (w : Frame) (t u z : List ℕ) (from end first n : ℕ) (bounda
   pub before : Before
   pub flag : boundary ≡ edge before
 
-module _ {w : Frame} {t u z : List ℕ} {from end first n : ℕ} {boundary : Bool} {s : Three} {y : List ℕ}
+module _ {w : Frame} {t u z : List ℕ} {from end first n : ℕ} {boundary : Bool} {s y : List ℕ}
     (x : Entry w t u z from end first n boundary s y) where
   -- what the nodes mean, after what their earlier siblings gave; and what stands directly before whatever follows them
   abbrev pub meant : ℤ → TimingCtx → WsMode → Answer (Segments Placed)
@@ -152,7 +148,7 @@ module _ {w : Frame} {t u z : List ℕ} {from end first n : ℕ} {boundary : Boo
   abbrev pub behind : Before
   behind = after withPlaces (x .before) (nodesIn z (x .forest))
 
-module _ (w : Frame) (t u z : List ℕ) (next end first : ℕ) (base : ℤ) (ctx : TimingCtx) (ws : WsMode) (s : Three) (y : List ℕ)
+module _ (w : Frame) (t u z : List ℕ) (next end first : ℕ) (base : ℤ) (ctx : TimingCtx) (ws : WsMode) (s y : List ℕ)
     (m : Answer (Segments Placed)) (v : Before) where
   -- the nodes up to row `next` are read: m and v are what the nodes from there on say
   pub record Came (r : Run) : Type 0 where
@@ -167,7 +163,7 @@ module _ (w : Frame) (t u z : List ℕ) (next end first : ℕ) (base : ℤ) (ctx
 
 -- ---- a node in row k
 
-pub record AsksNode (t u z : List ℕ) (k first : ℕ) (run : Run) (s : Three) (y : List ℕ) : Type 0 where
+pub record AsksNode (t u z : List ℕ) (k first : ℕ) (run : Run) (s y : List ℕ) : Type 0 where
   pub roomy : Roomy z s y
   pub few : run .rows ≤ 16384
   pub frame : Frame
@@ -175,33 +171,33 @@ pub record AsksNode (t u z : List ℕ) (k first : ℕ) (run : Run) (s : Three) (
   pub entry : Entry frame t u z k end first (run .rows) (run .boundary) s y
   pub some : k < end
 
-abbrev pub NodePost : (t u z : List ℕ) (k first : ℕ) (run : Run) (base : ℤ) (ctx : TimingCtx) (ws : WsMode) (s : Three) (y : List ℕ) (s′ : Three)
-    (y′ : List ℕ) → Collecting → Type 0
+abbrev pub NodePost : (t u z : List ℕ) (k first : ℕ) (run : Run) (base : ℤ) (ctx : TimingCtx) (ws : WsMode) (s y s′ y′ : List ℕ)
+    → Collecting → Type 0
 NodePost t u z k first run base ctx ws s y s′ y′ r =
     (w : Frame) (end : ℕ) (x : Entry w t u z k end first (run .rows) (run .boundary) s y) → k < end
     → Outcome w t u z (getD t (k * 6 + 1) 0) end first base ctx ws s′ y′ (meant x base ctx ws) (behind x) r
 
 -- which is a span
-pub record AsksSpan (t u z : List ℕ) (k : ℕ) (run : Run) (s : Three) (y : List ℕ) : Type 0 where
+pub record AsksSpan (t u z : List ℕ) (k : ℕ) (run : Run) (s y : List ℕ) : Type 0 where
   pub first : ℕ
   pub node : AsksNode t u z k first run s y
   pub no-break : isElement t z (ascii "br") k ≡ false
   pub a-span : isElement t z (ascii "span") k ≡ true
 
-abbrev pub SpanPost : (t u z : List ℕ) (k : ℕ) (run : Run) (base : ℤ) (ctx : TimingCtx) (ws : WsMode) (s : Three) (y : List ℕ) (s′ : Three)
-    (y′ : List ℕ) → Collecting → Type 0
+abbrev pub SpanPost : (t u z : List ℕ) (k : ℕ) (run : Run) (base : ℤ) (ctx : TimingCtx) (ws : WsMode) (s y s′ y′ : List ℕ)
+    → Collecting → Type 0
 SpanPost t u z k run base ctx ws s y s′ y′ r = (first : ℕ) → NodePost t u z k first run base ctx ws s y s′ y′ r
 
 -- ---- the siblings in rows `from` up to `end`, a list of their own
 
-pub record Asks (t u z : List ℕ) (from end : ℕ) (run : Run) (s : Three) (y : List ℕ) : Type 0 where
+pub record Asks (t u z : List ℕ) (from end : ℕ) (run : Run) (s y : List ℕ) : Type 0 where
   pub roomy : Roomy z s y
   pub few : run .rows ≤ 16384
   pub frame : Frame
   pub entry : Entry frame t u z from end (run .rows) (run .rows) (run .boundary) s y
 
-abbrev pub Post : (t u z : List ℕ) (from end : ℕ) (run : Run) (base : ℤ) (ctx : TimingCtx) (ws : WsMode) (s : Three) (y : List ℕ) (s′ : Three)
-    (y′ : List ℕ) → Collecting → Type 0
+abbrev pub Post : (t u z : List ℕ) (from end : ℕ) (run : Run) (base : ℤ) (ctx : TimingCtx) (ws : WsMode) (s y s′ y′ : List ℕ)
+    → Collecting → Type 0
 Post t u z from end run base ctx ws s y s′ y′ r =
     (w : Frame) (x : Entry w t u z from end (run .rows) (run .rows) (run .boundary) s y)
     → Outcome w t u z end end (run .rows) base ctx ws s′ y′ (meant x base ctx ws) (behind x) r
@@ -209,7 +205,7 @@ Post t u z from end run base ctx ws s y s′ y′ r =
 -- ---- the content of a p or of a single cue
 
 -- it stands in the rows `from` up to `end`; no segments stand from row `row` on
-pub record Content (w : Frame) (t u z : List ℕ) (from end row : ℕ) (s : Three) (y : List ℕ) : Type 0 where
+pub record Content (w : Frame) (t u z : List ℕ) (from end row : ℕ) (s y : List ℕ) : Type 0 where
   pub own : ℕ
   pub forest : Forest
   pub holds : Holds t u z from own forest
@@ -217,13 +213,13 @@ pub record Content (w : Frame) (t u z : List ℕ) (from end row : ℕ) (s : Thre
   pub placed : InOrder (w .lo) (spans forest) (w .limit)
   pub standing : Standing w (w .lo) row row track.done s y
 
-pub record AsksContent (t u z : List ℕ) (from end row : ℕ) (s : Three) (y : List ℕ) : Type 0 where
+pub record AsksContent (t u z : List ℕ) (from end row : ℕ) (s y : List ℕ) : Type 0 where
   pub roomy : Roomy z s y
   pub few : row ≤ 16384
   pub frame : Frame
   pub content : Content frame t u z from end row s y
 
-module _ (w : Frame) (row : ℕ) (s : Three) (y : List ℕ) (m : Answer (Segments Placed)) where
+module _ (w : Frame) (row : ℕ) (s y : List ℕ) (m : Answer (Segments Placed)) where
   -- the segments that it gives stand up to the row that r says
   pub record Left (r : Run) : Type 0 where
     pub few : r .rows ≤ 16384
@@ -237,8 +233,8 @@ module _ (w : Frame) (row : ℕ) (s : Three) (y : List ℕ) (m : Answer (Segment
   ContentOutcome (Collecting.Is r) = Left r
   ContentOutcome (Collecting.Refused q) = m ≡ refused (q .number) (q .place)
 
-abbrev pub ContentPost : (t u z : List ℕ) (from end row : ℕ) (base : ℤ) (ctx : TimingCtx) (ws : WsMode) (s : Three) (y : List ℕ) (s′ : Three)
-    (y′ : List ℕ) → Collecting → Type 0
+abbrev pub ContentPost : (t u z : List ℕ) (from end row : ℕ) (base : ℤ) (ctx : TimingCtx) (ws : WsMode) (s y s′ y′ : List ℕ)
+    → Collecting → Type 0
 ContentPost t u z from end row base ctx ws s y s′ y′ r =
     (w : Frame) (x : Content w t u z from end row s y)
     → ContentOutcome w row s′ y′ (contentOf withPlaces ctx base (spaceIn ws) row (nodesIn z (x .forest))) r

@@ -11,7 +11,7 @@ ghost use Rattle.meaning.specs.Timing.{sum, timeOf};
 ghost use Rattle.meaning.specs.Styling.{wrappersOf};
 ghost use Rattle.styling.specs.Posts.{HasRows, OfRows, wrappersIn};
 ghost use Rattle.inline.specs.Trims.{Ready};
-ghost use Rattle.inline.specs.Wraps.{three, wrappersFrom};
+ghost use Rattle.inline.specs.Wraps.{wrappersFrom};
 ghost use Rattle.content.specs.Steps.{Wide, Roomy, addedIn, nodePlace, Writes, TextGiven, Ends, BreakGiven, wrappersBy, SpanGiven};
 ghost use Rattle.content.specs.Steps.{beginning, beginFrom, AsksNode, NodePost, AsksSpan, SpanPost, Asks, Post, AsksContent, ContentPost};
 use inline::Collapsed;
@@ -96,18 +96,15 @@ fn collect_text(
     nodes: &[u32],
     strings: &[u8],
     segments: &mut [u32],
-    reveal: &mut [i64],
-    sizes: &mut [f32],
     texts: &mut [u8],
     k: usize,
     ws: WsMode,
     run: Run,
 ) -> Collecting
-    requires { ⌜ Roomy (now strings) (three (now segments) (now reveal) (now sizes)) (now texts) × (run .rows ≤ 16384)
-        × (k * 6 + 6 ≤ length (now nodes)) × (getD (now nodes) (k * 6 + 2) 0 + getD (now nodes) (k * 6 + 3) 0 ≤ length (now strings)) ⌝ }
+    requires { ⌜ Roomy (now strings) (now segments) (now texts) × (run .rows ≤ 16384) × (k * 6 + 6 ≤ length (now nodes))
+        × (getD (now nodes) (k * 6 + 2) 0 + getD (now nodes) (k * 6 + 3) 0 ≤ length (now strings)) ⌝ }
     ensures { λ r. ⌜ TextGiven (now (nodes .entry)) (now (strings .entry)) k ws run
-        (three (now (segments .entry)) (now (reveal .entry)) (now (sizes .entry))) (now (texts .entry))
-        (three (now (segments .exit)) (now (reveal .exit)) (now (sizes .exit))) (now (texts .exit)) r ⌝ }
+        (now (segments .entry)) (now (texts .entry)) (now (segments .exit)) (now (texts .exit)) r ⌝ }
 {
     let place = scan::get(nodes, k * NODE_CELLS + 2);
     let len = scan::get(nodes, k * NODE_CELLS + 3);
@@ -119,7 +116,7 @@ fn collect_text(
         });
     }
     let text = Span { place, len: c.len };
-    let a = records::add_text(segments, reveal, sizes, run.rows, text);
+    let a = records::add_text(segments, run.rows, text);
     added(a, c.boundary, node_place(nodes, k))
 }
 
@@ -139,21 +136,18 @@ fn end_siblings(segments: &mut [u32], texts: &mut [u8], ws: WsMode, first: usize
 // A break: it ends what its earlier siblings gave, in the rows from `first` on.
 fn collect_break(
     segments: &mut [u32],
-    reveal: &mut [i64],
-    sizes: &mut [f32],
     texts: &mut [u8],
     place: usize,
     ws: WsMode,
     first: usize,
     rows: usize,
 ) -> Collecting
-    requires { ⌜ Wide (three (now segments) (now reveal) (now sizes)) × (first ≤ rows) × Ready (now segments) (now texts) first rows ⌝ }
+    requires { ⌜ Wide (now segments) × (first ≤ rows) × Ready (now segments) (now texts) first rows ⌝ }
     ensures { λ r. ⌜ BreakGiven place first rows ws
-        (three (now (segments .entry)) (now (reveal .entry)) (now (sizes .entry))) (now (texts .entry))
-        (three (now (segments .exit)) (now (reveal .exit)) (now (sizes .exit))) (now (texts .exit)) r ⌝ }
+        (now (segments .entry)) (now (texts .entry)) (now (segments .exit)) (now (texts .exit)) r ⌝ }
 {
     end_siblings(segments, texts, ws, first, rows);
-    let a = records::add_break(segments, reveal, sizes, rows);
+    let a = records::add_break(segments, rows);
     added(a, true, place)
 }
 
@@ -190,8 +184,6 @@ fn wrap_with_style(
     attrs: &[u32],
     strings: &[u8],
     segments: &mut [u32],
-    reveal: &mut [i64],
-    sizes: &mut [f32],
     e: xml::Element,
     first: usize,
     inner: Run,
@@ -199,25 +191,15 @@ fn wrap_with_style(
     time: i64,
 ) -> Collecting
     requires { ⌜ HasRows (now attrs) (now strings) (e .first) (e .many) × (first ≤ inner .rows) × (inner .rows ≤ 16384)
-        × Wide (three (now segments) (now reveal) (now sizes)) × (length (now strings) < 2 ^ 32) ⌝ }
+        × Wide (now segments) × (length (now strings) < 2 ^ 32) ⌝ }
     ensures { λ r. ⌜ OfRows (now (attrs .entry)) (now (strings .entry)) (e .first) (e .many) (λ l. (y : List ℕ)
         → SpanGiven (wrappersOf withPlaces l) (e .place) first (inner .rows) (inner .boundary) stamp time
-        (three (now (segments .entry)) (now (reveal .entry)) (now (sizes .entry))) y
-        (three (now (segments .exit)) (now (reveal .exit)) (now (sizes .exit))) r) ⌝ }
+        (now (segments .entry)) y (now (segments .exit)) r) ⌝ }
 {
     match styling::wrappers_of(attrs, strings, e.first, e.many) {
         Wrapping::Refused(r) => Collecting::Refused(r),
         Wrapping::Is(w) => {
-            let a = inline::put_span(
-                segments,
-                reveal,
-                sizes,
-                first,
-                inner.rows,
-                stamp,
-                time,
-                around(w),
-            );
+            let a = inline::put_span(segments, first, inner.rows, stamp, time, around(w));
             added(a, inner.boundary, e.place)
         }
     }
@@ -261,8 +243,6 @@ fn collect_node(
     attrs: &[u32],
     strings: &[u8],
     segments: &mut [u32],
-    reveal: &mut [i64],
-    sizes: &mut [f32],
     texts: &mut [u8],
     k: usize,
     base: i64,
@@ -271,17 +251,16 @@ fn collect_node(
     first: usize,
     run: Run,
 ) -> Collecting
-    requires { ⌜ AsksNode (now nodes) (now attrs) (now strings) k first run (three (now segments) (now reveal) (now sizes)) (now texts) ⌝ }
+    requires { ⌜ AsksNode (now nodes) (now attrs) (now strings) k first run (now segments) (now texts) ⌝ }
     ensures { λ r. ⌜ NodePost (now (nodes .entry)) (now (attrs .entry)) (now (strings .entry)) k first run base ctx ws
-        (three (now (segments .entry)) (now (reveal .entry)) (now (sizes .entry))) (now (texts .entry))
-        (three (now (segments .exit)) (now (reveal .exit)) (now (sizes .exit))) (now (texts .exit)) r ⌝ }
+        (now (segments .entry)) (now (texts .entry)) (now (segments .exit)) (now (texts .exit)) r ⌝ }
 {
     if nodes[k * NODE_CELLS] != ELEMENT {
-        return collect_text(nodes, strings, segments, reveal, sizes, texts, k, ws, run);
+        return collect_text(nodes, strings, segments, texts, k, ws, run);
     }
     let e = xml::element_at(nodes, k);
     if xml::is_element(nodes, strings, k, b"br") {
-        return collect_break(segments, reveal, sizes, texts, e.place, ws, first, run.rows);
+        return collect_break(segments, texts, e.place, ws, first, run.rows);
     }
     if xml::is_element(nodes, strings, k, b"span") {
         return collect_span(
@@ -289,8 +268,6 @@ fn collect_node(
             attrs,
             strings,
             segments,
-            reveal,
-            sizes,
             texts,
             k,
             base,
@@ -304,8 +281,6 @@ fn collect_node(
         attrs,
         strings,
         segments,
-        reveal,
-        sizes,
         texts,
         k + 1,
         e.end,
@@ -322,8 +297,6 @@ fn collect_span(
     attrs: &[u32],
     strings: &[u8],
     segments: &mut [u32],
-    reveal: &mut [i64],
-    sizes: &mut [f32],
     texts: &mut [u8],
     k: usize,
     base: i64,
@@ -331,10 +304,9 @@ fn collect_span(
     ws: WsMode,
     run: Run,
 ) -> Collecting
-    requires { ⌜ AsksSpan (now nodes) (now attrs) (now strings) k run (three (now segments) (now reveal) (now sizes)) (now texts) ⌝ }
+    requires { ⌜ AsksSpan (now nodes) (now attrs) (now strings) k run (now segments) (now texts) ⌝ }
     ensures { λ r. ⌜ SpanPost (now (nodes .entry)) (now (attrs .entry)) (now (strings .entry)) k run base ctx ws
-        (three (now (segments .entry)) (now (reveal .entry)) (now (sizes .entry))) (now (texts .entry))
-        (three (now (segments .exit)) (now (reveal .exit)) (now (sizes .exit))) (now (texts .exit)) r ⌝ }
+        (now (segments .entry)) (now (texts .entry)) (now (segments .exit)) (now (texts .exit)) r ⌝ }
 {
     let e = xml::element_at(nodes, k);
     match begin_of(attrs, strings, e, base, ctx) {
@@ -346,8 +318,6 @@ fn collect_span(
                 attrs,
                 strings,
                 segments,
-                reveal,
-                sizes,
                 texts,
                 k + 1,
                 e.end,
@@ -361,8 +331,6 @@ fn collect_span(
                     attrs,
                     strings,
                     segments,
-                    reveal,
-                    sizes,
                     e,
                     run.rows,
                     inner,
@@ -380,8 +348,6 @@ pub fn collect_segments_inner(
     attrs: &[u32],
     strings: &[u8],
     segments: &mut [u32],
-    reveal: &mut [i64],
-    sizes: &mut [f32],
     texts: &mut [u8],
     from: usize,
     end: usize,
@@ -390,10 +356,9 @@ pub fn collect_segments_inner(
     ws: WsMode,
     run: Run,
 ) -> Collecting
-    requires { ⌜ Asks (now nodes) (now attrs) (now strings) from end run (three (now segments) (now reveal) (now sizes)) (now texts) ⌝ }
+    requires { ⌜ Asks (now nodes) (now attrs) (now strings) from end run (now segments) (now texts) ⌝ }
     ensures { λ r. ⌜ Post (now (nodes .entry)) (now (attrs .entry)) (now (strings .entry)) from end run base ctx ws
-        (three (now (segments .entry)) (now (reveal .entry)) (now (sizes .entry))) (now (texts .entry))
-        (three (now (segments .exit)) (now (reveal .exit)) (now (sizes .exit))) (now (texts .exit)) r ⌝ }
+        (now (segments .entry)) (now (texts .entry)) (now (segments .exit)) (now (texts .exit)) r ⌝ }
 {
     let first = run.rows;
     let mut s = run;
@@ -404,8 +369,6 @@ pub fn collect_segments_inner(
             attrs,
             strings,
             segments,
-            reveal,
-            sizes,
             texts,
             k,
             base,
@@ -432,8 +395,6 @@ pub fn collect_segments_timed(
     attrs: &[u32],
     strings: &[u8],
     segments: &mut [u32],
-    reveal: &mut [i64],
-    sizes: &mut [f32],
     texts: &mut [u8],
     from: usize,
     end: usize,
@@ -442,10 +403,9 @@ pub fn collect_segments_timed(
     ws: WsMode,
     rows: usize,
 ) -> Collecting
-    requires { ⌜ AsksContent (now nodes) (now attrs) (now strings) from end rows (three (now segments) (now reveal) (now sizes)) (now texts) ⌝ }
+    requires { ⌜ AsksContent (now nodes) (now attrs) (now strings) from end rows (now segments) (now texts) ⌝ }
     ensures { λ r. ⌜ ContentPost (now (nodes .entry)) (now (attrs .entry)) (now (strings .entry)) from end rows base ctx ws
-        (three (now (segments .entry)) (now (reveal .entry)) (now (sizes .entry))) (now (texts .entry))
-        (three (now (segments .exit)) (now (reveal .exit)) (now (sizes .exit))) (now (texts .exit)) r ⌝ }
+        (now (segments .entry)) (now (texts .entry)) (now (segments .exit)) (now (texts .exit)) r ⌝ }
 {
     let run = Run {
         rows,
@@ -456,8 +416,6 @@ pub fn collect_segments_timed(
         attrs,
         strings,
         segments,
-        reveal,
-        sizes,
         texts,
         from,
         end,

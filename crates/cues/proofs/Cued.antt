@@ -25,7 +25,7 @@ use Rattle.track.specs.declared.values.Cue as declared
 use Rattle.track.specs.Track.{Extra, Segments, Cue}
 use Rattle.track.specs.Layout.{cueCells}
 use Rattle.records.specs.declared.cells.Added.{Added}
-use Rattle.records.specs.Siblings.{Three, later}
+use Rattle.records.specs.Siblings.{later}
 use Rattle.records.specs.Posts.{SmallSpan, SmallRows, AddPost, TimesPost}
 use Rattle.xml.specs.declared.find.Element.{Element}
 use Rattle.xml.specs.Find.{Owned, elementRow}
@@ -57,7 +57,7 @@ use Rattle.intervals.specs.Steps.{stopping, intervalFrom, endedFrom, begunFrom,
 use Rattle.cues.specs.Steps.{onward, StyledGiven, PartIs}
 use Rattle.cues.specs.Steps.{CueTables, Base, Child, AsksChild, ParagraphPost}
 use Rattle.cues.specs.Steps.{segmentsOfP, AsksSegments, Segmented, SegmentsPost, cueRow, CueAdded, CueOutcome}
-use Rattle.cues.proofs.Lined.{cueWith, blankFrom, blank-later, blank-onward, cue-row, nextFrame, lined-frame, wide-cells, wide-times}
+use Rattle.cues.proofs.Lined.{cueWith, blankFrom, blank-later, blank-onward, cue-row, nextFrame, lined-frame, wide-cells}
 use Rattle.cues.proofs.Lined.{Next, lined-more}
 
 -- ---- what a p means
@@ -139,8 +139,8 @@ module _ (ctx : TimingCtx) (reference : ℤ) (inherited : Space) (cues : List (C
 
 -- ---- its segments
 
-module _ {t u z : List ℕ} {k : ℕ} {e : Element} {first : ℕ} {s : Three} {y : List ℕ} (a : AsksSegments t u z k e first s y) (start : ℤ)
-    (ctx : TimingCtx) (ws : WsMode) (s′ : Three) (y′ : List ℕ) where
+module _ {t u z : List ℕ} {k : ℕ} {e : Element} {first : ℕ} {s y : List ℕ} (a : AsksSegments t u z k e first s y) (start : ℤ)
+    (ctx : TimingCtx) (ws : WsMode) (s′ y′ : List ℕ) where
   pub content-more : (run : Run) → ContentPost t u z (k + 1) (e .end) first start ctx ws s y s′ y′ (Collecting.Is run)
       → (first ≤ run .rows) × (run .rows ≤ 16384)
   content-more run post =
@@ -151,7 +151,7 @@ module _ {t u z : List ℕ} {k : ℕ} {e : Element} {first : ℕ} {s : Three} {y
       → SegmentsPost t u z k e start ctx ws first s y s′ y′ (Styled.Refused q)
   segments-no q post w x l o = rw (post w x)
 
-  pub segments-of : (run : Run) → ContentPost t u z (k + 1) (e .end) first start ctx ws s y s′ y′ (Collecting.Is run) → (s″ : Three) (r : Styled)
+  pub segments-of : (run : Run) → ContentPost t u z (k + 1) (e .end) first start ctx ws s y s′ y′ (Collecting.Is run) → (s″ : List ℕ) (r : Styled)
       → OfRows u z (e .first) (e .many) (λ l. (ctx : TimingCtx)
       → StyledGiven (styled withPlaces ctx (e .place) first l) first (run .rows) s′ s″ r)
       → SegmentsPost t u z k e start ctx ws first s y s″ y′ r
@@ -273,7 +273,7 @@ module _ {t u z : List ℕ} {k : ℕ} {line : Line} {T : CueTables} (a : AsksChi
   p-kept = omega (arith, many-is (a .child), a .child .room)
 
   -- the rows of its segments
-  pub p-after : (start : ℤ) (ctx : TimingCtx) (ws : WsMode) (s′ : Three) (y′ : List ℕ) (n : ℕ)
+  pub p-after : (start : ℤ) (ctx : TimingCtx) (ws : WsMode) (s′ y′ : List ℕ) (n : ℕ)
       → SegmentsPost t u z k e start ctx ws (line .rows) (T .segments) (T .texts) s′ y′ (Styled.Is n) → (line .rows ≤ n) × (n ≤ 16384)
   p-after start ctx ws s′ y′ n post =
       let x = post _ (content-of (a .child)) (a .child .attrs) (owned (a .child)) in
@@ -324,11 +324,10 @@ module _ {t u z : List ℕ} {k : ℕ} {line : Line} {T : CueTables} (a : AsksChi
           rest-is : onward (it .end) n (later (it .end - line .rows) (blankFrom b (madeIn (x .earlier)))) ≡ blankFrom b n
           rest-is =
               let st = x .standing in
-              let wide = a .spacious .roomy .wide in
               ap (λ (i : ℕ). onward (it .end) n (later (it .end - line .rows) (blankFrom b i))) (sym (st .made))
               ∙ (ap (onward (it .end) n) (blank-later b (line .rows) (it .end) (it .after) (it .most))
-              ∙ blank-onward b (line .rows) (it .end) (it .after) (it .most) n (omega (arith, it .rows .count)) (it .few)
-              (wide-cells st 131072 (wide .in-cells)) (wide-times st 16384 (wide .in-times)))
+              ∙ blank-onward b (line .rows) (it .end) (it .after) (it .most) n (omega (arith, it .rows .count))
+              (wide-cells st 98304 (a .spacious .roomy .wide)))
 
           abbrev the-cue : Cue Placed
           the-cue = cueWith when mode (l x) (it .segments)

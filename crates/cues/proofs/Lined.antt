@@ -2,7 +2,7 @@
 --     texts-same, made-more, kept-more, texts-more, rows-more, all-more     the texts, the counts and the rows of cues, and of one more
 --     blank-later, blank-onward                                             cleared rows, after more rows or fewer
 --     cue-row                                                               a p's row by value is that of the layout
---     lined-frame, wide-cells, wide-times                                   where the next cue's segments begin, and their room
+--     lined-frame, wide-cells                                               where the next cue's segments begin, and their room
 --     Next, lined-more                                                      the tables with the next cue
 use Prim.Native.Nat.{ℕ, zero, suc, _+_, _-_, _*_, _≤_, _<_}
 use mathlib.Core.Path.{_≡_, refl, sym, ap, _∙_}
@@ -10,21 +10,19 @@ use mathlib.Core.List.{List, [], _∷_, _++_, append-assoc, append-nil}
 use native.Mathlib.Omega.{arith}
 use native.Mathlib.Nat.{add-zero, sub-zero, zero-sub, suc-sub-suc}
 use lib.IntN.{ℤ, pos}
-use lib.Ieee.{Float}
 use lib.ListN.{length, getD, replicate, drop, length-append, length-replicate, replicate-append-replicate}
-use lib.Seq.{sets, drop-append-le}
+use lib.Seq.{sets}
 use borrow.Author.Tests.{ne-eqb}
 use Rattle.track.specs.declared.strings.Span.{Span}
 use Rattle.track.specs.Track.{Segments, Cue, Extra, segmentRows}
 use Rattle.track.specs.Track as track
-use Rattle.track.specs.Layout.{PlacedCue, Sized, each, preorder, joinedCells, extraCells, segmentTime, segmentSize, layExtras, allSegments}
-use Rattle.track.specs.Layout.{filled, filledTimes, filledSizes, cueCells, cueTimes}
+use Rattle.track.specs.Layout.{PlacedCue, each, preorder, joinedCells, extraCells, layExtras, allSegments}
+use Rattle.track.specs.Layout.{filled, filledTimes, cueCells, cueTimes}
 use Rattle.track.specs.Layout as placing
-use Rattle.track.specs.Tables.{zeroFloat}
 use Rattle.track.proofs.SegmentsLaid.{rows-many}
-use Rattle.records.specs.Siblings.{rowCells, cellsOf, timesOf, floatsOf, Three, Stands, later}
+use Rattle.records.specs.Siblings.{rowCells, cellsOf, Stands, later}
 use Rattle.records.proofs.RowLaws.{joined-append, joined-length, row-added, cue-wide, segment-wide}
-use Rattle.records.proofs.Beside.{each-append, each-length, times-length, times-added}
+use Rattle.records.proofs.Beside.{times-length, times-added}
 use Rattle.records.proofs.Standing.{stands-start}
 use Rattle.xml.specs.Reading.{Placed, lay}
 use Rattle.xml.proofs.Lays.{lay-length, lay-append, ordered-append}
@@ -135,70 +133,26 @@ drop-same (suc k) (suc n) d = rw (suc-sub-suc n k) (drop-same k n d)
 drop-both : {A : Type 0} (d : A) (i j k m : ℕ) → j + k - i ≡ m → drop i (replicate j d ++ replicate k d) ≡ replicate m d
 drop-both d i j k m e = rw (replicate-append-replicate j k d, drop-same i (j + k) d, e)
 
-drop-both-on : {A : Type 0} (d : A) (l : List A) (i j k m : ℕ) → i ≤ j + k → j + k - i ≡ m
-    → drop i (replicate j d ++ (replicate k d ++ l)) ≡ replicate m d ++ l
-drop-both-on d l i j k m h e =
-    let long : i ≤ length (replicate (j + k) d) = rw (length-replicate (j + k) d) h in
-    rw (
-      ← (append-assoc (replicate j d) (replicate k d) l),
-      replicate-append-replicate j k d,
-      drop-append-le i (replicate (j + k) d) l long,
-      drop-same i (j + k) d,
-      e,
-    )
-
 -- nothing stands from row n on
-abbrev pub blankFrom : Base → ℕ → Three
-blankFrom b n = record {
-  cells = replicate (b .lengths .segments - n * 8) 0;
-  times = replicate (b .lengths .reveal - n) (pos 0);
-  floats = replicate (16384 - n) zeroFloat ++ b .sizes;
-}
+abbrev pub blankFrom : Base → ℕ → List ℕ
+blankFrom b n = replicate (b .lengths .segments - n * 6) 0
 
-less-eights : (m first end : ℕ) → first ≤ end → m - first * 8 - (end - first) * 8 ≡ m - end * 8
-less-eights m first end h = omega arith
+less-rows : (m first end : ℕ) → first ≤ end → m - first * 6 - (end - first) * 6 ≡ m - end * 6
+less-rows m first end h = omega arith
 
-less-ones : (m first end : ℕ) → first ≤ end → m - first - (end - first) ≡ m - end
-less-ones m first end h = omega arith
-
-onward-eights : (m first end n : ℕ) → 131072 ≤ first * 8 + (m - first * 8) → first ≤ end → end ≤ 16384 → first ≤ n
-    → (end - n) * 8 + (m - end * 8) - (n - end) * 8 ≡ m - n * 8
-onward-eights m first end n wide low most h = omega arith
-
-onward-ones : (m first end n : ℕ) → 16384 ≤ first + (m - first) → first ≤ end → end ≤ 16384 → first ≤ n
-    → end - n + (m - end) - (n - end) ≡ m - n
-onward-ones m first end n wide low most h = omega arith
-
-back : (n : ℕ) → 16384 ≤ n + (16384 - n)
-back n = omega arith
-
-onward-fits : (end n : ℕ) → end ≤ 16384 → n ≤ 16384 → n - end ≤ end - n + (16384 - end)
-onward-fits end n h g = omega arith
+onward-rows : (m first end n : ℕ) → 98304 ≤ first * 6 + (m - first * 6) → first ≤ end → end ≤ 16384 → first ≤ n
+    → (end - n) * 6 + (m - end * 6) - (n - end) * 6 ≡ m - n * 6
+onward-rows m first end n wide low most h = omega arith
 
 module _ (b : Base) (first end : ℕ) (low : first ≤ end) (most : end ≤ 16384) where
   pub blank-later : later (end - first) (blankFrom b first) ≡ blankFrom b end
   blank-later =
-      rw (
-        drop-same {A = ℕ} ((end - first) * 8) (b .lengths .segments - first * 8) 0,
-        less-eights (b .lengths .segments) first end low,
-        drop-same (end - first) (b .lengths .reveal - first) (pos 0),
-        less-ones (b .lengths .reveal) first end low,
-        drop-append-le (end - first) (replicate (16384 - first) zeroFloat) (b .sizes) (rw length-replicate (omega arith)),
-        drop-same (end - first) (16384 - first) zeroFloat,
-        less-ones 16384 first end low,
-      )
+      rw (drop-same {A = ℕ} ((end - first) * 6) (b .lengths .segments - first * 6) 0, less-rows (b .lengths .segments) first end low)
 
-  pub blank-onward : (n : ℕ) → first ≤ n → n ≤ 16384 → 131072 ≤ first * 8 + (b .lengths .segments - first * 8)
-      → 16384 ≤ first + (b .lengths .reveal - first) → onward end n (blankFrom b end) ≡ blankFrom b n
-  blank-onward n h g wide wide-times =
-      let i = onward-eights (b .lengths .segments) first end n wide low most h in
-      let j = onward-ones (b .lengths .reveal) first end n wide-times low most h in
-      let k = onward-ones 16384 first end n (back first) low most h in
-      rw (
-        drop-both {A = ℕ} 0 ((n - end) * 8) ((end - n) * 8) (b .lengths .segments - end * 8) (b .lengths .segments - n * 8) i,
-        drop-both (pos 0) (n - end) (end - n) (b .lengths .reveal - end) (b .lengths .reveal - n) j,
-        drop-both-on zeroFloat (b .sizes) (n - end) (end - n) (16384 - end) (16384 - n) (onward-fits end n most g) k,
-      )
+  pub blank-onward : (n : ℕ) → first ≤ n → 98304 ≤ first * 6 + (b .lengths .segments - first * 6) → onward end n (blankFrom b end) ≡ blankFrom b n
+  blank-onward n h wide =
+      drop-both {A = ℕ} 0 ((n - end) * 6) ((end - n) * 6) (b .lengths .segments - end * 6) (b .lengths .segments - n * 6)
+      (onward-rows (b .lengths .segments) first end n wide low most h)
 
 -- ---- a row
 
@@ -229,21 +183,11 @@ cue-row when ws line rows l f e =
 -- ---- the tables
 
 -- what stands before the next cue's segments, after the cues l
-abbrev pub before : Base → List (Cue Placed) → Three
-before b l = record {
-  cells = cellsOf (allSegments (rowsOf b l));
-  times = timesOf (allSegments (rowsOf b l));
-  floats = floatsOf (allSegments (rowsOf b l));
-}
+abbrev pub before : Base → List (Cue Placed) → List ℕ
+before b l = cellsOf (allSegments (rowsOf b l))
 
 abbrev pub nextFrame : Base → (limit hi : ℕ) → List (Cue Placed) → (y : List ℕ) → Frame
 nextFrame b limit hi l y = record { pre = before b l; rest = blankFrom b (madeIn l); base = y; lo = hi; limit = limit }
-
-abbrev timeIn : Sized → ℤ
-timeIn x = segmentTime (x .segment)
-
-abbrev floatIn : Sized → Float
-floatIn x = segmentSize (x .segment)
 
 zeros-blank : (n i : ℕ) → getD (replicate {A = ℕ} n 0) i 0 ≡ 0
 zeros-blank zero i = refl
@@ -251,27 +195,13 @@ zeros-blank (suc n) zero = refl
 zeros-blank (suc n) (suc i) = zeros-blank n i
 
 module _ (b : Base) (l : List (Cue Placed)) where
-  cells-long : length (before b l .cells) ≡ madeIn l * 8
+  cells-long : length (before b l) ≡ madeIn l * 6
   cells-long =
-      joined-length rowCells 8 (λ y. segment-wide (y .segment) (y .rows)) (allSegments (rowsOf b l)) ∙ rw (all-long (b .rows) 0 l)
-
-  times-long : length (before b l .times) ≡ madeIn l
-  times-long = each-length timeIn (allSegments (rowsOf b l)) ∙ all-long (b .rows) 0 l
-
-  floats-long : length (before b l .floats) ≡ madeIn l
-  floats-long = each-length floatIn (allSegments (rowsOf b l)) ∙ all-long (b .rows) 0 l
+      joined-length rowCells 6 (λ y. segment-wide (y .segment) (y .rows)) (allSegments (rowsOf b l)) ∙ rw (all-long (b .rows) 0 l)
 
 module _ {b : Base} {hi : ℕ} {l : List (Cue Placed)} {line : Line} {T : CueTables} (h : Lined b hi l line T) where
-  in-cells : T .segments .cells ≡ before b l .cells ++ blankFrom b (madeIn l) .cells
+  in-cells : T .segments ≡ before b l ++ blankFrom b (madeIn l)
   in-cells = h .in-cells ∙ rw (cells-long b l)
-
-  in-times : T .segments .times ≡ before b l .times ++ blankFrom b (madeIn l) .times
-  in-times = h .in-reveal ∙ rw (times-long b l)
-
-  in-floats : T .segments .floats ≡ before b l .floats ++ blankFrom b (madeIn l) .floats
-  in-floats =
-      h .in-sizes
-      ∙ rw (floats-long b l) (append-assoc (before b l .floats) (replicate (16384 - madeIn l) zeroFloat) (b .sizes))
 
   texts-long : length (T .texts) ≡ b .lengths .texts
   texts-long =
@@ -289,25 +219,16 @@ module _ {b : Base} {hi : ℕ} {l : List (Cue Placed)} {line : Line} {T : CueTab
       let e : line .rows - line .rows ≡ 0 = omega arith in
       let m : line .rows ≡ madeIn l = h .made in
       record {
-        rows = rw (e, m)
-            (stands-start (before b l) (blankFrom b (madeIn l)) (T .segments) (madeIn l) (cells-long b l, times-long b l, floats-long b l)
-            in-cells in-times in-floats);
+        rows = rw (e, m) (stands-start (before b l) (blankFrom b (madeIn l)) (T .segments) (madeIn l) (cells-long b l) in-cells);
         texts = record { is = refl; order = omega arith; room = omega (arith, texts-long, h .room); blank = texts-blank };
       }
 
-  pub wide-cells : (n : ℕ) → n ≤ length (T .segments .cells) → n ≤ line .rows * 8 + (b .lengths .segments - line .rows * 8)
+  pub wide-cells : (n : ℕ) → n ≤ length (T .segments) → n ≤ line .rows * 6 + (b .lengths .segments - line .rows * 6)
   wide-cells n g =
-      let e = ap length in-cells ∙ length-append (before b l .cells) (blankFrom b (madeIn l) .cells) in
-      let r = length-replicate {A = ℕ} (b .lengths .segments - madeIn l * 8) 0 in
+      let e = ap length in-cells ∙ length-append (before b l) (blankFrom b (madeIn l)) in
+      let r = length-replicate {A = ℕ} (b .lengths .segments - madeIn l * 6) 0 in
       let m : line .rows ≡ madeIn l = h .made in
       rw m (omega (arith, cells-long b l))
-
-  pub wide-times : (n : ℕ) → n ≤ length (T .segments .times) → n ≤ line .rows + (b .lengths .reveal - line .rows)
-  wide-times n g =
-      let e = ap length in-times ∙ length-append (before b l .times) (blankFrom b (madeIn l) .times) in
-      let r = length-replicate (b .lengths .reveal - madeIn l) (pos 0) in
-      let m : line .rows ≡ madeIn l = h .made in
-      rw m (omega (arith, times-long b l))
 
 -- ---- with the next cue
 
@@ -372,33 +293,16 @@ module _ {b : Base} {hi : ℕ} {l : List (Cue Placed)} {line : Line} {T : CueTab
       let t = placing.cueExtras (b .extras) (rowsOf b l) in
       rw (rows-are, h .in-extras) (sym (extras-more row (b .extras) (rowsOf b l) ∙ extras-laid (line .extras) t (c .extras)))
 
-  module _ (n : ℕ) (s′ : Three) (st : Stands (before b l) (blankFrom b n) (line .rows) n own s′) where
+  module _ (n : ℕ) (s′ : List ℕ) (st : Stands (before b l) (blankFrom b n) (line .rows) n own s′) where
     made-is : madeIn more ≡ n
     made-is = made-more c l ∙ omega (arith, st .count, h .made, rows-spans (c .segments))
 
-    more-cells : s′ .cells ≡ filled (b .lengths .segments) (before b more .cells)
+    more-cells : s′ ≡ filled (b .lengths .segments) (before b more)
     more-cells =
-        let x = before b more .cells in
+        let x = before b more in
         let g = cellsOf (preorder own) in
-        let e : x ≡ before b l .cells ++ g = ap cellsOf segments-are ∙ joined-append rowCells (allSegments (rowsOf b l)) (preorder own) in
-        st .in-cells ∙ refilled 0 (before b l .cells) g x (b .lengths .segments) (n * 8) e (cells-long b more ∙ rw made-is)
-
-    more-reveal : s′ .times ≡ filledTimes (b .lengths .reveal) (before b more .times)
-    more-reveal =
-        let x = before b more .times in
-        let g = timesOf (preorder own) in
-        let e : x ≡ before b l .times ++ g = ap timesOf segments-are ∙ each-append timeIn (allSegments (rowsOf b l)) (preorder own) in
-        st .in-times ∙ refilled (pos 0) (before b l .times) g x (b .lengths .reveal) n e (times-long b more ∙ made-is)
-
-    more-sizes : s′ .floats ≡ filledSizes 16384 (before b more .floats) ++ b .sizes
-    more-sizes =
-        let x = before b more .floats in
-        let g = floatsOf (preorder own) in
-        let e : x ≡ before b l .floats ++ g = ap floatsOf segments-are ∙ each-append floatIn (allSegments (rowsOf b l)) (preorder own) in
-        let k = refilled zeroFloat (before b l .floats) g x 16384 n e (floats-long b more ∙ made-is) in
-        let zeros = replicate (16384 - n) zeroFloat in
-        let assoc : before b l .floats ++ (g ++ (zeros ++ b .sizes)) ≡ (before b l .floats ++ (g ++ zeros)) ++ b .sizes = simp append-assoc in
-        st .in-floats ∙ (assoc ∙ ap (λ (i : List Float). i ++ b .sizes) k)
+        let e : x ≡ before b l ++ g = ap cellsOf segments-are ∙ joined-append rowCells (allSegments (rowsOf b l)) (preorder own) in
+        st .in-cells ∙ refilled 0 (before b l) g x (b .lengths .segments) (n * 6) e (cells-long b more ∙ rw made-is)
 
   module _ (hi′ : ℕ) (y′ : List ℕ) (la : Laid (c .segments) [] (T .texts) y′ hi hi′) where
     more-texts : y′ ≡ lay (replicate (b .lengths .texts) 0) (cueTexts more)
@@ -433,8 +337,6 @@ module _ {b : Base} {hi : ℕ} {l : List (Cue Placed)} {line : Line} {T : CueTab
     in-cues = x .in-cues ∙ more-cues (x .few) (s .cues);
     in-times = x .in-times ∙ more-times (x .few) (s .times);
     in-cells = more-cells n (T′ .segments) (x .in-rows);
-    in-reveal = more-reveal n (T′ .segments) (x .in-rows);
-    in-sizes = more-sizes n (T′ .segments) (x .in-rows);
     in-extras = x .in-extras ∙ more-extras;
     in-texts = more-texts hi′ (T′ .texts) (x .in-texts);
     order = more-order hi′ (T′ .texts) (x .in-texts);

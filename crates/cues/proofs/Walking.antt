@@ -145,8 +145,6 @@ lined-end c m e x = record {
   in-cues = x .in-cues;
   in-times = x .in-times;
   in-cells = x .in-cells;
-  in-reveal = x .in-reveal;
-  in-sizes = x .in-sizes;
   in-extras = x .in-extras;
   in-texts = x .in-texts;
   order = x .order;
@@ -468,43 +466,33 @@ passed x j ne = passed-of (x .own) (x .hi) (x .earlier) (x .standing) (x .forest
 pub record SameLengths (T T′ : CueTables) : Type 0 where
   pub cues : length (T′ .cues) ≡ length (T .cues)
   pub times : length (T′ .times) ≡ length (T .times)
-  pub cells : length (T′ .segments .cells) ≡ length (T .segments .cells)
-  pub reveal : length (T′ .segments .times) ≡ length (T .segments .times)
-  pub sizes : length (T′ .segments .floats) ≡ length (T .segments .floats)
+  pub segments : length (T′ .segments) ≡ length (T .segments)
   pub extras : length (T′ .extras) ≡ length (T .extras)
   pub texts : length (T′ .texts) ≡ length (T .texts)
 
 pub lengths-refl : (T : CueTables) → SameLengths T T
-lengths-refl T = record { cues = refl; times = refl; cells = refl; reveal = refl; sizes = refl; extras = refl; texts = refl }
+lengths-refl T = record { cues = refl; times = refl; segments = refl; extras = refl; texts = refl }
 
 pub lengths-then : {A B C : CueTables} → SameLengths A B → SameLengths B C → SameLengths A C
 lengths-then x y = record {
   cues = y .cues ∙ x .cues;
   times = y .times ∙ x .times;
-  cells = y .cells ∙ x .cells;
-  reveal = y .reveal ∙ x .reveal;
-  sizes = y .sizes ∙ x .sizes;
+  segments = y .segments ∙ x .segments;
   extras = y .extras ∙ x .extras;
   texts = y .texts ∙ x .texts;
 }
 
 still-spacious : {z : List ℕ} {T T′ : CueTables} → SameLengths T T′ → Spacious z T → Spacious z T′
-still-spacious x s =
-    let w = s .roomy .wide in
-    record {
-      roomy = record {
-        wide = record {
-          in-cells = omega (arith, x .cells, w .in-cells);
-          in-times = omega (arith, x .reveal, w .in-times);
-          in-floats = omega (arith, x .sizes, w .in-floats);
-        };
-        texts = omega (arith, x .texts, s .roomy .texts);
-        small = s .roomy .small;
-      };
-      cues = omega (arith, x .cues, s .cues);
-      times = omega (arith, x .times, s .times);
-      extras = omega (arith, x .extras, s .extras);
-    }
+still-spacious x s = record {
+  roomy = record {
+    wide = omega (arith, x .segments, s .roomy .wide);
+    texts = omega (arith, x .texts, s .roomy .texts);
+    small = s .roomy .small;
+  };
+  cues = omega (arith, x .cues, s .cues);
+  times = omega (arith, x .times, s .times);
+  extras = omega (arith, x .extras, s .extras);
+}
 
 module _ (t u z : List ℕ) (from end : ℕ) (seq : Bool) (begin : ℤ) (ctx : TimingCtx) (ws : WsMode) (line : Line) (T₀ : CueTables) where
   abbrev means : (reference latest : ℤ) → List (Cue Placed) → Forest → Answer (meaning.Line Placed)

@@ -4,7 +4,6 @@ use mathlib.Core.Path.{_≡_}
 use mathlib.Core.Bool.{Bool, false, cond, _&&_}
 use mathlib.Core.List.{List, [], _∷_, _++_}
 use lib.IntN.{ℤ, pos}
-use lib.Ieee.{Float}
 use lib.ListN.{length, replicate}
 use lib.Seq.{sets}
 use Rattle.scan.specs.Part.{stringAt}
@@ -15,11 +14,11 @@ use Rattle.tree.specs.Trees.{Forest, size, attrsOf, spans, InOrder}
 use Rattle.tree.specs.Trees as placed
 use Rattle.track.specs.Track.{Wrapper, Segments, Cue, noSegments, segmentRows, isBareFont}
 use Rattle.track.specs.Track as track
-use Rattle.track.specs.Tables.{Lengths, zeroFloat}
-use Rattle.track.specs.Layout.{preorder, isSome, spanOr, PlacedCue, filled, filledTimes, filledSizes, joinedCells, cueCells, cueTimes, allSegments}
+use Rattle.track.specs.Tables.{Lengths}
+use Rattle.track.specs.Layout.{preorder, isSome, spanOr, PlacedCue, filled, filledTimes, joinedCells, cueCells, cueTimes, allSegments}
 use Rattle.track.specs.Layout as placing
 use Rattle.records.specs.declared.cells.Added.{Added}
-use Rattle.records.specs.Siblings.{Three, Stands, cellsOf, timesOf, floatsOf, later}
+use Rattle.records.specs.Siblings.{Stands, cellsOf, later}
 use Rattle.xml.specs.declared.find.Element.{Element}
 use Rattle.xml.specs.Find.{Holds}
 use Rattle.xml.specs.Reading.{Placed, lay}
@@ -41,7 +40,6 @@ use Rattle.styling.specs.Posts.{HasRows, OfRows, turned, spaceIn}
 use Rattle.extras.specs.Kept.{placedCells, rowsFrom}
 use Rattle.extras.specs.Counts.{attrsNamed}
 use Rattle.inline.specs.Stood.{spanIn, spansIn, textsIn, InTurn, Laid}
-use Rattle.inline.specs.Wraps.{three}
 use Rattle.content.specs.Steps.{Roomy, Frame, Content, AsksContent}
 use Rattle.intervals.specs.declared.Interval.{Interval}
 use Rattle.intervals.specs.Steps.{endFrom}
@@ -63,47 +61,43 @@ isBare (track.wrap w c x) = isBareFont w && noSegments x
 -- r says whether the rows `first` up to `end`, whatever segments stand there, are one
 abbrev pub TellsBare : List ℕ → (first end : ℕ) → Bool → Type 0
 TellsBare t first end r =
-    (pre rest : List ℕ) (f : Segments Span) → length pre ≡ first * 8 → t ≡ pre ++ (cellsOf (preorder f) ++ rest) → end ≡ first + segmentRows f
+    (pre rest : List ℕ) (f : Segments Span) → length pre ≡ first * 6 → t ≡ pre ++ (cellsOf (preorder f) ++ rest) → end ≡ first + segmentRows f
     → r ≡ isBare f
 
 -- k cleared rows, and then x
-abbrev pub cleared : ℕ → Three → Three
-cleared k x = record {
-  cells = replicate (k * 8) 0 ++ x .cells;
-  times = replicate k (pos 0) ++ x .times;
-  floats = replicate k zeroFloat ++ x .floats;
-}
+abbrev pub cleared : ℕ → List ℕ → List ℕ
+cleared k x = replicate (k * 6) 0 ++ x
 
 -- what stands after row m, where x stood after row `end`
-abbrev pub onward : (end m : ℕ) → Three → Three
+abbrev pub onward : (end m : ℕ) → List ℕ → List ℕ
 onward end m x = later (m - end) (cleared (end - m) x)
 
--- The rows `first` up to `end` of the tables t, whatever segments stand there, are now a p around these, up to row m; or there would be more
+-- The rows `first` up to `end` of the table t, whatever segments stand there, are now a p around these, up to row m; or there would be more
 -- than 16,384 rows.
-abbrev pub Paragraphed : (first end : ℕ) → List (Wrapper Span) → (t t′ : Three) → Added → Type 0
+abbrev pub Paragraphed : (first end : ℕ) → List (Wrapper Span) → (t t′ : List ℕ) → Added → Type 0
 Paragraphed first end ws t t′ (Added.Next m) =
     (m ≤ 16384)
-    × ((pre rest : Three) (f : Segments Span) → Stands pre rest first end f t → Stands pre (onward end m rest) first m (paragraphOf ws f) t′)
+    × ((pre rest : List ℕ) (f : Segments Span) → Stands pre rest first end f t → Stands pre (onward end m rest) first m (paragraphOf ws f) t′)
 Paragraphed first end ws t t′ Added.Full =
-    (pre rest : Three) (f : Segments Span) → Stands pre rest first end f t → 16384 < first + segmentRows (paragraphOf ws f)
+    (pre rest : List ℕ) (f : Segments Span) → Stands pre rest first end f t → 16384 < first + segmentRows (paragraphOf ws f)
 
 abbrev pub styledIn : Added → (place : ℕ) → Styled
 styledIn (Added.Next m) p = Styled.Is m
 styledIn Added.Full p = Styled.Refused (record { number = 13; place = p })
 
 -- m is what a p's attributes make of its content f, which stood in the rows `first` up to `end`: it stands in these up to n, its texts the same
-pub record Dressed (m : Answer (Segments Placed)) (first end n : ℕ) (f : Segments Placed) (pre rest s′ : Three) : Type 0 where
+pub record Dressed (m : Answer (Segments Placed)) (first end n : ℕ) (f : Segments Placed) (pre rest s′ : List ℕ) : Type 0 where
   pub few : n ≤ 16384
   pub segments : Segments Placed
   pub means : m ≡ is segments
   pub same : textsIn segments ≡ textsIn f
   pub rows : Stands pre (onward end n rest) first n (spansIn segments) s′
 
-abbrev pub StyledGiven : (Segments Placed → Answer (Segments Placed)) → (first end : ℕ) → (s s′ : Three) → Styled → Type 0
+abbrev pub StyledGiven : (Segments Placed → Answer (Segments Placed)) → (first end : ℕ) → (s s′ : List ℕ) → Styled → Type 0
 StyledGiven m first end s s′ (Styled.Is n) =
-    (pre rest : Three) (f : Segments Placed) → Stands pre rest first end (spansIn f) s → Dressed (m f) first end n f pre rest s′
+    (pre rest : List ℕ) (f : Segments Placed) → Stands pre rest first end (spansIn f) s → Dressed (m f) first end n f pre rest s′
 StyledGiven m first end s s′ (Styled.Refused q) =
-    (pre rest : Three) (f : Segments Placed) → Stands pre rest first end (spansIn f) s → m f ≡ turned q
+    (pre rest : List ℕ) (f : Segments Placed) → Stands pre rest first end (spansIn f) s → m f ≡ turned q
 
 -- `styled`, where an attribute is one that segments show
 abbrev pub dressing : (place made : ℕ) → List (Attr Placed) → Segments Placed → Answer (Segments Placed)
@@ -122,12 +116,12 @@ pub record PartIs (z name : List ℕ) (l : List (Attr Placed)) (r : Part) : Type
 pub record CueTables : Type 0 where
   pub cues : List ℕ
   pub times : List ℤ
-  pub segments : Three
+  pub segments : List ℕ
   pub extras : List ℕ
   pub texts : List ℕ
 
-abbrev pub seven : (cues : List ℕ) (times : List ℤ) (segments : List ℕ) (reveal : List ℤ) (sizes : List Float) (extras texts : List ℕ) → CueTables
-seven c m g v f e y = record { cues = c; times = m; segments = three g v f; extras = e; texts = y }
+abbrev pub five : (cues : List ℕ) (times : List ℤ) (segments extras texts : List ℕ) → CueTables
+five c m g e y = record { cues = c; times = m; segments = g; extras = e; texts = y }
 
 -- they are long enough, and the strings are no longer than a text
 pub record Spacious (z : List ℕ) (T : CueTables) : Type 0 where
@@ -136,10 +130,9 @@ pub record Spacious (z : List ℕ) (T : CueTables) : Type 0 where
   pub times : 4096 ≤ length (T .times)
   pub extras : 24576 ≤ length (T .extras)
 
--- What they are before the first cue: so long each; the sizes of styles; the extras of styles and regions, so many.
+-- What they are before the first cue: so long each; the extras of styles and regions, so many.
 pub record Base : Type 0 where
   pub lengths : Lengths
-  pub sizes : List Float
   pub extras : List ℕ
   pub rows : ℕ
 
@@ -156,9 +149,7 @@ pub record Lined (b : Base) (hi : ℕ) (l : List (Cue Placed)) (line : Line) (T 
   pub few-rows : madeIn l ≤ 16384
   pub in-cues : T .cues ≡ filled (b .lengths .cues) (joinedCells (λ x. cueCells (x .cue)) (rowsOf b l))
   pub in-times : T .times ≡ filledTimes (b .lengths .times) (cueTimes (rowsOf b l))
-  pub in-cells : T .segments .cells ≡ filled (b .lengths .segments) (cellsOf (allSegments (rowsOf b l)))
-  pub in-reveal : T .segments .times ≡ filledTimes (b .lengths .reveal) (timesOf (allSegments (rowsOf b l)))
-  pub in-sizes : T .segments .floats ≡ filledSizes 16384 (floatsOf (allSegments (rowsOf b l))) ++ b .sizes
+  pub in-cells : T .segments ≡ filled (b .lengths .segments) (cellsOf (allSegments (rowsOf b l)))
   pub in-extras : T .extras ≡ placing.cueExtras (b .extras) (rowsOf b l)
   pub in-texts : T .texts ≡ lay (replicate (b .lengths .texts) 0) (cueTexts l)
   pub order : InTurn 0 (cueTexts l) hi
@@ -171,13 +162,13 @@ abbrev pub segmentsOfP : TimingCtx → WsMode → (place made : ℕ) → (start 
 segmentsOfP ctx ws place made start l c = contentOf withPlaces ctx start (spaceIn ws) made c >>= styled withPlaces ctx place made l
 
 -- its content can be read, into the rows from `first` on
-pub record AsksSegments (t u z : List ℕ) (k : ℕ) (e : Element) (first : ℕ) (s : Three) (y : List ℕ) : Type 0 where
+pub record AsksSegments (t u z : List ℕ) (k : ℕ) (e : Element) (first : ℕ) (s y : List ℕ) : Type 0 where
   pub row : k * 6 + 6 ≤ length t
   pub attrs : HasRows u z (e .first) (e .many)
   pub content : AsksContent t u z (k + 1) (e .end) first s y
 
 -- m is what its segments are
-module _ (w : Frame) (first : ℕ) (s : Three) (y : List ℕ) (m : Answer (Segments Placed)) where
+module _ (w : Frame) (first : ℕ) (s y : List ℕ) (m : Answer (Segments Placed)) where
   -- they stand up to row n, their texts up to hi; its content alone stood up to row `end`
   pub record Segmented (n : ℕ) : Type 0 where
     pub few : n ≤ 16384
@@ -195,8 +186,8 @@ module _ (w : Frame) (first : ℕ) (s : Three) (y : List ℕ) (m : Answer (Segme
   SegmentsOutcome (Styled.Is n) = Segmented n
   SegmentsOutcome (Styled.Refused q) = m ≡ turned q
 
-abbrev pub SegmentsPost : (t u z : List ℕ) (k : ℕ) (e : Element) (start : ℤ) → TimingCtx → WsMode → (first : ℕ) (s : Three) (y : List ℕ) (s′ : Three)
-    (y′ : List ℕ) → Styled → Type 0
+abbrev pub SegmentsPost : (t u z : List ℕ) (k : ℕ) (e : Element) (start : ℤ) → TimingCtx → WsMode → (first : ℕ) (s y s′ y′ : List ℕ)
+    → Styled → Type 0
 SegmentsPost t u z k e start ctx ws first s y s′ y′ r =
     (w : Frame) (x : Content w t u z (k + 1) (e .end) first s y)
     → OfRows u z (e .first) (e .many) (λ l. SegmentsOutcome w first s′ y′ (segmentsOfP ctx ws (e .place) first start l (nodesIn z (x .forest))) r)

@@ -1,5 +1,5 @@
 // The body.
-ghost use Rattle.cues.specs.Steps.{seven, AsksBody, BodyPost};
+ghost use Rattle.cues.specs.Steps.{five, AsksBody, BodyPost};
 use crate::lines::Line;
 use crate::lines::Lining;
 use intervals::Moment;
@@ -15,8 +15,6 @@ pub fn collect_body(
     cues: &mut [u32],
     times: &mut [i64],
     segments: &mut [u32],
-    reveal: &mut [i64],
-    sizes: &mut [f32],
     extras: &mut [u32],
     texts: &mut [u8],
     from: usize,
@@ -26,12 +24,10 @@ pub fn collect_body(
     rows: usize,
 ) -> Lining
     requires { ⌜ AsksBody (now nodes) (now attrs) (now strings) from end rows
-        (seven (now cues) (now times) (now segments) (now reveal) (now sizes) (now extras) (now texts)) ⌝ }
+        (five (now cues) (now times) (now segments) (now extras) (now texts)) ⌝ }
     ensures { λ r. ⌜ BodyPost (now (nodes .entry)) (now (attrs .entry)) (now (strings .entry)) from end ctx ws rows
-        (seven (now (cues .entry)) (now (times .entry)) (now (segments .entry)) (now (reveal .entry)) (now (sizes .entry)) (now (extras .entry))
-        (now (texts .entry)))
-        (seven (now (cues .exit)) (now (times .exit)) (now (segments .exit)) (now (reveal .exit)) (now (sizes .exit)) (now (extras .exit))
-        (now (texts .exit))) r ⌝ }
+        (five (now (cues .entry)) (now (times .entry)) (now (segments .entry)) (now (extras .entry)) (now (texts .entry)))
+        (five (now (cues .exit)) (now (times .exit)) (now (segments .exit)) (now (extras .exit)) (now (texts .exit))) r ⌝ }
 {
     let line = Line {
         cues: 0,
@@ -50,8 +46,6 @@ pub fn collect_body(
                 cues,
                 times,
                 segments,
-                reveal,
-                sizes,
                 extras,
                 texts,
                 k,

@@ -2,7 +2,7 @@
 ghost use mathlib.Core.Path.{_≡_};
 ghost use Rattle.meaning.specs.Cues.{later};
 ghost use Rattle.styling.specs.Posts.{HasRows, OfRows};
-ghost use Rattle.cues.specs.Steps.{seven, following, Closes, AsksChild, ContainerPost, DivPost, ElementPost, AsksCues, CuesPost};
+ghost use Rattle.cues.specs.Steps.{five, following, Closes, AsksChild, ContainerPost, DivPost, ElementPost, AsksCues, CuesPost};
 use crate::lines::Line;
 use crate::lines::Lining;
 use intervals::Moment;
@@ -62,8 +62,6 @@ pub fn collect_container(
     cues: &mut [u32],
     times: &mut [i64],
     segments: &mut [u32],
-    reveal: &mut [i64],
-    sizes: &mut [f32],
     extras: &mut [u32],
     texts: &mut [u8],
     k: usize,
@@ -73,12 +71,10 @@ pub fn collect_container(
     line: Line,
 ) -> Lining
     requires { ⌜ AsksChild (now nodes) (now attrs) (now strings) k line
-        (seven (now cues) (now times) (now segments) (now reveal) (now sizes) (now extras) (now texts)) ⌝ }
+        (five (now cues) (now times) (now segments) (now extras) (now texts)) ⌝ }
     ensures { λ r. ⌜ ContainerPost (now (nodes .entry)) (now (attrs .entry)) (now (strings .entry)) k begin ctx ws line
-        (seven (now (cues .entry)) (now (times .entry)) (now (segments .entry)) (now (reveal .entry)) (now (sizes .entry)) (now (extras .entry))
-        (now (texts .entry)))
-        (seven (now (cues .exit)) (now (times .exit)) (now (segments .exit)) (now (reveal .exit)) (now (sizes .exit)) (now (extras .exit))
-        (now (texts .exit))) r ⌝ }
+        (five (now (cues .entry)) (now (times .entry)) (now (segments .entry)) (now (extras .entry)) (now (texts .entry)))
+        (five (now (cues .exit)) (now (times .exit)) (now (segments .exit)) (now (extras .exit)) (now (texts .exit))) r ⌝ }
 {
     let e = xml::element_at(nodes, k);
     let seq = styling::is_seq_container(attrs, strings, e.first, e.many);
@@ -90,8 +86,6 @@ pub fn collect_container(
         cues,
         times,
         segments,
-        reveal,
-        sizes,
         extras,
         texts,
         k + 1,
@@ -112,8 +106,6 @@ fn collect_div(
     cues: &mut [u32],
     times: &mut [i64],
     segments: &mut [u32],
-    reveal: &mut [i64],
-    sizes: &mut [f32],
     extras: &mut [u32],
     texts: &mut [u8],
     k: usize,
@@ -123,12 +115,10 @@ fn collect_div(
     line: Line,
 ) -> Lining
     requires { ⌜ AsksChild (now nodes) (now attrs) (now strings) k line
-        (seven (now cues) (now times) (now segments) (now reveal) (now sizes) (now extras) (now texts)) ⌝ }
+        (five (now cues) (now times) (now segments) (now extras) (now texts)) ⌝ }
     ensures { λ r. ⌜ DivPost (now (nodes .entry)) (now (attrs .entry)) (now (strings .entry)) k reference ctx ws line
-        (seven (now (cues .entry)) (now (times .entry)) (now (segments .entry)) (now (reveal .entry)) (now (sizes .entry)) (now (extras .entry))
-        (now (texts .entry)))
-        (seven (now (cues .exit)) (now (times .exit)) (now (segments .exit)) (now (reveal .exit)) (now (sizes .exit)) (now (extras .exit))
-        (now (texts .exit))) r ⌝ }
+        (five (now (cues .entry)) (now (times .entry)) (now (segments .entry)) (now (extras .entry)) (now (texts .entry)))
+        (five (now (cues .exit)) (now (times .exit)) (now (segments .exit)) (now (extras .exit)) (now (texts .exit))) r ⌝ }
 {
     let e = xml::element_at(nodes, k);
     match intervals::start_of(attrs, strings, e, ctx, reference) {
@@ -140,8 +130,6 @@ fn collect_div(
             cues,
             times,
             segments,
-            reveal,
-            sizes,
             extras,
             texts,
             k,
@@ -164,8 +152,6 @@ fn collect_element(
     cues: &mut [u32],
     times: &mut [i64],
     segments: &mut [u32],
-    reveal: &mut [i64],
-    sizes: &mut [f32],
     extras: &mut [u32],
     texts: &mut [u8],
     k: usize,
@@ -176,12 +162,10 @@ fn collect_element(
     line: Line,
 ) -> Lining
     requires { ⌜ AsksChild (now nodes) (now attrs) (now strings) k line
-        (seven (now cues) (now times) (now segments) (now reveal) (now sizes) (now extras) (now texts)) ⌝ }
+        (five (now cues) (now times) (now segments) (now extras) (now texts)) ⌝ }
     ensures { λ r. ⌜ ElementPost (now (nodes .entry)) (now (attrs .entry)) (now (strings .entry)) k seq reference ctx ws line
-        (seven (now (cues .entry)) (now (times .entry)) (now (segments .entry)) (now (reveal .entry)) (now (sizes .entry)) (now (extras .entry))
-        (now (texts .entry)))
-        (seven (now (cues .exit)) (now (times .exit)) (now (segments .exit)) (now (reveal .exit)) (now (sizes .exit)) (now (extras .exit))
-        (now (texts .exit))) r ⌝ }
+        (five (now (cues .entry)) (now (times .entry)) (now (segments .entry)) (now (extras .entry)) (now (texts .entry)))
+        (five (now (cues .exit)) (now (times .exit)) (now (segments .exit)) (now (extras .exit)) (now (texts .exit))) r ⌝ }
 {
     if xml::is_element(nodes, strings, k, b"div") {
         return collect_div(
@@ -191,8 +175,6 @@ fn collect_element(
             cues,
             times,
             segments,
-            reveal,
-            sizes,
             extras,
             texts,
             k,
@@ -210,8 +192,6 @@ fn collect_element(
             cues,
             times,
             segments,
-            reveal,
-            sizes,
             extras,
             texts,
             k,
@@ -230,8 +210,6 @@ fn collect_element(
         cues,
         times,
         segments,
-        reveal,
-        sizes,
         extras,
         texts,
         k + 1,
@@ -252,8 +230,6 @@ pub fn collect_cues(
     cues: &mut [u32],
     times: &mut [i64],
     segments: &mut [u32],
-    reveal: &mut [i64],
-    sizes: &mut [f32],
     extras: &mut [u32],
     texts: &mut [u8],
     from: usize,
@@ -265,12 +241,10 @@ pub fn collect_cues(
     line: Line,
 ) -> Lining
     requires { ⌜ AsksCues (now nodes) (now attrs) (now strings) from end line
-        (seven (now cues) (now times) (now segments) (now reveal) (now sizes) (now extras) (now texts)) ⌝ }
+        (five (now cues) (now times) (now segments) (now extras) (now texts)) ⌝ }
     ensures { λ r. ⌜ CuesPost (now (nodes .entry)) (now (attrs .entry)) (now (strings .entry)) from end seq begin ctx ws line
-        (seven (now (cues .entry)) (now (times .entry)) (now (segments .entry)) (now (reveal .entry)) (now (sizes .entry)) (now (extras .entry))
-        (now (texts .entry)))
-        (seven (now (cues .exit)) (now (times .exit)) (now (segments .exit)) (now (reveal .exit)) (now (sizes .exit)) (now (extras .exit))
-        (now (texts .exit))) r ⌝ }
+        (five (now (cues .entry)) (now (times .entry)) (now (segments .entry)) (now (extras .entry)) (now (texts .entry)))
+        (five (now (cues .exit)) (now (times .exit)) (now (segments .exit)) (now (extras .exit)) (now (texts .exit))) r ⌝ }
 {
     let mut s = line;
     let mut latest = begin;
@@ -289,8 +263,6 @@ pub fn collect_cues(
             cues,
             times,
             segments,
-            reveal,
-            sizes,
             extras,
             texts,
             k,

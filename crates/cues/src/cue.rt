@@ -1,7 +1,6 @@
 // A p as a cue.
-ghost use Rattle.inline.specs.Wraps.{three};
 ghost use Rattle.styling.specs.Posts.{OfRows};
-ghost use Rattle.cues.specs.Steps.{AsksSegments, SegmentsPost, AsksCue, CueOutcome, seven, AsksChild, ParagraphPost};
+ghost use Rattle.cues.specs.Steps.{AsksSegments, SegmentsPost, AsksCue, CueOutcome, five, AsksChild, ParagraphPost};
 use crate::lines::Line;
 use crate::lines::Lining;
 use crate::paragraph::Styled;
@@ -21,8 +20,6 @@ fn collect_segments(
     attrs: &[u32],
     strings: &[u8],
     segments: &mut [u32],
-    reveal: &mut [i64],
-    sizes: &mut [f32],
     texts: &mut [u8],
     k: usize,
     e: xml::Element,
@@ -31,18 +28,15 @@ fn collect_segments(
     ws: WsMode,
     rows: usize,
 ) -> Styled
-    requires { ⌜ AsksSegments (now nodes) (now attrs) (now strings) k e rows (three (now segments) (now reveal) (now sizes)) (now texts) ⌝ }
+    requires { ⌜ AsksSegments (now nodes) (now attrs) (now strings) k e rows (now segments) (now texts) ⌝ }
     ensures { λ r. ⌜ SegmentsPost (now (nodes .entry)) (now (attrs .entry)) (now (strings .entry)) k e start ctx ws rows
-        (three (now (segments .entry)) (now (reveal .entry)) (now (sizes .entry))) (now (texts .entry))
-        (three (now (segments .exit)) (now (reveal .exit)) (now (sizes .exit))) (now (texts .exit)) r ⌝ }
+        (now (segments .entry)) (now (texts .entry)) (now (segments .exit)) (now (texts .exit)) r ⌝ }
 {
     match content::collect_segments_timed(
         nodes,
         attrs,
         strings,
         segments,
-        reveal,
-        sizes,
         texts,
         k + 1,
         e.end,
@@ -56,8 +50,6 @@ fn collect_segments(
             attrs,
             strings,
             segments,
-            reveal,
-            sizes,
             e,
             rows,
             run.rows,
@@ -132,8 +124,6 @@ pub fn collect_paragraph(
     cues: &mut [u32],
     times: &mut [i64],
     segments: &mut [u32],
-    reveal: &mut [i64],
-    sizes: &mut [f32],
     extras: &mut [u32],
     texts: &mut [u8],
     k: usize,
@@ -143,12 +133,10 @@ pub fn collect_paragraph(
     line: Line,
 ) -> Lining
     requires { ⌜ AsksChild (now nodes) (now attrs) (now strings) k line
-        (seven (now cues) (now times) (now segments) (now reveal) (now sizes) (now extras) (now texts)) ⌝ }
+        (five (now cues) (now times) (now segments) (now extras) (now texts)) ⌝ }
     ensures { λ r. ⌜ ParagraphPost (now (nodes .entry)) (now (attrs .entry)) (now (strings .entry)) k reference ctx ws line
-        (seven (now (cues .entry)) (now (times .entry)) (now (segments .entry)) (now (reveal .entry)) (now (sizes .entry)) (now (extras .entry))
-        (now (texts .entry)))
-        (seven (now (cues .exit)) (now (times .exit)) (now (segments .exit)) (now (reveal .exit)) (now (sizes .exit)) (now (extras .exit))
-        (now (texts .exit))) r ⌝ }
+        (five (now (cues .entry)) (now (times .entry)) (now (segments .entry)) (now (extras .entry)) (now (texts .entry)))
+        (five (now (cues .exit)) (now (times .exit)) (now (segments .exit)) (now (extras .exit)) (now (texts .exit))) r ⌝ }
 {
     let e = xml::element_at(nodes, k);
     match intervals::interval_of(attrs, strings, e, ctx, reference) {
@@ -160,8 +148,6 @@ pub fn collect_paragraph(
                 attrs,
                 strings,
                 segments,
-                reveal,
-                sizes,
                 texts,
                 k,
                 e,

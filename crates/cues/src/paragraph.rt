@@ -10,7 +10,7 @@ ghost use Rattle.meaning.specs.Space.{isPreserve};
 ghost use Rattle.meaning.specs.Cues.{styled};
 ghost use Rattle.styling.specs.Posts.{HasRows, OfRows, spaceIn};
 ghost use Rattle.content.specs.Steps.{Wide};
-ghost use Rattle.inline.specs.Wraps.{three, wrappersFrom};
+ghost use Rattle.inline.specs.Wraps.{wrappersFrom};
 ghost use Rattle.cues.specs.Steps.{TellsBare, Paragraphed, StyledGiven, dressing, styledIn, PartIs};
 use inline::Wrappers;
 use records::Added;
@@ -35,7 +35,7 @@ pub struct Part {
 
 // Are the rows from `first` up to `end` a font without family and size, and what it wraps?
 fn is_bare(segments: &[u32], first: usize, end: usize) -> bool
-    requires { ⌜ (first ≤ end) × (end * 8 ≤ length (now segments)) ⌝ }
+    requires { ⌜ (first ≤ end) × (end * 6 ≤ length (now segments)) ⌝ }
     ensures { λ r. ⌜ TellsBare (now (segments .entry)) first end r ⌝ }
     ensures { λ r. ⌜ (r ≡ true → first < end) ⌝ }
 {
@@ -49,34 +49,22 @@ fn is_bare(segments: &[u32], first: usize, end: usize) -> bool
     if segments[at] != FONT {
         return false;
     }
-    if segments[at + 2] != 0 {
-        return false;
-    }
-    segments[at + 5] == 0
+    segments[at + 4] == 0
 }
 
 // A p's wrappers around its rows; without any, a font without family and size that is all of them goes.
-pub fn put_paragraph(
-    segments: &mut [u32],
-    reveal: &mut [i64],
-    sizes: &mut [f32],
-    first: usize,
-    end: usize,
-    w: Wrappers,
-) -> Added
-    requires { ⌜ (first ≤ end) × (end ≤ 16384) × (131072 ≤ length (now segments)) × (16384 ≤ length (now reveal)) × (16384 ≤ length (now sizes))
-        × SmallSpan (w .font .family) ⌝ }
-    ensures { λ r. ⌜ Paragraphed first end (wrappersFrom w) (three (now (segments .entry)) (now (reveal .entry)) (now (sizes .entry)))
-        (three (now (segments .exit)) (now (reveal .exit)) (now (sizes .exit))) r ⌝ }
+pub fn put_paragraph(segments: &mut [u32], first: usize, end: usize, w: Wrappers) -> Added
+    requires { ⌜ (first ≤ end) × (end ≤ 16384) × (98304 ≤ length (now segments)) × SmallSpan (w .font .family) ⌝ }
+    ensures { λ r. ⌜ Paragraphed first end (wrappersFrom w) (now (segments .entry)) (now (segments .exit)) r ⌝ }
 {
-    match inline::put_wrappers(segments, reveal, sizes, first, end, false, 0, w) {
+    match inline::put_wrappers(segments, first, end, false, 0, w) {
         Added::Full => Added::Full,
         Added::Next(m) => {
             if m != end {
                 return Added::Next(m);
             }
             if is_bare(segments, first, end) {
-                records::drop_segment(segments, reveal, sizes, first, end);
+                records::drop_segment(segments, first, end);
                 return Added::Next(end - 1);
             }
             Added::Next(end)
@@ -98,22 +86,19 @@ fn wrap_paragraph(
     attrs: &[u32],
     strings: &[u8],
     segments: &mut [u32],
-    reveal: &mut [i64],
-    sizes: &mut [f32],
     e: xml::Element,
     first: usize,
     end: usize,
 ) -> Styled
     requires { ⌜ HasRows (now attrs) (now strings) (e .first) (e .many) × (first ≤ end) × (end ≤ 16384)
-        × Wide (three (now segments) (now reveal) (now sizes)) × (length (now strings) < 2 ^ 32) ⌝ }
+        × Wide (now segments) × (length (now strings) < 2 ^ 32) ⌝ }
     ensures { λ r. ⌜ OfRows (now (attrs .entry)) (now (strings .entry)) (e .first) (e .many) (λ l.
-        StyledGiven (dressing (e .place) first l) first end (three (now (segments .entry)) (now (reveal .entry)) (now (sizes .entry)))
-        (three (now (segments .exit)) (now (reveal .exit)) (now (sizes .exit))) r) ⌝ }
+        StyledGiven (dressing (e .place) first l) first end (now (segments .entry)) (now (segments .exit)) r) ⌝ }
 {
     match styling::wrappers_of(attrs, strings, e.first, e.many) {
         Wrapping::Refused(r) => Styled::Refused(r),
         Wrapping::Is(w) => {
-            let a = put_paragraph(segments, reveal, sizes, first, end, content::around(w));
+            let a = put_paragraph(segments, first, end, content::around(w));
             answer(a, e.place)
         }
     }
@@ -124,21 +109,17 @@ pub fn style_paragraph(
     attrs: &[u32],
     strings: &[u8],
     segments: &mut [u32],
-    reveal: &mut [i64],
-    sizes: &mut [f32],
     e: xml::Element,
     first: usize,
     end: usize,
 ) -> Styled
     requires { ⌜ HasRows (now attrs) (now strings) (e .first) (e .many) × (first ≤ end) × (end ≤ 16384)
-        × Wide (three (now segments) (now reveal) (now sizes)) × (length (now strings) < 2 ^ 32) ⌝ }
+        × Wide (now segments) × (length (now strings) < 2 ^ 32) ⌝ }
     ensures { λ r. ⌜ OfRows (now (attrs .entry)) (now (strings .entry)) (e .first) (e .many) (λ l. (ctx : TimingCtx)
-        → StyledGiven (styled withPlaces ctx (e .place) first l) first end
-        (three (now (segments .entry)) (now (reveal .entry)) (now (sizes .entry)))
-        (three (now (segments .exit)) (now (reveal .exit)) (now (sizes .exit))) r) ⌝ }
+        → StyledGiven (styled withPlaces ctx (e .place) first l) first end (now (segments .entry)) (now (segments .exit)) r) ⌝ }
 {
     if styling::p_has_modelled_inline_style(attrs, strings, e.first, e.many) {
-        return wrap_paragraph(attrs, strings, segments, reveal, sizes, e, first, end);
+        return wrap_paragraph(attrs, strings, segments, e, first, end);
     }
     Styled::Is(end)
 }

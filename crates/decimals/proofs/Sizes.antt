@@ -1,6 +1,9 @@
 -- Sizes. Assumes nothing.
 --     reduced-more, reduced-stop, reduced-end, reduced-least, reduced-is   a decimal without zeros at its end
---     size-long, size-far, size-zero, size-is   which cells are a size
+--     within-not, within-by, within-says        which digits and scale are within the limits
+--     spelling-not, spelling-even, spelling-end which are a spelling
+--     value-not, value-spelled, spelled-finite  what it means
+--     size-is, size-not, size-spelled           which cells are a size
 --     same-true, same-itself, bits-same         the same float, and the same bits
 --     round-finite                              a rounded fraction is no NaN
 --     spelling-whole, spelling-parts, long-whole, long-parts   a spelling's pieces and their lengths
@@ -29,7 +32,7 @@ use Rattle.decimals.proofs.Values.{value-zero}
 use Rattle.decimals.specs.declared.read.Digits.{Digits}
 use Rattle.decimals.specs.declared.size.Size.{Size}
 use Rattle.decimals.specs.Floats.{valueIn, sameExponent, sameFloat}
-use Rattle.decimals.specs.Size.{spelled, reducedFrom, reduced, sized, sizeOf, isSize, spelling}
+use Rattle.decimals.specs.Size.{spelled, reducedFrom, reduced, sized, sizeOf, withinSize, isSpelling, isSize, spelledValue, spelling}
 
 pub small-power : (k : ℕ) → k ≤ 10 → 10 ^ k ≤ 10 ^ 10
 small-power k h = pow-le-pow-right (lit≤ tt) h
@@ -149,19 +152,46 @@ bits-same a b f g n = by (sameFloat b a) refl
         omega arith)
 
 -- ---- which cells are a size
+module _ (digits scale : ℕ) where
+  pub within-not : 999999 < digits → withinSize digits scale ≡ false
+  within-not h = rw (lt-leb digits 999999 h)
+
+  pub within-by : digits ≤ 999999 → withinSize digits scale ≡ leb scale 10
+  within-by h = rw (le-leb digits 999999 h)
+
+  pub within-says : withinSize digits scale ≡ true → (digits ≤ 999999) × (scale ≤ 10)
+  within-says e =
+      let z = and-eq-true-iff (leb digits 999999) (leb scale 10) .0 e in
+      (leb-true digits 999999 (z .0), leb-true scale 10 (z .1))
+
+  pub spelling-not : withinSize digits scale ≡ false → isSpelling digits scale ≡ false
+  spelling-not e = rw e
+
+  module _ (w : withinSize digits scale ≡ true) where
+    pub spelling-even : scale ≡ 0 → isSpelling digits scale ≡ true
+    spelling-even e = rw (w, eq-eqb scale 0 e)
+
+    pub spelling-end : (scale ≡ 0 → ⊥) → isSpelling digits scale ≡ not (eqb (digits % 10) 0)
+    spelling-end n = rw (w, ne-eqb scale 0 n)
+
+  module _ (negative : Bool) where
+    pub value-not : withinSize digits scale ≡ false → spelledValue negative digits scale ≡ fin false 0 (pos 0)
+    unfolding spelledValue
+    value-not e = rw e
+
+    pub value-spelled : digits ≤ 999999 → scale ≤ 10 → spelledValue negative digits scale ≡ valueIn binary32 negative digits scale
+    unfolding spelledValue
+    value-spelled a b = rw (le-leb digits 999999 a, le-leb scale 10 b)
+
+    pub spelled-finite : isNan (spelledValue negative digits scale) ≡ false
+    unfolding spelledValue isNan
+    spelled-finite = by (leb digits 999999 && leb scale 10)
+      where
+        by : (t : Bool) → isNan (cond t (valueIn binary32 negative digits scale) (fin false 0 (pos 0))) ≡ false
+        by true = round-finite binary32 negative digits (10 ^ scale)
+        by false = refl
+
 module _ (s : Size) where
-  pub size-long : 999999 < s .digits → isSize s ≡ false
-  unfolding isSize
-  size-long h = rw (lt-leb (s .digits) 999999 h)
-
-  pub size-far : 10 < s .scale → isSize s ≡ false
-  unfolding isSize
-  size-far h = rw (lt-leb (s .scale) 10 h, and-false)
-
-  pub size-zero : 0 < s .scale → s .digits % 10 ≡ 0 → isSize s ≡ false
-  unfolding isSize
-  size-zero h e = rw (ne-eqb (s .scale) 0 (λ z. omega arith), eq-eqb (s .digits % 10) 0 e, and-false)
-
   pub size-is : s .digits ≤ 999999 → s .scale ≤ 10 → (0 < s .scale → s .digits % 10 ≡ 0 → ⊥)
       → isSize s ≡ sameFloat (s .value) (valueIn binary32 (s .negative) (s .digits) (s .scale))
   unfolding isSize
@@ -170,6 +200,19 @@ module _ (s : Size) where
       by : (t : Bool) → eqb (s .scale) 0 ≡ t → (t || not (eqb (s .digits % 10) 0)) ≡ true
       by true e = refl
       by false e = let z : s .scale ≡ 0 → ⊥ = eqb-false (s .scale) 0 e in rw (ne-eqb (s .digits % 10) 0 (n (omega arith)))
+
+  -- by its spelling
+  pub size-not : isSpelling (s .digits) (s .scale) ≡ false → isSize s ≡ false
+  unfolding isSize
+  size-not e = rw e
+
+  pub size-spelled : isSpelling (s .digits) (s .scale) ≡ true
+      → isSize s ≡ sameFloat (s .value) (spelledValue (s .negative) (s .digits) (s .scale))
+  unfolding isSize
+  size-spelled e =
+      let y = and-eq-true-iff (leb (s .digits) 999999 && leb (s .scale) 10) (eqb (s .scale) 0 || not (eqb (s .digits % 10) 0)) .0 e in
+      let z = and-eq-true-iff (leb (s .digits) 999999) (leb (s .scale) 10) .0 (y .0) in
+      rw (e, value-spelled (s .digits) (s .scale) (s .negative) (leb-true (s .digits) 999999 (z .0)) (leb-true (s .scale) 10 (z .1)))
 
 -- ---- a spelling's pieces: a minus, the digits before the point, and those behind it
 abbrev pub lead : Bool → List ℕ

@@ -1,9 +1,10 @@
 -- A size: an f32 beside the spelling that Rust's `{}` prints for it (document 01, "What must change shape"). Definitions alone.
 use Prim.Native.Nat.{ℕ, zero, suc, _/_, _%_, _^_}
-use mathlib.Core.Bool.{Bool, cond, not, _&&_, _||_}
+use mathlib.Core.Bool.{Bool, false, cond, not, _&&_, _||_}
 use mathlib.Core.List.{List, [], _∷_, _++_}
 use lib.Dec.{eqb, leb}
-use lib.Ieee.{binary32}
+use lib.IntN.{pos}
+use lib.Ieee.{Float, fin, binary32, toBits}
 use Rattle.numerals.specs.Written.{padded, decimalWidth}
 use Rattle.decimals.specs.declared.read.Digits.{Digits}
 use Rattle.decimals.specs.declared.size.Size.{Size}
@@ -32,10 +33,22 @@ sizeOf d = sized (reduced d)
 -- Cells that mean a size (document 01, number 17): a spelling of at most 6 digits, at most 10 of them behind the point, with no zero at the
 -- end there, and the f32 that it spells. Within these limits no other spelling has that f32 (`one-spelling`, proofs/OneSpelling), so this one is
 -- the shortest that reads back as it, which `{}` prints.
+abbrev pub withinSize : ℕ → ℕ → Bool
+withinSize digits scale = leb digits 999999 && leb scale 10
+
+abbrev pub isSpelling : ℕ → ℕ → Bool
+isSpelling digits scale = withinSize digits scale && (eqb scale 0 || not (eqb (digits % 10) 0))
+
 unfoldable pub isSize : Size → Bool
-isSize s =
-    leb (s .digits) 999999 && leb (s .scale) 10 && (eqb (s .scale) 0 || not (eqb (s .digits % 10) 0))
-    && sameFloat (s .value) (valueIn binary32 (s .negative) (s .digits) (s .scale))
+isSize s = isSpelling (s .digits) (s .scale) && sameFloat (s .value) (valueIn binary32 (s .negative) (s .digits) (s .scale))
+
+-- the f32 that a spelling within the limits means, and its 32 bits; 0 past them
+unfoldable pub spelledValue : Bool → ℕ → ℕ → Float
+spelledValue negative digits scale = cond (withinSize digits scale) (valueIn binary32 negative digits scale) (fin false 0 (pos 0))
+
+unfoldable pub spelledBits : Bool → ℕ → ℕ → ℕ
+unfolding spelledValue
+spelledBits negative digits scale = toBits binary32 (spelledValue negative digits scale)
 
 -- The bytes that `{}` prints: a minus, the digits before the point, and, where some stand behind it, a point and those.
 unfoldable pub spelling : Bool → ℕ → ℕ → List ℕ

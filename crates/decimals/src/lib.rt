@@ -12,5 +12,8 @@ pub use read::Digits;
 pub use read::read_decimal;
 pub use size::Size;
 pub use size::is_size;
+pub use size::is_spelling;
 pub use size::size_of;
 pub use size::spell;
+pub use size::spelled_bits;
+pub use size::spelled_value;

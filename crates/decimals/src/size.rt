@@ -6,7 +6,7 @@ ghost use mathlib.Core.Bool.{false};
 ghost use lib.Ieee.{isNan};
 ghost use Rattle.scan.specs.Posts.{Appended, Wrote};
 ghost use Rattle.decimals.specs.Floats.{sameFloat};
-ghost use Rattle.decimals.specs.Size.{reduced, sizeOf, isSize, spelling};
+ghost use Rattle.decimals.specs.Size.{reduced, sizeOf, withinSize, isSpelling, isSize, spelledValue, spelledBits, spelling};
 use crate::read::Digits;
 use scan::Written;
 
@@ -57,27 +57,58 @@ pub fn size_of(d: Digits) -> Size
     }
 }
 
-// Is it a size: a spelling within the limits, with no zero at its end behind the point, and its f32?
+// Are there at most 6 digits, and at most 10 of them behind the point?
+fn within_size(digits: u32, scale: u32) -> bool
+    ensures { λ r. ⌜ r ≡ withinSize digits scale ⌝ }
+{
+    if 999999 < digits {
+        return false;
+    }
+    scale <= 10
+}
+
+// Is it a spelling: within the limits, with no zero at its end behind the point?
+pub fn is_spelling(digits: u32, scale: u32) -> bool
+    ensures { λ r. ⌜ r ≡ isSpelling digits scale ⌝ }
+{
+    if !within_size(digits, scale) {
+        return false;
+    }
+    if scale == 0 {
+        return true;
+    }
+    digits % 10 != 0
+}
+
+// The f32 that a spelling means; 0 past the limits.
+pub fn spelled_value(negative: bool, digits: u32, scale: u32) -> f32
+    ensures { λ r. ⌜ r ≡ spelledValue negative digits scale ⌝ }
+{
+    if !within_size(digits, scale) {
+        return 0.0;
+    }
+    crate::floats::to_f32(Digits {
+        negative,
+        digits: digits as u64,
+        scale,
+    })
+}
+
+// Its bits.
+pub fn spelled_bits(negative: bool, digits: u32, scale: u32) -> u32
+    ensures { λ r. ⌜ r ≡ spelledBits negative digits scale ⌝ }
+{
+    f32::to_bits(spelled_value(negative, digits, scale))
+}
+
+// Is it a size: a spelling, and its f32?
 pub fn is_size(s: Size) -> bool
     ensures { λ r. ⌜ r ≡ isSize s ⌝ }
 {
-    if 999999 < s.digits {
+    if !is_spelling(s.digits, s.scale) {
         return false;
     }
-    if 10 < s.scale {
-        return false;
-    }
-    if 0 < s.scale {
-        if s.digits % 10 == 0 {
-            return false;
-        }
-    }
-    let value = crate::floats::to_f32(Digits {
-        negative: s.negative,
-        digits: s.digits as u64,
-        scale: s.scale,
-    });
-    same_bits(value, s.value)
+    same_bits(spelled_value(s.negative, s.digits, s.scale), s.value)
 }
 
 // Are the two the same f32, the sign of zero counting?

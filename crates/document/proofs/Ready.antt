@@ -78,7 +78,7 @@ module _ (T : Tables) (f : isFull T ≡ true) (h : isTrack T ≡ true) where
         back = style-is .back;
         look = (
           there z′ (T .strings) (cell 27 (T .styles) i 14) (cell 27 (T .styles) i 15) (cell 27 (T .styles) i 16) (style-is .family) few,
-          near (cell 27 (T .styles) i 17) (cell 27 (T .styles) i 18) (cell 27 (T .styles) i 19) (sizeCell (T .sizes) (16384 + i)) (style-is .size),
+          near (cell 27 (T .styles) i 17) (cell 27 (T .styles) i 18) (cell 27 (T .styles) i 19) (sizeCell (T .sizes) i) (style-is .size),
         );
       }
 

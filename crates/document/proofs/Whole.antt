@@ -29,7 +29,7 @@ over-same f g h (suc n) i = ap₂ _++_ (h i) (over-same f g h n (i + 1))
 
 module _ (T : Tables) where
   abbrev C : Tables
-  C = cueTables (T .cues) (T .times) (T .segments) (T .reveal) (T .sizes) (T .extras) (T .strings) (T .texts)
+  C = cueTables (T .cues) (T .times) (T .segments) (T .extras) (T .strings) (T .texts)
 
   cues-are : (n : ℕ) → lines cueText (rowsFrom (cueIn T) n 0) ≡ lines cueText (rowsFrom (cueIn C) n 0)
   cues-are n =

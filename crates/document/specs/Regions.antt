@@ -16,7 +16,6 @@ regionTables g e z = record {
   cues = [];
   times = [];
   segments = [];
-  reveal = [];
   sizes = [];
   extras = e;
   strings = z;

@@ -132,5 +132,4 @@ pub record WholeReady (T : Tables) : Type 0 where
   pub root : RootReady (T .head) (T .params) (T .styles) (T .regions) (T .cues) (T .extras) (T .strings)
   pub styles : StylesReady (T .styles) (T .sizes) (T .extras) (T .strings) (styleCount (T .head))
   pub regions : RegionsReady (regionTables (T .regions) (T .extras) (T .strings)) (regionCount (T .head))
-  pub cues :
-    CuesReady (cueTables (T .cues) (T .times) (T .segments) (T .reveal) (T .sizes) (T .extras) (T .strings) (T .texts)) (cueCount (T .head))
+  pub cues : CuesReady (cueTables (T .cues) (T .times) (T .segments) (T .extras) (T .strings) (T .texts)) (cueCount (T .head))

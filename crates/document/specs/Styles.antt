@@ -32,7 +32,6 @@ styleTables s f e z = record {
   cues = [];
   times = [];
   segments = [];
-  reveal = [];
   sizes = f;
   extras = e;
   strings = z;
@@ -86,7 +85,7 @@ KeptReady t e z n = (j : ℕ) → j < n → ExtrasReady StyleExtra e z (cell 27 
 -- row i can be read
 pub record StyleRow (t : List ℕ) (f : List Float) (z : List ℕ) (i : ℕ) : Type 0 where
   pub row : i * 27 + 27 ≤ length t
-  pub size : 16384 + i + 1 ≤ length f
+  pub size : i + 1 ≤ length f
   pub color : isColor t (i * 27 + 4) ≡ true
   pub back : isColor t (i * 27 + 9) ≡ true
   pub look : LookWithin z (styleAt t f i .look)

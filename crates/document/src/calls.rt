@@ -21,7 +21,6 @@ fn write_document(
     cues: &[u32],
     times: &[i64],
     segments: &[u32],
-    reveal: &[i64],
     sizes: &[f32],
     extras: &[u32],
     strings: &[u8],
@@ -30,13 +29,12 @@ fn write_document(
     at: Written,
 ) -> Written
     requires {
-        ⌜ WholeReady (tables (now head) (now params) (now styles) (now regions) (now cues) (now times) (now segments) (now reveal) (now sizes)
-        (now extras) (now strings) (now texts))
+        ⌜ WholeReady (tables (now head) (now params) (now styles) (now regions) (now cues) (now times) (now segments) (now sizes) (now extras)
+        (now strings) (now texts))
         × Room at (now out) ⌝ }
     ensures { λ r.
         ⌜ Puts (writtenOf (trackAt (tables (now (head .entry)) (now (params .entry)) (now (styles .entry)) (now (regions .entry)) (now (cues .entry))
-        (now (times .entry)) (now (segments .entry)) (now (reveal .entry)) (now (sizes .entry)) (now (extras .entry)) (now (strings .entry))
-        (now (texts .entry)))))
+        (now (times .entry)) (now (segments .entry)) (now (sizes .entry)) (now (extras .entry)) (now (strings .entry)) (now (texts .entry)))))
         at (now (out .entry)) (now (out .exit)) r ⌝ }
 {
     let a = writer::put(out, at, b"<?xml version=\"1.0\" encoding=\"UTF-8\"?>\n");
@@ -49,8 +47,6 @@ fn write_document(
         cues,
         times,
         segments,
-        reveal,
-        sizes,
         extras,
         strings,
         texts,
@@ -70,7 +66,6 @@ fn fill(
     cues: &[u32],
     times: &[i64],
     segments: &[u32],
-    reveal: &[i64],
     sizes: &[f32],
     extras: &[u32],
     strings: &[u8],
@@ -78,15 +73,13 @@ fn fill(
     out: &mut [u8],
 ) -> Answer
     requires {
-        ⌜ WholeReady (tables (now head) (now params) (now styles) (now regions) (now cues) (now times) (now segments) (now reveal) (now sizes)
-        (now extras) (now strings) (now texts))
+        ⌜ WholeReady (tables (now head) (now params) (now styles) (now regions) (now cues) (now times) (now segments) (now sizes) (now extras)
+        (now strings) (now texts))
         × (now out ≡ replicate (length (now out)) 0) ⌝ }
     ensures { λ r.
         ⌜ Filled (writtenOf (trackAt (tables (now (head .entry)) (now (params .entry)) (now (styles .entry)) (now (regions .entry)) (now (cues
-        .entry))
-        (now (times .entry)) (now (segments .entry)) (now (reveal .entry)) (now (sizes .entry)) (now (extras .entry)) (now (strings .entry))
-        (now (texts .entry)))))
-        (length (now (out .entry))) r (now (out .exit)) ⌝ }
+        .entry)) (now (times .entry)) (now (segments .entry)) (now (sizes .entry)) (now (extras .entry)) (now (strings .entry)) (now (texts
+        .entry))))) (length (now (out .entry))) r (now (out .exit)) ⌝ }
 {
     let end = writer::limit(out.len());
     let start = Written::At(0);
@@ -98,7 +91,6 @@ fn fill(
         cues,
         times,
         segments,
-        reveal,
         sizes,
         extras,
         strings,
@@ -123,7 +115,6 @@ pub fn write(
     cues: &[u32],
     times: &[i64],
     segments: &[u32],
-    reveal: &[i64],
     sizes: &[f32],
     extras: &[u32],
     strings: &[u8],
@@ -132,8 +123,8 @@ pub fn write(
 ) -> Answer
     ensures { λ r.
         ⌜ Promise wholeText (tables (now (head .entry)) (now (params .entry)) (now (styles .entry)) (now (regions .entry)) (now (cues .entry))
-        (now (times .entry)) (now (segments .entry)) (now (reveal .entry)) (now (sizes .entry)) (now (extras .entry)) (now (strings .entry))
-        (now (texts .entry))) (now (out .entry)) r (now (out .exit)) ⌝ }
+        (now (times .entry)) (now (segments .entry)) (now (sizes .entry)) (now (extras .entry)) (now (strings .entry)) (now (texts .entry)))
+        (now (out .entry)) r (now (out .exit)) ⌝ }
 {
     scan::clear_bytes(out);
     match track::check_track(
@@ -144,7 +135,6 @@ pub fn write(
         cues,
         times,
         segments,
-        reveal,
         sizes,
         extras,
         strings,
@@ -159,7 +149,6 @@ pub fn write(
             cues,
             times,
             segments,
-            reveal,
             sizes,
             extras,
             strings,

@@ -170,7 +170,7 @@ added-row w row t t′ n (Added.Next m) h x = x .2
 added-row w row t t′ n Added.Full h x = absurd (omega (arith, x .0))
 
 added-float : (row t t′ : List ℕ) (n : ℕ) (v : Float) (f f′ : List Float) (r : Added) → n < 256 → AddPost 256 27 row t t′ n r
-    → ValuePost (16384 + n) v f f′ r → f′ ≡ sets f (16384 + n) (v ∷ [])
+    → ValuePost n v f f′ r → f′ ≡ sets f n (v ∷ [])
 added-float row t t′ n v f f′ (Added.Next m) h x y = y
 added-float row t t′ n v f f′ Added.Full h x y = absurd (omega (arith, x .0))
 
@@ -193,7 +193,7 @@ module _ (z : List ℕ) (l : List (Attr Placed)) (name c k : Span) (look : decla
       → look .family .place + look .family .len ≤ length z → chainSpan z c ≡ chainIn withPlaces (valued withPlaces (ascii "style") l)
       → k ≡ emptied c → Lists (it .extras) at e e′ rows → n < 256 → (r : Added)
       → AddPost 256 27 (styleCells (record { name = name; chain = k; look = look; extras = rows })) t t′ n r
-      → ValuePost (16384 + n) (sizeValue (look .«has_size») (look .size)) f f′ r → Styled it n at t t′ f f′ e e′ (rows .count)
+      → ValuePost n (sizeValue (look .«has_size») (look .size)) f f′ r → Styled it n at t t′ f f′ e e′ (rows .count)
   unfolding laidStyle
   styled t t′ f f′ e e′ a b d g q x h r y w =
       let row = styleCells (record { name = name; chain = k; look = look; extras = rows }) in
@@ -202,7 +202,7 @@ module _ (z : List ℕ) (l : List (Attr Placed)) (name c k : Span) (look : decla
       record {
         count = x .count;
         row = added-row 27 row t t′ n r h y ∙ ap (sets t (n * 27)) (same ∙ style-row z l name c look at rows a b d g (x .rows));
-        float = added-float row t t′ n v f f′ r h y w ∙ ap (λ (i : Float). sets f (16384 + n) (i ∷ [])) (style-float z look);
+        float = added-float row t t′ n v f f′ r h y w ∙ ap (λ (i : Float). sets f n (i ∷ [])) (style-float z look);
         rows = x .laid;
       }
 

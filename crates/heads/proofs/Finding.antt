@@ -200,11 +200,11 @@ module _ {t u z : List ℕ} {from end : ℕ} {T : HeadTables} where
       (headed-more n (nodesIn z (y .content)) T′ (inAll z (y .content)) (inHead z (x .forest)) (first-few y) r (p n c (first-children y v row)))
 
   -- without a head
-  pub head-nothing : AsksHead t u z from end T → Finds t z (ascii "head") from end Found.Nothing
+  pub head-nothing : Finds t z (ascii "head") from end Found.Nothing
       → HeadPost insideHead inHead t u z from end T T (Heading.Is (record { styles = 0; regions = 0; extras = 0 }))
   unfolding inside firstElement listed total laidRegions placing.regionExtras
-  head-nothing a w n c x =
-      let no : StylesStand n (T .extras) [] (T .styles) (T .sizes) (T .extras) = styles-none (c .styles) (c .sizes) (a .long-sizes) in
+  head-nothing w n c x =
+      let no : StylesStand n (T .extras) [] (T .styles) (T .sizes) (T .extras) = styles-none (c .styles) (c .sizes) in
       let none : RegionsStand n 0 (T .extras) [] (T .regions) (T .extras) = regions-none (c .regions) in
       subst (λ (g : Nodes Placed). HeadOutcome n g (inHead z (x .forest)) T (Heading.Is (record { styles = 0; regions = 0; extras = 0 })))
       (sym (inside-nothing (ascii "head") x w)) (record {

@@ -68,7 +68,7 @@ styling-layout z f = attrs-apart z (ascii "styling") (ascii "layout") (apart-of 
 module _ {t u z : List ℕ} {from end : ℕ} {s r : List ℕ} {f : List Float} {e : List ℕ} (a : AsksHead t u z from end (four s r f e)) where
   -- nothing stands in the tables
   no-styles : (n : Lengths) → Cleared n (four s r f e) → StylesStand n e [] s f e
-  no-styles n c = styles-none (c .styles) (c .sizes) (a .long-sizes)
+  no-styles n c = styles-none (c .styles) (c .sizes)
 
   pub asks-styles : AsksStyles inStyling t u z from end s f e
   asks-styles = record {

@@ -92,7 +92,7 @@ module _ {t u z : List ℕ} {from end : ℕ} {s₀ : List ℕ} {f₀ : List Floa
         style-room = omega (arith, along-room its-styles j w v row, a .room)
 
         pub style-asks : HasRows u z (v .first) (v .many) × (length z < 2 ^ 32) × (at + v .many < 2 ^ 32) × ((at + v .many) * 3 ≤ length e)
-            × (6912 ≤ length s) × (16640 ≤ length f)
+            × (6912 ≤ length s) × (256 ≤ length f)
         style-asks = (
           along-attrs its-styles j w v row,
           a .small,

@@ -53,7 +53,7 @@ module _ {u z : List ℕ} {first many : ℕ} {l : List placed.Attr} (y : Owned u
   abbrev attrs : List (Attr Placed)
   attrs = attrsIn z l
 
-  module _ (e₀ s s′ : List ℕ) (f f′ : List Float) (e e′ : List ℕ) (a : 6912 ≤ length s) (b : 16640 ≤ length f) where
+  module _ (e₀ s s′ : List ℕ) (f f′ : List Float) (e e′ : List ℕ) (a : 6912 ≤ length s) (b : 256 ≤ length f) where
     abbrev StyleTurn : Made → Type 0
     StyleTurn r =
         Turn (ascii "style") (styleOf withPlaces) extrasOfStyle 0 n at (λ d. StylesStand L e₀ d s f e) (λ d. StylesStand L e₀ d s′ f′ e′) many place

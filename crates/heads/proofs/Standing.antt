@@ -7,7 +7,7 @@ use mathlib.Core.Path.{_≡_, refl, sym, ap, _∙_}
 use mathlib.Core.List.{List, [], _∷_, _++_}
 use native.Mathlib.Omega.{arith}
 use native.Mathlib.Nat.{sub-zero}
-use lib.ListN.{length, replicate, length-append, length-replicate, replicate-append-replicate}
+use lib.ListN.{length, replicate, length-append, length-replicate}
 use lib.Seq.{sets}
 use lib.Ieee.{Float}
 use Rattle.track.specs.Track.{Extra, Style, Region}
@@ -58,12 +58,6 @@ cells-kept t at (x ∷ xs) = ap (sets t (at * 3)) (placed-cells (x ∷ xs))
 
 -- ---- tables that are filled up
 module _ {A : Type 0} (d : A) where
-  zeros-split : (a n : ℕ) → a ≤ n → replicate n d ≡ replicate a d ++ ([] ++ replicate (n - a - 0) d)
-  zeros-split a n h =
-      let e : a + (n - a) ≡ n = omega arith in
-      ap (λ (k : ℕ). replicate k d) (sym e) ∙ sym (replicate-append-replicate a (n - a) d)
-      ∙ ap (λ (k : ℕ). replicate a d ++ replicate k d) (sym (sub-zero (n - a)))
-
   -- a table with room left is no longer than it should be
   filled-long : (n : ℕ) (l t : List A) → t ≡ l ++ replicate (n - length l) d → length l < length t → length t ≤ n
   filled-long n l t e h = omega (arith, ap length e, length-append l (replicate (n - length l) d), length-replicate (n - length l) d)
@@ -88,14 +82,12 @@ abbrev styleRow : PlacedStyle → List ℕ
 styleRow x = styleCells (x .style)
 
 pub styles-none : {n : Lengths} {s e : List ℕ} {f : List Float} → s ≡ replicate (n .styles) 0 → f ≡ replicate (n .sizes) zeroFloat
-    → 16640 ≤ length f → StylesStand n e [] s f e
+    → StylesStand n e [] s f e
 unfolding laidStyles joinedCells each placing.styleExtras
-styles-none {n} {s} {e} {f} a b h =
-    let w : 16384 ≤ n .sizes = omega (arith, ap length b, length-replicate (n .sizes) zeroFloat) in
-    record { in-styles = a ∙ rw sub-zero; in-sizes = b ∙ zeros-split zeroFloat 16384 (n .sizes) w; in-extras = refl }
+styles-none a b = record { in-styles = a ∙ rw sub-zero; in-sizes = b ∙ rw sub-zero; in-extras = refl }
 
 module _ (n : Lengths) (e₀ : List ℕ) (l : List (Style Placed)) (x : Style Placed) (at m : ℕ) where
-  pub styles-grown : (s s′ : List ℕ) (f f′ : List Float) (e e′ : List ℕ) → 6912 ≤ length s → 16640 ≤ length f → length l < 256
+  pub styles-grown : (s s′ : List ℕ) (f f′ : List Float) (e e′ : List ℕ) → 6912 ≤ length s → 256 ≤ length f → length l < 256
       → at ≡ 0 + total extrasOfStyle l → StylesStand n e₀ l s f e → Styled x (length l) at s s′ f f′ e e′ m
       → StylesStand n e₀ (l ++ (x ∷ [])) s′ f′ e′
   unfolding laidStyle
@@ -107,13 +99,8 @@ module _ (n : Lengths) (e₀ : List ℕ) (l : List (Style Placed)) (x : Style Pl
       let wide : (v : PlacedStyle) → length (styleRow v) ≡ 27 = λ v. style-wide (v .style) in
       let used : length (joinedCells styleRow p) ≡ length p * 27 = joined-length styleRow 27 wide p in
       let long : 6912 ≤ n .styles = omega (arith, filled-long 0 (n .styles) (joinedCells styleRow p) s (st .in-styles) (omega arith)) in
-      let tail : List Float = filledSizes (n .sizes - 16384) (each styleSize p) in
-      let zeros : length (replicate 16384 zeroFloat) ≡ 16384 = length-replicate 16384 zeroFloat in
-      let sum : length f ≡ length (replicate 16384 zeroFloat) + length tail =
-      ap length (st .in-sizes) ∙ length-append (replicate 16384 zeroFloat) tail in
       let sizes : length (each styleSize p) ≡ length p = each-length styleSize p in
-      let room : 256 ≤ n .sizes - 16384 =
-      omega (arith, filled-long zeroFloat (n .sizes - 16384) (each styleSize p) tail refl (omega arith)) in
+      let room : 256 ≤ n .sizes = omega (arith, filled-long zeroFloat (n .sizes) (each styleSize p) f (st .in-sizes) (omega arith)) in
       record {
         in-styles =
             y .row
@@ -121,9 +108,8 @@ module _ (n : Lengths) (e₀ : List ℕ) (l : List (Style Placed)) (x : Style Pl
             ∙ ap (λ v. filled (n .styles) (joinedCells styleRow v)) (sym one);
         in-sizes =
             y .float
-            ∙ rw (← len, st .in-sizes)
-            (style-size-added (replicate 16384 zeroFloat) zeros (n .sizes - 16384) p q (omega arith))
-            ∙ ap (λ v. replicate 16384 zeroFloat ++ filledSizes (n .sizes - 16384) (each styleSize v)) (sym one);
+            ∙ rw (← len, st .in-sizes) (style-size-added (n .sizes) p q (omega arith))
+            ∙ ap (λ v. filledSizes (n .sizes) (each styleSize v)) (sym one);
         in-extras =
             y .rows
             ∙ rw (st .in-extras) (sym (style-extras-one p e₀ q ∙ cells-kept (placing.styleExtras e₀ p) at (x .extras)))

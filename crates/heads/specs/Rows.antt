@@ -41,7 +41,7 @@ styleOfLook id l look = record {
 pub record Styled (s : Style xml.Placed) (n at : ℕ) (t t′ : List ℕ) (f f′ : List Float) (e e′ : List ℕ) (r : ℕ) : Type 0 where
   pub count : r ≡ length (s .extras)
   pub row : t′ ≡ sets t (n * 27) (styleCells (laidStyle at s .style))
-  pub float : f′ ≡ sets f (16384 + n) (sizeValue (laidStyle at s .style .look .«has_size») (laidStyle at s .style .look .size) ∷ [])
+  pub float : f′ ≡ sets f n (sizeValue (laidStyle at s .style .look .«has_size») (laidStyle at s .style .look .size) ∷ [])
   pub rows : e′ ≡ sets e (at * 3) (placedCells (s .extras))
 
 -- evaluated with its limit, it is the one that stands there; or it is refused, and nothing is written

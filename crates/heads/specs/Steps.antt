@@ -1,7 +1,7 @@
 -- What the readers of the head ask and ensure. This file need not be believed: `parse` promises what is left in the end.
-use Prim.Native.Nat.{ℕ, _+_, _-_, _≤_, _<_, _^_}
+use Prim.Native.Nat.{ℕ, _+_, _≤_, _<_, _^_}
 use mathlib.Core.Path.{_≡_}
-use mathlib.Core.List.{List, [], _++_}
+use mathlib.Core.List.{List, []}
 use lib.ListN.{length, replicate}
 use lib.Ieee.{Float}
 use Rattle.tree.specs.Trees.{Forest, size, attrsOf}
@@ -79,14 +79,14 @@ stylesIn f = listedStyles (inside withPlaces (ascii "styling") f)
 -- the styles l stand in their tables, so long each, and no others; their extras in the table that was e before
 pub record StylesStand (n : Lengths) (e : List ℕ) (l : List (Style Placed)) (s : List ℕ) (f : List Float) (e′ : List ℕ) : Type 0 where
   pub in-styles : s ≡ filled (n .styles) (joinedCells (λ x. styleCells (x .style)) (laidStyles 0 l))
-  pub in-sizes : f ≡ replicate 16384 zeroFloat ++ filledSizes (n .sizes - 16384) (each styleSize (laidStyles 0 l))
+  pub in-sizes : f ≡ filledSizes (n .sizes) (each styleSize (laidStyles 0 l))
   pub in-extras : e′ ≡ placing.styleExtras e (laidStyles 0 l)
 
 -- no style stands in tables that are long enough, and there is room for the extras
 pub record AsksStyles (many : List ℕ → Forest → ℕ) (t u z : List ℕ) (from end : ℕ) (s : List ℕ) (f : List Float) (e : List ℕ) : Type 0 where
   pub small : length z < 2 ^ 32
   pub long-styles : 6912 ≤ length s
-  pub long-sizes : 16640 ≤ length f
+  pub long-sizes : 256 ≤ length f
   pub long-extras : 24576 ≤ length e
   pub lengths : Lengths
   pub none : StylesStand lengths e [] s f e
@@ -166,7 +166,7 @@ pub record AsksHead (t u z : List ℕ) (from end : ℕ) (T : HeadTables) : Type 
   pub small : length z < 2 ^ 32
   pub long-styles : 6912 ≤ length (T .styles)
   pub long-regions : 1024 ≤ length (T .regions)
-  pub long-sizes : 16640 ≤ length (T .sizes)
+  pub long-sizes : 256 ≤ length (T .sizes)
   pub long-extras : 24576 ≤ length (T .extras)
   pub lengths : Lengths
   pub cleared : Cleared lengths T
@@ -187,7 +187,7 @@ pub record Headed (n : Lengths) (f : Nodes Placed) (many : ℕ) (T : HeadTables)
   pub within : r .extras ≤ many
   pub in-styles : T .styles ≡ filled (n .styles) (joinedCells (λ x. styleCells (x .style)) (laidStyles 0 styles))
   pub in-regions : T .regions ≡ filled (n .regions) (joinedCells (λ x. regionCells (x .region)) (laidRegions (styleExtras styles) regions))
-  pub in-sizes : T .sizes ≡ replicate 16384 zeroFloat ++ filledSizes (n .sizes - 16384) (each styleSize (laidStyles 0 styles))
+  pub in-sizes : T .sizes ≡ filledSizes (n .sizes) (each styleSize (laidStyles 0 styles))
   pub in-extras : T .extras
       ≡ placing.regionExtras (placing.styleExtras (replicate (n .extras) 0) (laidStyles 0 styles)) (laidRegions (styleExtras styles) regions)
 

@@ -44,7 +44,7 @@ fn add_named(
     at: usize,
 ) -> usize
     requires { ⌜ HasRows (now attrs) (now strings) first many × (length (now strings) < 2 ^ 32) × (at + many < 2 ^ 32)
-        × ((at + many) * 3 ≤ length (now extras)) × (n < 256) × (6912 ≤ length (now styles)) × (16640 ≤ length (now sizes))
+        × ((at + many) * 3 ≤ length (now extras)) × (n < 256) × (6912 ≤ length (now styles)) × (256 ≤ length (now sizes))
         × (name .place + name .len ≤ length (now strings)) × (look .family .place + look .family .len ≤ length (now strings)) ⌝ }
     ensures { λ r. ⌜ r ≤ many ⌝ }
     ensures { λ r. ⌜ OfRows (now (attrs .entry)) (now (strings .entry)) first many (λ l.
@@ -79,7 +79,7 @@ fn named(
     at: usize,
 ) -> Made
     requires { ⌜ HasRows (now attrs) (now strings) first many × (length (now strings) < 2 ^ 32) × (at + many < 2 ^ 32)
-        × ((at + many) * 3 ≤ length (now extras)) × (6912 ≤ length (now styles)) × (16640 ≤ length (now sizes))
+        × ((at + many) * 3 ≤ length (now extras)) × (6912 ≤ length (now styles)) × (256 ≤ length (now sizes))
         × (name .place + name .len ≤ length (now strings)) ⌝ }
     ensures { λ r. ⌜ OfRows (now (attrs .entry)) (now (strings .entry)) first many (λ l.
         NamedMade (spanIn (now (strings .entry)) name) l place n at
@@ -122,7 +122,7 @@ pub fn build_style(
     at: usize,
 ) -> Made
     requires { ⌜ HasRows (now attrs) (now strings) first many × (length (now strings) < 2 ^ 32) × (at + many < 2 ^ 32)
-        × ((at + many) * 3 ≤ length (now extras)) × (6912 ≤ length (now styles)) × (16640 ≤ length (now sizes)) ⌝ }
+        × ((at + many) * 3 ≤ length (now extras)) × (6912 ≤ length (now styles)) × (256 ≤ length (now sizes)) ⌝ }
     ensures { λ r. ⌜ OfRows (now (attrs .entry)) (now (strings .entry)) first many (λ l.
         StyleMade l place n at
         (now (styles .entry)) (now (styles .exit)) (now (sizes .entry)) (now (sizes .exit)) (now (extras .entry)) (now (extras .exit)) r) ⌝ }

@@ -1,8 +1,9 @@
--- The colours, sizes and nesting of a text's track are those of a track. Assumes nothing.
+-- The times, colours, sizes and nesting of a text's track are those of a track. Assumes nothing.
 --     Values                       what is asked of the values: no table is spoken of
 --     track-values, cue-values     a tree in which at most 64 elements stand one inside the other gives a track, or a cue, of such values
 --     depth-by                     the nesting of segments does not depend on their strings
-use Prim.Native.Nat.{ℕ, _+_, _-_, _*_, _≤_, _<_}
+--     sum-fits                     a time that is not refused is an i64
+use Prim.Native.Nat.{ℕ, _+_, _-_, _*_, _^_, _≤_, _<_}
 use mathlib.Core.Path.{_≡_, refl}
 use mathlib.Core.Bool.{Bool, true, false, cond, _&&_}
 use mathlib.Core.List.{List, [], _∷_, _++_}
@@ -10,9 +11,11 @@ use mathlib.Core.Option.{Option, none, some}
 use native.Mathlib.Omega.{arith}
 use native.Mathlib.Nat.{max-le}
 use lib.ListN.{length}
-use lib.IntN.{ℤ, pos}
+use lib.IntN.{ℤ, pos, negsuc, _+ℤ_}
+use borrow.Author.Tests.{ltb-true}
 use Rattle.scan.proofs.Every.{by-test}
 use Rattle.times.specs.declared.offset.TimingCtx.{TimingCtx}
+use Rattle.times.specs.Sums.{isI64, checked}
 use Rattle.colors.specs.declared.read.Rgba.{Rgba}
 use Rattle.colors.specs.declared.read.Color.{Color}
 use Rattle.colors.specs.Colors.{colorIn}
@@ -20,7 +23,7 @@ use Rattle.decimals.specs.declared.read.Decimal.{Decimal}
 use Rattle.decimals.specs.declared.size.Size.{Size}
 use Rattle.track.specs.Track.{Bytes, Style, Wrapper, Segments, Cue, Track, noSegments, oneSegment, segmentRows, isBareFont}
 use Rattle.track.specs.Track as track
-use Rattle.track.specs.Placing.{All, SizeFits, depth}
+use Rattle.track.specs.Placing.{All, SizeFits, TimeFits, depth}
 use Rattle.track.proofs.ReadBack.{all-join}
 use Rattle.records.specs.Find.{isEmpty}
 use Rattle.records.specs.Siblings.{joined, wrapped}
@@ -63,7 +66,7 @@ module _ {S : Type 0} where
   SegmentValues track.done = Unit {0}
   SegmentValues (track.text s x) = SegmentValues x
   SegmentValues (track.break x) = SegmentValues x
-  SegmentValues (track.timestamp z x) = SegmentValues x
+  SegmentValues (track.timestamp z x) = TimeFits z × SegmentValues x
   SegmentValues (track.wrap w c x) = WrapperValues w × SegmentValues c × SegmentValues x
 
   pub record CueValues (x : Cue S) : Type 0 where
@@ -102,14 +105,14 @@ module _ {S : Type 0} where
   Good n track.done = Unit {0}
   Good n (track.text s x) = (1 ≤ n) × Good n x
   Good n (track.break x) = (1 ≤ n) × Good n x
-  Good n (track.timestamp z x) = (1 ≤ n) × Good n x
+  Good n (track.timestamp z x) = (1 ≤ n) × TimeFits z × Good n x
   Good n (track.wrap w c x) = (1 ≤ n) × WrapperValues w × Good (n - 1) c × Good n x
 
   good-values : (n : ℕ) (x : Segments S) → Good n x → SegmentValues x
   good-values n track.done g = tt
   good-values n (track.text s x) g = good-values n x (g .1)
   good-values n (track.break x) g = good-values n x (g .1)
-  good-values n (track.timestamp z x) g = good-values n x (g .1)
+  good-values n (track.timestamp z x) g = (g .1, good-values n x (g .2))
   good-values n (track.wrap w c x) g = (g .1, good-values (n - 1) c (g .2), good-values n x (g .3))
 
   good-depth : (n : ℕ) (x : Segments S) → Good n x → depth x ≤ n
@@ -117,14 +120,14 @@ module _ {S : Type 0} where
   good-depth n track.done g = omega arith
   good-depth n (track.text s x) g = max-le (g .0) (good-depth n x (g .1))
   good-depth n (track.break x) g = max-le (g .0) (good-depth n x (g .1))
-  good-depth n (track.timestamp z x) g = max-le (g .0) (good-depth n x (g .1))
+  good-depth n (track.timestamp z x) g = max-le (g .0) (good-depth n x (g .2))
   good-depth n (track.wrap w c x) g = max-le (omega (arith, g .0, good-depth (n - 1) c (g .2))) (good-depth n x (g .3))
 
   good-more : (n m : ℕ) → n ≤ m → (x : Segments S) → Good n x → Good m x
   good-more n m h track.done g = tt
   good-more n m h (track.text s x) g = (omega (arith, h, g .0), good-more n m h x (g .1))
   good-more n m h (track.break x) g = (omega (arith, h, g .0), good-more n m h x (g .1))
-  good-more n m h (track.timestamp z x) g = (omega (arith, h, g .0), good-more n m h x (g .1))
+  good-more n m h (track.timestamp z x) g = (omega (arith, h, g .0), g .1, good-more n m h x (g .2))
   good-more n m h (track.wrap w c x) g =
       (omega (arith, h, g .0), g .1, good-more (n - 1) (m - 1) (omega (arith, h)) c (g .2), good-more n m h x (g .3))
 
@@ -133,7 +136,7 @@ module _ {S : Type 0} where
   joined-good n track.done d h g = g
   joined-good n (track.text s c) d h g = (h .0, joined-good n c d (h .1) g)
   joined-good n (track.break c) d h g = (h .0, joined-good n c d (h .1) g)
-  joined-good n (track.timestamp z c) d h g = (h .0, joined-good n c d (h .1) g)
+  joined-good n (track.timestamp z c) d h g = (h .0, h .1, joined-good n c d (h .2) g)
   joined-good n (track.wrap w e c) d h g = (h .0, h .1, h .2, joined-good n c d (h .3) g)
 
   -- at most n wrappers, of good values
@@ -179,9 +182,9 @@ module _ {S : Type 0} where
   paragraph-good n [] c h g = good-more n (6 + n) (omega arith) (dissolved c) (dissolved-good n c g)
   paragraph-good n (w ∷ ws) c h g = wrapped-good 6 n (w ∷ ws) c h g
 
-  stamped-good : (n : ℕ) → 1 ≤ n → (begin : Option ℤ) (z : ℤ) (c : Segments S) → Good n c → Good n (stamped begin z c)
-  stamped-good n h none z c g = g
-  stamped-good n h (some b) z c g = (h, g)
+  stamped-good : (n : ℕ) → 1 ≤ n → (begin : Option ℤ) (z : ℤ) (c : Segments S) → TimeFits z → Good n c → Good n (stamped begin z c)
+  stamped-good n h none z c f g = g
+  stamped-good n h (some b) z c f g = (h, f, g)
 
   cond-good : (n : ℕ) (b : Bool) (c d : Segments S) → Good n c → Good n d → Good n (cond b c d)
   cond-good n true c d h g = h
@@ -197,6 +200,18 @@ module _ {S : Type 0} where
   font-wrap (some a) s h = (omega arith, h, tt)
 
 -- ---- what is read
+
+-- a sum of times that is not refused is an i64
+i64-fits : (z : ℤ) → isI64 z ≡ true → TimeFits z
+unfolding isI64
+i64-fits (pos n) h = ltb-true n (2 ^ 63) h
+i64-fits (negsuc n) h = ltb-true n (2 ^ 63) h
+
+pub sum-fits : (e : ℕ) (a b : ℤ) → Holds TimeFits (sum e a b)
+unfolding sum checked
+sum-fits e a b = by-test (isI64 (a +ℤ b))
+    (λ t. rw t (holds-is TimeFits (a +ℤ b) (i64-fits (a +ℤ b) t)))
+    (λ t. rw t (holds-refused TimeFits 16 e))
 
 module _ {S : Type 0} (k : Strings S) where
   color-read : (a : ℕ) (v : Bytes) (x : Color) → colorIn v ≡ x → Holds (IfSome Channels) (colorAnswer a x)
@@ -273,7 +288,7 @@ module _ {S : Type 0} (k : Strings S) where
   trimmed-good n track.done g = tt
   trimmed-good n (track.text s x) g = (g .0, trimmed-good n x (g .1))
   trimmed-good n (track.break x) g = (g .0, trimmed-good n x (g .1))
-  trimmed-good n (track.timestamp z x) g = (g .0, trimmed-good n x (g .1))
+  trimmed-good n (track.timestamp z x) g = (g .0, g .1, trimmed-good n x (g .2))
   trimmed-good n (track.wrap w c x) g =
       (g .0, g .1, cond-good (n - 1) (seen k x) c (trimmedSpace k c) (g .2) (trimmed-good (n - 1) c (g .2)), trimmed-good n x (g .3))
 
@@ -307,7 +322,7 @@ module _ {S : Type 0} (k : Strings S) where
         let P = Good (levels d) in
         rw (e, segmentsIn)
         (any P (timeOf k ctx at (ascii "begin") l) _ λ begin.
-        any P (sum at base (orZero begin)) _ λ from.
+        bind TimeFits P (sum at base (orZero begin)) _ (sum-fits at base (orZero begin)) λ from t.
         bind (Good (levels (d - 1))) P (segmentsIn k ctx from (spaceOf k space l) before (made + segmentRows earlier) track.done c) _
         (inner (d - 1) (g .1) from (spaceOf k space l) before (made + segmentRows earlier) track.done tt) λ content x.
         bind (Few 6) P (wrappersOf k l) _ (wrappers-few l) λ wrappers w.
@@ -315,7 +330,7 @@ module _ {S : Type 0} (k : Strings S) where
         let one = stamped begin from span in
         bind P P (counted at made (joined earlier one)) _
         (counted-good (levels d) at made (joined earlier one) (joined-good (levels d) earlier one h
-        (stamped-good (levels d) (omega arith) begin from span
+        (stamped-good (levels d) (omega arith) begin from span t
         (good-more (6 + levels (d - 1)) (levels d) (omega (arith, g .0)) span (span-good (levels (d - 1)) wrappers content w x))))) λ given y.
         rest d (g .2) base space (after k before c) made given y)
     inside-element at n l c f inner rest unknown e d g base space before made earlier h =

@@ -6,9 +6,9 @@
 --     promise-away                        the tree reader refuses
 --     promise-none                        the tree's nodes mean a number
 --     promise-track                       the tree's nodes mean a track, and that is laid out
-use Prim.Native.Nat.{ℕ, _-_, _≤_, _<_}
+use Prim.Native.Nat.{ℕ, _≤_, _<_}
 use mathlib.Core.Path.{_≡_, refl, sym, ap, subst, _∙_}
-use mathlib.Core.List.{List, _++_}
+use mathlib.Core.List.{List}
 use native.Mathlib.Omega.{arith}
 use lib.ListN.{length, replicate}
 use lib.IntN.{pos}
@@ -29,7 +29,7 @@ use Rattle.meaning.specs.Answers as meaning
 use Rattle.meaning.specs.Nodes.{Nodes}
 use Rattle.meaning.specs.Kinds.{nodesIn}
 use Rattle.track.specs.Layout.{each, filled, filledTimes, filledSizes, joinedCells, headCells, paramCells, styleCells, regionCells, cueCells}
-use Rattle.track.specs.Layout.{cueTimes, segmentCells, segmentTime, segmentSize, styleSize, allSegments, styleExtras, regionExtras, cueExtras}
+use Rattle.track.specs.Layout.{cueTimes, segmentCells, styleSize, allSegments, styleExtras, regionExtras, cueExtras}
 use Rattle.track.specs.Layout.{layout}
 use Rattle.track.specs.Layout as placing
 use Rattle.laid.specs.Laid.{laidOf, textsOf, trackTables}
@@ -68,9 +68,8 @@ pub record RestLong (n : Lengths) : Type 0 where
   pub regions : 1024 ≤ n .regions
   pub cues : 22528 ≤ n .cues
   pub times : 4096 ≤ n .times
-  pub segments : 131072 ≤ n .segments
-  pub reveal : 16384 ≤ n .reveal
-  pub sizes : 16640 ≤ n .sizes
+  pub segments : 98304 ≤ n .segments
+  pub sizes : 256 ≤ n .sizes
   pub extras : 24576 ≤ n .extras
   pub texts : 65536 ≤ n .texts
 
@@ -83,7 +82,6 @@ long-of r h = record {
   cues = r .cues;
   times = r .times;
   segments = r .segments;
-  reveal = r .reveal;
   sizes = r .sizes;
   extras = r .extras;
   strings = h;
@@ -99,7 +97,6 @@ rest-of r = record {
   cues = r .cues;
   times = r .times;
   segments = r .segments;
-  reveal = r .reveal;
   sizes = r .sizes;
   extras = r .extras;
   texts = r .texts;
@@ -114,7 +111,6 @@ pub record RestZero (n : Lengths) (T : track.Tables) : Type 0 where
   pub cues : T .cues ≡ replicate (n .cues) 0
   pub times : T .times ≡ replicate (n .times) (pos 0)
   pub segments : T .segments ≡ replicate (n .segments) 0
-  pub reveal : T .reveal ≡ replicate (n .reveal) (pos 0)
   pub sizes : T .sizes ≡ replicate (n .sizes) zeroFloat
   pub extras : T .extras ≡ replicate (n .extras) 0
   pub texts : T .texts ≡ replicate (n .texts) 0
@@ -130,7 +126,6 @@ zeros-of r z =
       ← (r .cues),
       ← (r .times),
       ← (r .segments),
-      ← (r .reveal),
       ← (r .sizes),
       ← (r .extras),
       ← z,
@@ -157,8 +152,7 @@ module _ (n : Lengths) (m : ℕ) (t : Track Placed) where
     pub cues : T .cues ≡ filled (n .cues) (joinedCells (λ x. cueCells (x .cue)) (k .cues))
     pub times : T .times ≡ filledTimes (n .times) (cueTimes (k .cues))
     pub segments : T .segments ≡ filled (n .segments) (joinedCells (λ x. segmentCells (x .segment) (x .rows)) g)
-    pub reveal : T .reveal ≡ filledTimes (n .reveal) (each (λ x. segmentTime (x .segment)) g)
-    pub sizes : T .sizes ≡ filledSizes 16384 (each (λ x. segmentSize (x .segment)) g) ++ filledSizes (n .sizes - 16384) (each styleSize (k .styles))
+    pub sizes : T .sizes ≡ filledSizes (n .sizes) (each styleSize (k .styles))
     pub extras : T .extras ≡ cueExtras (regionExtras (styleExtras (replicate (n .extras) 0) (k .styles)) (k .regions)) (k .cues)
     pub texts : T .texts ≡ textsOf (n .texts) t
 
@@ -173,8 +167,7 @@ module _ (n : Lengths) (m : ℕ) (t : Track Placed) where
         ← (r .cues),
         ← (r .times),
         ← (r .segments),
-        ← (r .reveal),
-        ← (r .sizes),
+          ← (r .sizes),
         ← (r .extras),
         ← (r .texts),
       )

@@ -43,14 +43,14 @@ pub record Tables : Type 0 where
   pub attrs : List ℕ
   pub track : track.Tables
 
-abbrev pub tables : (nodes attrs head params styles regions cues : List ℕ) (times : List ℤ) (segments : List ℕ) (reveal : List ℤ)
-    (sizes : List Float) (extras strings texts : List ℕ) → Tables
-tables n a h p s r c m g v f e z y = record { nodes = n; attrs = a; track = track.tables h p s r c m g v f e z y }
+abbrev pub tables : (nodes attrs head params styles regions cues : List ℕ) (times : List ℤ) (segments : List ℕ) (sizes : List Float)
+    (extras strings texts : List ℕ) → Tables
+tables n a h p s r c m g f e z y = record { nodes = n; attrs = a; track = track.tables h p s r c m g f e z y }
 
 abbrev pub treeTables : Tables → xml.Tables
 treeTables T = xml.tables (T .nodes) (T .attrs) (T .track .strings)
 
--- the fourteen fixed lengths
+-- the thirteen fixed lengths
 pub record LongEnough (lent : Tables) : Type 0 where
   pub of-tree : xml.LongEnough (treeTables lent)
   pub of-track : track.LongEnough (lengths (lent .track))
@@ -59,8 +59,8 @@ pub record LongEnough (lent : Tables) : Type 0 where
 unfoldable pub zeros : Lengths → track.Tables
 zeros n =
     track.tables (replicate (n .head) 0) (replicate (n .params) 0) (replicate (n .styles) 0) (replicate (n .regions) 0) (replicate (n .cues) 0)
-    (replicate (n .times) (pos 0)) (replicate (n .segments) 0) (replicate (n .reveal) (pos 0)) (replicate (n .sizes) zeroFloat)
-    (replicate (n .extras) 0) (replicate (n .strings) 0) (replicate (n .texts) 0)
+    (replicate (n .times) (pos 0)) (replicate (n .segments) 0) (replicate (n .sizes) zeroFloat) (replicate (n .extras) 0)
+    (replicate (n .strings) 0) (replicate (n .texts) 0)
 
 pub record AllZero (lent left : Tables) : Type 0 where
   pub of-tree : xml.AllZero (treeTables lent) (treeTables left)

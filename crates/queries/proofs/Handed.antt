@@ -18,7 +18,7 @@ use Rattle.track.specs.Tables.{Tables, cell, span, optional, styleCount, region
 use Rattle.track.specs.Meaning.{isOptional, hasExtras, withinLimits, isTrack}
 use Rattle.track.specs.Check.{isFull, rowsFull, restFull}
 use Rattle.track.proofs.Spans.{span-within}
-use Rattle.track.proofs.StringLaws.{three, given-span}
+use Rattle.track.proofs.StringLaws.{three, four, given-span}
 use Rattle.track.proofs.RowParts.{StyleParts, style-parts, RegionParts, region-parts, cue-parts, extras-within, extra-parts}
 use Rattle.track.proofs.Accepted.{usedStrings, usedTexts, limits-ok, style-ok, region-ok, cue-ok}
 use Rattle.records.specs.Find.{Named}
@@ -35,7 +35,7 @@ pub record Lengths (T : Tables) : Type 0 where
   pub regions : 1024 ≤ length (T .regions)
   pub cues : 22528 ≤ length (T .cues)
   pub times : 4096 ≤ length (T .times)
-  pub sizes : 16640 ≤ length (T .sizes)
+  pub sizes : 256 ≤ length (T .sizes)
   pub extras : 24576 ≤ length (T .extras)
   pub strings : 65536 ≤ length (T .strings)
 
@@ -58,25 +58,25 @@ module _ (T : Tables) where
       (length (T .extras))
 
   rest : Bool
-  rest = restFull (length (T .times)) (length (T .reveal)) (length (T .sizes)) (length (T .strings)) (length (T .texts))
+  rest = restFull (length (T .times)) (length (T .sizes)) (length (T .strings)) (length (T .texts))
 
   pub lengths : isFull T ≡ true → Lengths T
   unfolding isFull rowsFull restFull rows rest
   lengths h =
       let p = both {a = rows} {b = rest} h in
       let a = seven (leb 10 (length (T .head))) (leb 256 (length (T .params))) (leb 6912 (length (T .styles))) (leb 1024 (length (T .regions)))
-      (leb 22528 (length (T .cues))) (leb 131072 (length (T .segments))) (leb 24576 (length (T .extras))) (p .0) in
-      let b = five (leb 4096 (length (T .times))) (leb 16384 (length (T .reveal))) (leb 16640 (length (T .sizes))) (leb 65536 (length (T .strings)))
-      (leb 65536 (length (T .texts))) (p .1) in
+      (leb 22528 (length (T .cues))) (leb 98304 (length (T .segments))) (leb 24576 (length (T .extras))) (p .0) in
+      let b = four (leb 4096 (length (T .times))) (leb 256 (length (T .sizes))) (leb 65536 (length (T .strings))) (leb 65536 (length (T .texts)))
+      (p .1) in
       record {
         head = leb-true _ _ (a .0);
         styles = leb-true _ _ (a .2);
         regions = leb-true _ _ (a .3);
         cues = leb-true _ _ (a .4);
         times = leb-true _ _ (b .0);
-        sizes = leb-true _ _ (b .2);
+        sizes = leb-true _ _ (b .1);
         extras = leb-true _ _ (a .6);
-        strings = leb-true _ _ (b .3);
+        strings = leb-true _ _ (b .2);
       }
 
   module _ (ok : Accepted T) where
@@ -168,7 +168,6 @@ module _ (T : Tables) where
         → SpanIn (T .strings) (cueAt (T .cues) (T .times) i .style) × SpanIn (T .strings) (cueAt (T .cues) (T .times) i .region)
     unfolding cueAt
     cue-spans i l =
-        let p = cue-parts (T .cues) (T .extras) (T .segments) (T .sizes) (usedStrings T) (usedTexts T) (segmentCount (T .head)) (cell 11 (T
-        .cues) i 7) i
+        let p = cue-parts (T .cues) (T .extras) (T .segments) (usedStrings T) (usedTexts T) (segmentCount (T .head)) (cell 11 (T .cues) i 7) i
         (cue-ok T (ok .is-track) i l .0) in
         (optional-in _ _ _ (p .style), optional-in _ _ _ (p .region))

@@ -25,7 +25,7 @@ abbrev value : Bytes
 value = ascii "a a"
 
 abbrev empty : Tables
-empty = tables [] [] [] [] [] [] [] [] [] [] [] []
+empty = tables [] [] [] [] [] [] [] [] [] [] []
 
 abbrev one-id : WalkedAt
 one-id = record { visited = row 0 (span 0 1) ∷ []; found = false; look = blankLook }

@@ -144,7 +144,6 @@ regionTables r e z = record {
   cues = [];
   times = [];
   segments = [];
-  reveal = [];
   sizes = [];
   extras = e;
   strings = z;

@@ -48,7 +48,6 @@ pub fn check_query(
     cues: &[u32],
     times: &[i64],
     segments: &[u32],
-    reveal: &[i64],
     sizes: &[f32],
     extras: &[u32],
     strings: &[u8],
@@ -62,7 +61,6 @@ pub fn check_query(
       cues = now (cues .entry);
       times = now (times .entry);
       segments = now (segments .entry);
-      reveal = now (reveal .entry);
       sizes = now (sizes .entry);
       extras = now (extras .entry);
       strings = now (strings .entry);
@@ -77,7 +75,6 @@ pub fn check_query(
         cues,
         times,
         segments,
-        reveal,
         sizes,
         extras,
         strings,

@@ -64,7 +64,6 @@ pub fn resolve_referenced_style(
     cues: &[u32],
     times: &[i64],
     segments: &[u32],
-    reveal: &[i64],
     sizes: &[f32],
     extras: &[u32],
     strings: &[u8],
@@ -79,7 +78,6 @@ pub fn resolve_referenced_style(
       cues = now (cues .entry);
       times = now (times .entry);
       segments = now (segments .entry);
-      reveal = now (reveal .entry);
       sizes = now (sizes .entry);
       extras = now (extras .entry);
       strings = now (strings .entry);
@@ -97,7 +95,6 @@ pub fn resolve_referenced_style(
         cues,
         times,
         segments,
-        reveal,
         sizes,
         extras,
         strings,
@@ -146,7 +143,6 @@ pub fn region_style(
     cues: &[u32],
     times: &[i64],
     segments: &[u32],
-    reveal: &[i64],
     sizes: &[f32],
     extras: &[u32],
     strings: &[u8],
@@ -161,7 +157,6 @@ pub fn region_style(
       cues = now (cues .entry);
       times = now (times .entry);
       segments = now (segments .entry);
-      reveal = now (reveal .entry);
       sizes = now (sizes .entry);
       extras = now (extras .entry);
       strings = now (strings .entry);
@@ -179,7 +174,6 @@ pub fn region_style(
         cues,
         times,
         segments,
-        reveal,
         sizes,
         extras,
         strings,
@@ -227,7 +221,6 @@ pub fn effective_style_for_cue_index(
     cues: &[u32],
     times: &[i64],
     segments: &[u32],
-    reveal: &[i64],
     sizes: &[f32],
     extras: &[u32],
     strings: &[u8],
@@ -243,7 +236,6 @@ pub fn effective_style_for_cue_index(
       cues = now (cues .entry);
       times = now (times .entry);
       segments = now (segments .entry);
-      reveal = now (reveal .entry);
       sizes = now (sizes .entry);
       extras = now (extras .entry);
       strings = now (strings .entry);
@@ -260,7 +252,6 @@ pub fn effective_style_for_cue_index(
         cues,
         times,
         segments,
-        reveal,
         sizes,
         extras,
         strings,

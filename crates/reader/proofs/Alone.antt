@@ -4,23 +4,22 @@
 --     row-added, times-added           a row more where there is none
 --     content-asks, content-no         its content, as it is asked for; refused
 --     alone-asks, alone-laid           its row and the head
-use Prim.Native.Nat.{ℕ, _+_, _-_}
+use Prim.Native.Nat.{ℕ, _+_}
 use mathlib.Core.Path.{_≡_, refl, sym, ap, subst, _∙_}
 use mathlib.Core.List.{List, [], _∷_, _++_}
 use mathlib.Core.Option.{Option, none, some}
 use native.Mathlib.Omega.{arith}
 use lib.IntN.{ℤ, pos}
-use lib.Ieee.{Float}
-use lib.ListN.{length, replicate, length-append, replicate-append-replicate}
+use lib.ListN.{length, replicate, length-append}
 use lib.Seq.{sets}
 use Rattle.times.specs.declared.offset.TimingCtx.{TimingCtx}
 use Rattle.tree.specs.declared.answers.Refusal.{Refusal}
 use Rattle.track.specs.Track.{Segments, Cue, segmentRows}
-use Rattle.track.specs.Tables.{Tables, lengths, zeroFloat}
-use Rattle.track.specs.Layout.{each, preorder, filled, filledSizes, joinedCells, headCells, allSegments}
+use Rattle.track.specs.Tables.{Tables, lengths}
+use Rattle.track.specs.Layout.{each, preorder, filled, joinedCells, headCells, allSegments}
 use Rattle.track.specs.Layout as placing
 use Rattle.track.proofs.SegmentsLaid.{rows-many}
-use Rattle.records.specs.Siblings.{Three, Stands}
+use Rattle.records.specs.Siblings.{Stands}
 use Rattle.records.specs.declared.cells.Added.{Added}
 use Rattle.records.specs.Posts.{headRow, headOf, AddPost, TimesPost}
 use Rattle.records.proofs.RowLaws.{head-laid}
@@ -42,14 +41,13 @@ use Rattle.styling.specs.declared.space.WsMode.{WsMode}
 use Rattle.styling.specs.Posts.{OfRows, spaceIn, turned}
 use Rattle.extras.specs.Kept.{placedCells}
 use Rattle.inline.specs.Stood.{spansIn}
-use Rattle.inline.specs.Wraps.{three}
 use Rattle.content.specs.declared.collect.Run.{Run}
 use Rattle.content.specs.declared.collect.Collecting.{Collecting}
 use Rattle.content.specs.Steps.{Roomy, Frame, Content, AsksContent, Left, ContentPost}
 use Rattle.intervals.specs.declared.Interval.{Interval}
 use Rattle.intervals.specs.declared.Timed.{Timed}
 use Rattle.intervals.specs.Steps.{timedSaid, singleFrom, singleOf}
-use Rattle.cues.specs.Steps.{CueTables, seven, Spacious, Base, Lined, noLine}
+use Rattle.cues.specs.Steps.{CueTables, five, Spacious, Base, Lined, noLine}
 use Rattle.cues.proofs.Lined.{blankFrom, before, nextFrame, blank-later, lined-frame, Next, lined-more}
 use Rattle.promised.specs.declared.Answer as promise
 use Rattle.reader.specs.Steps.{cueRest, CueReady, CueLaid, CueOutcome, Tree, Elem, elementIn}
@@ -152,39 +150,28 @@ module _ (row c c′ : List ℕ) where
 
 -- ---- the tables
 
-module _ (h c : List ℕ) (m : List ℤ) (g : List ℕ) (v : List ℤ) (f : List Float) (y : List ℕ) {z : List ℕ}
-    (ready : CueReady z (cueRest h c m g v f y)) where
+module _ (h c : List ℕ) (m : List ℤ) (g y : List ℕ) {z : List ℕ} (ready : CueReady z (cueRest h c m g y)) where
   abbrev T : Tables
-  T = cueRest h c m g v f y
+  T = cueRest h c m g y
 
   -- no cue has extras, so that any list serves as their table
   abbrev base : Base
-  base = record { lengths = lengths T; sizes = filledSizes (length f - 16384) []; extras = y; rows = 0 }
+  base = record { lengths = lengths T; extras = y; rows = 0 }
 
   abbrev lent : CueTables
-  lent = seven c m g v f y y
+  lent = five c m g y y
 
-  roomy : Roomy z (three g v f) y
+  roomy : Roomy z g y
   roomy = record {
-    wide = record { in-cells = ready .segments; in-times = ready .reveal; in-floats = ready .sizes };
+    wide = ready .segments;
     texts = omega (arith, ready .short, ready .texts);
     small = omega (arith, ready .short);
   }
 
   blank : Blank base lent
   blank =
-      let rest = length f - 16384 - 0 in
-      let n : 16384 + rest ≡ length f = omega (arith, ready .sizes) in
       let zero = ready .zero in
-      record {
-        cues = zero .cues;
-        times = zero .times;
-        segments = zero .segments;
-        reveal = zero .reveal;
-        sizes = zero .sizes ∙ sym (replicate-append-replicate 16384 rest zeroFloat ∙ ap (λ (k : ℕ). replicate k zeroFloat) n);
-        extras = refl;
-        texts = zero .texts;
-      }
+      record { cues = zero .cues; times = zero .times; segments = zero .segments; extras = refl; texts = zero .texts }
 
   spacious : Spacious z lent
   spacious = record {
@@ -201,7 +188,7 @@ module _ (h c : List ℕ) (m : List ℤ) (g : List ℕ) (v : List ℤ) (f : List
   frame = nextFrame base (length z) 0 [] y
 
   module _ {t u : List ℕ} {k : ℕ} (x : Elem t u z k) {e : found.Element} (row : e ≡ elementRow t k) where
-    abbrev content : Content frame t u z (k + 1) (e .end) 0 (three g v f) y
+    abbrev content : Content frame t u z (k + 1) (e .end) 0 g y
     content = record {
       own = x .own + length (x .attrs);
       forest = x .content;
@@ -211,7 +198,7 @@ module _ (h c : List ℕ) (m : List ℤ) (g : List ℕ) (v : List ℤ) (f : List
       standing = lined-frame none-yet (length z);
     }
 
-    pub content-asks : AsksContent t u z (k + 1) (e .end) 0 (three g v f) y
+    pub content-asks : AsksContent t u z (k + 1) (e .end) 0 g y
     content-asks = record {
       roomy = roomy;
       few = omega arith;
@@ -228,12 +215,30 @@ module _ (h c : List ℕ) (m : List ℤ) (g : List ℕ) (v : List ℤ) (f : List
           ≡ contentOf withPlaces (timing none none) (pos 0) (spaceOf withPlaces collapse attrs) 0 (nodesIn z (x .content))
       as-read = rw (no-rates, mode)
 
-      module _ (s′ : Three) (y′ : List ℕ) where
+      module _ (s′ y′ : List ℕ) where
         abbrev Post : Collecting → Type 0
-        Post r = ContentPost t u z (k + 1) (e .end) 0 (pos 0) ctx ws (three g v f) y s′ y′ r
+        Post r = ContentPost t u z (k + 1) (e .end) 0 (pos 0) ctx ws g y s′ y′ r
 
-        pub content-no : (q : Refusal) → Post (Collecting.Refused q) → (when : Interval) → timedCue when (elementIn x) ≡ turned q
-        content-no q p when = let w = sym as-read ∙ p frame content in rw w
+        pub content-no : (q : Refusal) → Post (Collecting.Refused q) → (when : Interval) {s″ y″ : List ℕ} → s″ ≡ replicate (length g) 0
+            → y″ ≡ replicate (length y) 0 → CueOutcome (timedCue when (elementIn x)) z T (cueRest h c m s″ y″) (promise.Answer.Refused q)
+        content-no q p when a b =
+            let w = sym as-read ∙ p frame content in
+            let zero = ready .zero in
+            (
+              rw w,
+              record {
+                head = zero .head;
+                params = refl;
+                styles = refl;
+                regions = refl;
+                cues = zero .cues;
+                times = zero .times;
+                segments = a;
+                sizes = refl;
+                extras = refl;
+                texts = b;
+              },
+            )
 
         pub alone-asks : (run : Run) → Post (Collecting.Is run) → AloneAsks u z e (run .rows) h c m
         alone-asks run p = record {
@@ -258,7 +263,7 @@ module _ (h c : List ℕ) (m : List ℤ) (g : List ℕ) (v : List ℤ) (f : List
           rows-stand : Stands (before base []) (blankFrom base (run .rows)) 0 (run .rows) (spansIn (left .segments)) s′
           unfolding madeIn
           rows-stand =
-              subst (λ (w : Three). Stands (before base []) w 0 (run .rows) (spansIn (left .segments)) s′)
+              subst (λ (w : List ℕ). Stands (before base []) w 0 (run .rows) (spansIn (left .segments)) s′)
               (blank-later base 0 (run .rows) (omega arith) (left .few)) (left .standing .rows)
 
           module _ (h′ c′ : List ℕ) (m′ : List ℤ) (put : Alone z when (run .rows) attrs h h′ c c′ m m′) where
@@ -288,7 +293,7 @@ module _ (h c : List ℕ) (m : List ℤ) (g : List ℕ) (v : List ℤ) (f : List
                 let ten : length cells ≡ 10 = ap length (sym e) in
                 filled-from (length h) (ready .zero .head) e (omega (arith, ten, ready .head)) (put .in-head)
 
-            pub alone-laid : CueLaid (timedCue when (elementIn x)) z T (cueRest h′ c′ m′ (s′ .cells) (s′ .times) (s′ .floats) y′)
+            pub alone-laid : CueLaid (timedCue when (elementIn x)) z T (cueRest h′ c′ m′ s′ y′)
             unfolding laidOf alone each joinedCells laidStyles laidRegions laidCues laidCue rowsAfter total placing.styleExtras placing.regionExtras
                 placing.cueExtras placing.layExtras textsOf
             alone-laid = record {
@@ -303,8 +308,7 @@ module _ (h c : List ℕ) (m : List ℤ) (g : List ℕ) (v : List ℤ) (f : List
                 cues = lined .in-cues;
                 times = lined .in-times;
                 segments = lined .in-cells;
-                reveal = lined .in-reveal;
-                sizes = lined .in-sizes;
+                sizes = refl;
                 extras = refl;
                 texts = lined .in-texts;
               };

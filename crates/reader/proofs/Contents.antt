@@ -2,13 +2,14 @@
 --     lang-found, lang-none                     its language
 --     Counts, whole-filled                      the head of the track
 --     head-asks, heads-no, body-asks, body-no   its head and its body, as they are asked for; refused
+--     HeadBlank, BodyBlank, cleared-as          what they have written is cleared
 --     whole-asks, content-laid                  all of it
 use Prim.Native.Nat.{ℕ, _+_, _-_, _≤_}
 use mathlib.Core.Path.{_≡_, refl, sym, ap, subst, _∙_}
 use mathlib.Core.Bool.{true, false}
 use mathlib.Core.List.{List, []}
 use native.Mathlib.Omega.{arith}
-use lib.IntN.{ℤ}
+use lib.IntN.{ℤ, pos}
 use lib.Ieee.{Float}
 use lib.ListN.{length, replicate, length-append}
 use Rattle.times.specs.declared.offset.TimingCtx.{TimingCtx}
@@ -16,7 +17,7 @@ use Rattle.tree.specs.declared.answers.Refusal.{Refusal}
 use Rattle.scan.specs.Names.{sameFolded}
 use Rattle.tree.specs.Trees.{Forest, attrsOf}
 use Rattle.track.specs.Track.{Param, Style, Region, Cue}
-use Rattle.track.specs.Tables.{Tables, lengths}
+use Rattle.track.specs.Tables.{Tables, lengths, zeroFloat}
 use Rattle.track.specs.Layout.{isSome, spanOr, filled, headCells}
 use Rattle.records.specs.Posts.{headRow, headOf}
 use Rattle.records.proofs.RowLaws.{head-laid}
@@ -48,9 +49,10 @@ use Rattle.heads.specs.declared.collect.Heads.{Heads}
 use Rattle.heads.specs.declared.collect.Heading.{Heading}
 use Rattle.heads.specs.Steps.{Children, four, Cleared, AsksHead, Headed, HeadPost, insideHead, inHead}
 use Rattle.heads.proofs.Joining.{head-stops, apart-of}
+use Rattle.promised.proofs.Promises.{RestZero}
 use Rattle.cues.specs.declared.lines.Line.{Line}
 use Rattle.cues.specs.declared.lines.Lining.{Lining}
-use Rattle.cues.specs.Steps.{CueTables, seven, Spacious, Base, Lined, noLine, Bodies, AsksBody, Bodied, BodyPost}
+use Rattle.cues.specs.Steps.{CueTables, five, Spacious, Base, Lined, noLine, Bodies, AsksBody, Bodied, BodyPost}
 use Rattle.reader.specs.Steps.{rest, headBase, Ready, Elem, elementIn, LangIs, wholeHead, HeadAsks, HeadPut, trackOfParts, contentMeans}
 use Rattle.reader.specs.Steps.{ContentLaid}
 use Rattle.reader.proofs.Laying.{filled-from, Blank, lined-none}
@@ -108,10 +110,44 @@ head-body : (z : List ℕ) (f : Forest) → attrsNamed z (ascii "head") f + attr
 unfolding sameFolded
 head-body z f = attrs-apart z (ascii "head") (ascii "body") (apart-of (ascii "head") (ascii "body") refl) f
 
-module _ (h s r c : List ℕ) (m : List ℤ) (g : List ℕ) (v : List ℤ) (f : List Float) (ex y : List ℕ) where
+module _ (h s r c : List ℕ) (m : List ℤ) (g : List ℕ) (f : List Float) (ex y : List ℕ) where
   -- beside any parameters
   abbrev tables : List ℕ → Tables
-  tables p = rest h p s r c m g v f ex y
+  tables p = rest h p s r c m g f ex y
+
+  -- what its head and its body write is cleared, and nothing else was written
+  pub record HeadBlank (s′ r′ : List ℕ) (f′ : List Float) (ex′ : List ℕ) : Type 0 where
+    pub styles : s′ ≡ replicate (length s) 0
+    pub regions : r′ ≡ replicate (length r) 0
+    pub sizes : f′ ≡ replicate (length f) zeroFloat
+    pub extras : ex′ ≡ replicate (length ex) 0
+
+  pub record BodyBlank (c′ : List ℕ) (m′ : List ℤ) (g′ y′ : List ℕ) : Type 0 where
+    pub cues : c′ ≡ replicate (length c) 0
+    pub times : m′ ≡ replicate (length m) (pos 0)
+    pub segments : g′ ≡ replicate (length g) 0
+    pub texts : y′ ≡ replicate (length y) 0
+
+  module _ {z p₀ : List ℕ} (ready : Ready z (tables p₀)) where
+    pub body-blank : BodyBlank c m g y
+    body-blank =
+        let a = ready .zero in
+        record { cues = a .cues; times = a .times; segments = a .segments; texts = a .texts }
+
+    pub cleared-as : {s′ r′ c′ : List ℕ} {m′ : List ℤ} {g′ : List ℕ} {f′ : List Float} {ex′ y′ : List ℕ} → HeadBlank s′ r′ f′ ex′
+        → BodyBlank c′ m′ g′ y′ → (p : List ℕ) → p ≡ replicate (length p) 0 → RestZero (lengths (tables p)) (rest h p s′ r′ c′ m′ g′ f′ ex′ y′)
+    cleared-as a b p e = record {
+      head = ready .zero .head;
+      params = e;
+      styles = a .styles;
+      regions = a .regions;
+      cues = b .cues;
+      times = b .times;
+      segments = b .segments;
+      sizes = a .sizes;
+      extras = a .extras;
+      texts = b .texts;
+    }
 
   module _ {t u z : List ℕ} {p₀ : List ℕ} (ready : Ready z (tables p₀)) {k : ℕ} (x : Elem t u z k) {e : found.Element}
       (row : e ≡ elementRow t k) where
@@ -151,7 +187,7 @@ module _ (h s r c : List ℕ) (m : List ℤ) (g : List ℕ) (v : List ℤ) (f : 
           → contentMeans params ctx (elementIn x) ≡ turned q
       heads-no q w params ctx = head-stops (insideHead (nodesIn z (x .content))) _ q (w (lengths (tables p₀)) (cleared p₀) children)
 
-      module _ (hd : Heads) (w : Heads-said (Heading.Is hd)) (same-sizes : length f′ ≡ length f) (same-extras : length ex′ ≡ length ex) where
+      module _ (hd : Heads) (w : Heads-said (Heading.Is hd)) (same-extras : length ex′ ≡ length ex) where
         headed : (p : List ℕ)
             → Headed (lengths (tables p)) (insideHead (nodesIn z (x .content))) (inHead z (x .content)) (four s′ r′ f′ ex′) hd
         headed p = w (lengths (tables p)) (cleared p) children
@@ -161,14 +197,14 @@ module _ (h s r c : List ℕ) (m : List ℤ) (g : List ℕ) (v : List ℤ) (f : 
         base p = headBase (lengths (tables p)) (headed p .styles) (headed p .regions)
 
         abbrev lent : CueTables
-        lent = seven c m g v f′ ex′ y
+        lent = five c m g ex′ y
 
         spacious : Spacious z lent
         spacious =
             let a = ready .long in
             record {
               roomy = record {
-                wide = record { in-cells = a .segments; in-times = a .reveal; in-floats = omega (arith, same-sizes, a .sizes) };
+                wide = a .segments;
                 texts = omega (arith, ready .short, a .texts);
                 small = omega (arith, ready .short);
               };
@@ -184,8 +220,6 @@ module _ (h s r c : List ℕ) (m : List ℤ) (g : List ℕ) (v : List ℤ) (f : 
               cues = a .cues;
               times = a .times;
               segments = a .segments;
-              reveal = a .reveal;
-              sizes = headed p .in-sizes;
               extras = headed p .in-extras;
               texts = a .texts;
             } in
@@ -249,7 +283,7 @@ module _ (h s r c : List ℕ) (m : List ℤ) (g : List ℕ) (v : List ℤ) (f : 
             pub content-laid : (p : List ℕ) (params : List (Param Placed)) {count : ℕ} {h′ : List ℕ} → length params ≡ count
                 → HeadPut z count hd line attrs h h′
                 → ContentLaid (contentMeans params ctx (elementIn x)) params z (tables p) (rest h′ p s′ r′ (after .cues) (after .times)
-                (after .segments .cells) (after .segments .times) (after .segments .floats) (after .extras) (after .texts))
+                (after .segments) f′ (after .extras) (after .texts))
             content-laid p params many put =
                 let a = headed p in
                 let b = bodied p in
@@ -267,6 +301,7 @@ module _ (h s r c : List ℕ) (m : List ℤ) (g : List ℕ) (v : List ℤ) (f : 
                   head = whole-filled params (a .styles) (a .regions) (b .cues) z attrs n (ready .zero .head) (ready .long .head) put;
                   styles = a .in-styles;
                   regions = a .in-regions;
+                  sizes = a .in-sizes;
                   hi = b .hi;
                   line = line;
                   cues = b .standing;

@@ -1,5 +1,6 @@
 -- The tables of a track from those of its head and of its cues. Assumes nothing.
 --     filled-from               cells stored at the start of a blank table
+--     blank-as                  a table that was as long is blank
 --     lined-none                what the tables of cues are before the first cue
 --     rest-laid                 with the last
 use Prim.Native.Nat.{ℕ, _+_, _-_, _≤_}
@@ -11,8 +12,8 @@ use lib.IntN.{pos}
 use lib.ListN.{length, replicate}
 use lib.Seq.{sets}
 use Rattle.track.specs.Track.{Track}
-use Rattle.track.specs.Tables.{Tables, Lengths, zeroFloat}
-use Rattle.track.specs.Layout.{each, filled, joinedCells, headCells, paramCells, styleCells, regionCells, allSegments}
+use Rattle.track.specs.Tables.{Tables, Lengths}
+use Rattle.track.specs.Layout.{each, filled, filledSizes, joinedCells, headCells, paramCells, styleCells, regionCells, styleSize, allSegments}
 use Rattle.track.specs.Layout as placing
 use Rattle.records.proofs.RowLaws.{filled-more}
 use Rattle.xml.specs.Reading.{Placed, lay}
@@ -29,13 +30,14 @@ filled-from n {h} {h′} {row} {cells} b e k p =
     let w : sets (replicate (n - 0) 0) 0 cells ≡ filled n cells = filled-more 0 [] cells n (omega arith) in
     p ∙ ap (λ (l : List ℕ). sets l 0 row) b ∙ ap (sets (replicate n 0) 0) e ∙ (rw sub-zero at w)
 
+pub blank-as : {A : Type 0} {a b : ℕ} → a ≡ b → (x : A) {l : List A} → l ≡ replicate a x → l ≡ replicate b x
+blank-as h x e = rw h at e
+
 -- no cue
 pub record Blank (b : Base) (T : CueTables) : Type 0 where
   pub cues : T .cues ≡ replicate (b .lengths .cues) 0
   pub times : T .times ≡ replicate (b .lengths .times) (pos 0)
-  pub segments : T .segments .cells ≡ replicate (b .lengths .segments) 0
-  pub reveal : T .segments .times ≡ replicate (b .lengths .reveal) (pos 0)
-  pub sizes : T .segments .floats ≡ replicate 16384 zeroFloat ++ b .sizes
+  pub segments : T .segments ≡ replicate (b .lengths .segments) 0
   pub extras : T .extras ≡ b .extras
   pub texts : T .texts ≡ replicate (b .lengths .texts) 0
 
@@ -50,8 +52,6 @@ lined-none x = record {
   in-cues = x .cues ∙ rw sub-zero;
   in-times = x .times ∙ rw sub-zero;
   in-cells = x .segments ∙ rw sub-zero;
-  in-reveal = x .reveal ∙ rw sub-zero;
-  in-sizes = x .sizes;
   in-extras = x .extras;
   in-texts = x .texts;
   order = omega arith;
@@ -62,9 +62,10 @@ pub rest-laid : (n : Lengths) (m : ℕ) (t : Track Placed) {T : Tables} {hi : �
     → T .params ≡ filled (n .params) (joinedCells paramCells (laidOf t .params))
     → T .styles ≡ filled (n .styles) (joinedCells (λ x. styleCells (x .style)) (laidStyles 0 (t .styles)))
     → T .regions ≡ filled (n .regions) (joinedCells (λ x. regionCells (x .region)) (laidRegions (styleExtras (t .styles)) (t .regions)))
+    → T .sizes ≡ filledSizes (n .sizes) (each styleSize (laidStyles 0 (t .styles)))
     → Lined (headBase n (t .styles) (t .regions)) hi (t .cues) line (inCues T) → RestLaid n m t T
 unfolding laidOf textsOf
-rest-laid n m t h p s r l = record {
+rest-laid n m t h p s r f l = record {
   head = h;
   params = p;
   styles = s;
@@ -72,8 +73,7 @@ rest-laid n m t h p s r l = record {
   cues = l .in-cues;
   times = l .in-times;
   segments = l .in-cells;
-  reveal = l .in-reveal;
-  sizes = l .in-sizes;
+  sizes = f;
   extras = l .in-extras;
   texts = l .in-texts;
 }

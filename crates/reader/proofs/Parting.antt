@@ -2,12 +2,14 @@
 --     nodes-part                           the same nodes stand in the part
 --     given-few, given-fits, given-short   a tree that was read has at most 8,192 attributes, and its text fits
 --     given-part                           its rows, as the readers of tracks take them
-use Prim.Native.Nat.{ℕ, _+_, _≤_}
-use mathlib.Core.Path.{_≡_, refl, ap, _∙_}
+--     given-ends, cleared-end              nothing stands after them; they are cleared
+use Prim.Native.Nat.{ℕ, _+_, _-_, _*_, _≤_}
+use mathlib.Core.Path.{_≡_, refl, sym, ap, _∙_}
+use mathlib.Core.Logic.{inr}
 use mathlib.Core.List.{List, [], _∷_, _++_}
 use native.Mathlib.Omega.{arith}
-use lib.ListN.{length, take}
-use lib.Seq.{length-take-le}
+use lib.ListN.{length, getD, take, drop, replicate, length-append, length-drop, length-replicate, getD-replicate, replicate-append-replicate}
+use lib.Seq.{length-take-le, getD-drop, ext-getD, drop-at}
 use Rattle.scan.specs.Part.{stringAt}
 use Rattle.grammar.specs.Tree as tree
 use Rattle.grammar.specs.Tree.{Forest}
@@ -15,12 +17,14 @@ use Rattle.grammar.specs.Limits as count
 use Rattle.grammar.specs.Demand.{decodeAttrs, decodeTree, decodeForest}
 use Rattle.entities.specs.Decode.{decoded}
 use Rattle.tree.specs.Trees as placed
-use Rattle.tree.specs.Trees.{Attr, nil, text, section, elem, attrsOf, attrSpans, spans, InOrder}
+use Rattle.tree.specs.Trees.{Attr, nil, text, section, elem, rows, attrRows, attrsOf, attrSpans, Span, spans, InOrder}
 use Rattle.tree.specs.declared.answers.Answer.{Answer}
 use Rattle.tree.specs.declared.answers.Answer.the-variants.{Tree}
+use Rattle.tree.proofs.Tags.{length-attrRows}
+use Rattle.tree.proofs.Forests.{length-rows}
 use Rattle.tree.proofs.Places.{in-whole, in-first, in-rest}
 use Rattle.track.proofs.StringLaws.{string-used}
-use Rattle.xml.specs.Promise.{Tables, Parsed}
+use Rattle.xml.specs.Promise.{Tables, Outside, thenZeros, Parsed}
 use Rattle.xml.proofs.Promises.{attrs-counted}
 use Rattle.xml.proofs.Given.{given-tree, given-forest, given-holds, given-count}
 use Rattle.meaning.specs.Kinds.{attrsIn, nodesIn}
@@ -73,12 +77,49 @@ mutual
   attrs-kept tree.none = refl
   attrs-kept (tree.more t f) = omega (arith, tree-kept t, attrs-kept f)
 
+-- ---- what stands after a tree
+rows-end : {t : List ℕ} (w : List ℕ) (n k : ℕ) → length w ≡ k → t ≡ thenZeros w n → steps.BlankFrom k t
+rows-end {t} w n k h e =
+    let z : List ℕ = replicate (n - length w) 0 in
+    let long : length t ≡ length w + (n - length w) =
+    ap length e ∙ length-append w z ∙ ap (λ (i : ℕ). length w + i) (length-replicate (n - length w) 0) in
+    let rest : n - length w ≡ length t - k = omega arith in
+    (omega arith, ap (drop k) e ∙ drop-at w z k h ∙ ap (λ (i : ℕ). replicate i 0) rest)
+
+-- cleared so far, all is
+pub cleared-end : (t : List ℕ) (k : ℕ) {w : List ℕ} → steps.BlankFrom k t → w ≡ replicate (length (take k t)) 0
+    → w ++ drop k t ≡ replicate (length t) 0
+cleared-end t k {w} b e =
+    let all : length (take k t) + (length t - k) ≡ length t = omega (arith, length-take-le k t (b .0), b .0) in
+    ap (λ (l : List ℕ). l ++ drop k t) e ∙ ap (λ (l : List ℕ). replicate (length (take k t)) 0 ++ l) (b .1)
+    ∙ replicate-append-replicate (length (take k t)) (length t - k) 0 ∙ ap (λ (i : ℕ). replicate i 0) all
+
+past-all : (l : List Span) (lo hi i : ℕ) → InOrder lo l hi → hi ≤ i → Outside i l
+past-all [] lo hi i o h = tt
+past-all (x ∷ l) lo hi i o h =
+    (inr (omega (arith, in-whole l (x .place + x .len) hi (o .1))), past-all l (x .place + x .len) hi i (o .1) h)
+
+blank-drop : (z : List ℕ) (n : ℕ) → ((i : ℕ) → n ≤ i → getD z i 0 ≡ 0) → drop n z ≡ replicate (length z - n) 0
+blank-drop z n h =
+    let long : length (drop n z) ≡ length z - n = length-drop n z in
+    ext-getD 0 (drop n z) (replicate (length z - n) 0) (long ∙ sym (length-replicate (length z - n) 0))
+    (λ i l. getD-drop n z i 0 ∙ h (n + i) (omega arith) ∙ sym (getD-replicate (length z - n) i 0 0 (omega (arith, l, long))))
+
 module _ {s : List ℕ} {lent left : Tables} {r : Answer} {i j : ℕ} (p : Parsed s lent r left) (e : r ≡ Tree i j) where
-  pub given-few : length (attrsOf (given-forest p e)) ≤ 8192
-  given-few =
+  many-attrs : length (attrsOf (given-forest p e)) ≡ count.attrs (given-tree p e .tree)
+  many-attrs =
       let g = given-tree p e in
-      let a = attrs-counted (left .strings) (given-forest p e) ∙ ap count.attrs (g .holds .shown) in
-      omega (arith, a, attrs-kept (g .tree), g .takes .derives .limits .named)
+      attrs-counted (left .strings) (given-forest p e) ∙ ap count.attrs (g .holds .shown) ∙ attrs-kept (g .tree)
+
+  pub given-few : length (attrsOf (given-forest p e)) ≤ 8192
+  given-few = omega (arith, many-attrs, given-tree p e .takes .derives .limits .named)
+
+  given-attrs : length (attrsOf (given-forest p e)) ≡ j
+  given-attrs =
+      let g = given-tree p e in
+      let b : Tree i j ≡ Tree (count.nodes (g .tree)) (count.attrs (g .tree)) = sym e ∙ p .counts (g .tree) (g .takes) in
+      let c : count.attrs (g .tree) ≡ j = cc in
+      many-attrs ∙ c
 
   pub given-fits : length s ≤ length (left .strings)
   given-fits =
@@ -99,4 +140,22 @@ module _ {s : List ℕ} {lent left : Tables} {r : Answer} {i j : ℕ} (p : Parse
         rows = given-count p e;
         placed = o;
         few = given-few;
+      }
+
+  -- ---- what stands behind
+  pub given-ends : steps.Ends (left .nodes) (left .attrs) (left .strings) i j (length s)
+  given-ends =
+      let g = given-tree p e in
+      let f = given-forest p e in
+      let count : placed.size f ≡ i = omega (arith, given-count p e) in
+      let n : length (rows 0 0 f) ≡ i * 6 = length-rows f 0 0 ∙ ap (λ (k : ℕ). k * 6) count in
+      let m : length (attrRows (attrsOf f)) ≡ j * 4 = length-attrRows (attrsOf f) ∙ ap (λ (k : ℕ). k * 4) given-attrs in
+      record {
+        nodes = rows-end (rows 0 0 f) (length (lent .nodes)) (i * 6) n (g .holds .node-rows);
+        attrs = rows-end (attrRows (attrsOf f)) (length (lent .attrs)) (j * 4) m (g .holds .attr-rows);
+        strings = (
+          given-fits,
+          blank-drop (left .strings) (length s)
+          (λ k h. g .holds .elsewhere k (past-all (spans f) 0 (length s) k (g .holds .in-order) h)),
+        );
       }

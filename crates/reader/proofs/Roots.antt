@@ -1,7 +1,8 @@
 -- tt: its parameters and its content make a track. Assumes nothing.
 --     track-steps                           what it means, step by step
 --     params-full, rates-no                 as far as it is read
---     many-params, few-params, tt-outcome   its content with its parameters
+--     many-params, few-params, tt-laid      its content with its parameters
+--     tt-no, params-cleared                 a number, and its parameters cleared
 --     root-no, root-is, track-as            the first tt
 use Prim.Native.Nat.{ℕ, _≤_}
 use mathlib.Core.Path.{_≡_, refl, sym, ap, subst, _∙_}
@@ -15,7 +16,7 @@ use borrow.Author.Tests.{le-leb, lt-leb}
 use Rattle.times.specs.declared.offset.TimingCtx.{TimingCtx}
 use Rattle.tree.specs.declared.answers.Refusal.{Refusal}
 use Rattle.track.specs.Track.{Param, Track}
-use Rattle.track.specs.Tables.{Tables, lengths}
+use Rattle.track.specs.Tables.{Tables, Lengths, lengths}
 use Rattle.track.specs.Layout.{each, filled, joinedCells, paramCells}
 use Rattle.records.specs.declared.cells.Added.{Added}
 use Rattle.records.proofs.RowLaws.{joined-length, param-wide}
@@ -35,6 +36,7 @@ use Rattle.params.specs.declared.rates.TimingSaid.{TimingSaid}
 use Rattle.params.specs.Named.{timingSaid, timingOf}
 use Rattle.params.specs.Rows.{placedParams, Collects}
 use Rattle.promised.specs.declared.Answer as promise
+use Rattle.promised.proofs.Promises.{RestZero}
 use Rattle.reader.specs.Steps.{rest, Ready, Outcome, Tree, Elem, elementIn, contentMeans, ContentOutcome}
 use Rattle.reader.proofs.Laying.{filled-from, rest-laid}
 use Rattle.reader.proofs.Elements.{elem-cells, elem-owned, elem-none, elem-found}
@@ -72,6 +74,22 @@ params-laid l p p′ n c blank long =
     let k = joined-length paramCells 4 param-wide (each laidParam l) in
     let j = each-length laidParam l in
     filled-from (length p) blank (params-cells l) (omega (arith, k, j, c .0, c .1, long)) (c .2)
+
+-- they are cleared, and all else is blank
+pub params-cleared : {n : Lengths} {h p s r c : List ℕ} {m : List ℤ} {g : List ℕ} {f : List Float} {e y : List ℕ}
+    → RestZero n (rest h p s r c m g f e y) → {p′ : List ℕ} → p′ ≡ replicate (n .params) 0 → RestZero n (rest h p′ s r c m g f e y)
+params-cleared z b = record {
+  head = z .head;
+  params = b;
+  styles = z .styles;
+  regions = z .regions;
+  cues = z .cues;
+  times = z .times;
+  segments = z .segments;
+  sizes = z .sizes;
+  extras = z .extras;
+  texts = z .texts;
+}
 
 module _ {t u z : List ℕ} {k : ℕ} (x : Elem t u z k) {e : found.Element} (row : e ≡ elementRow t k) where
   abbrev attrs : List (Attr Placed)
@@ -115,25 +133,30 @@ module _ {t u z : List ℕ} {k : ℕ} (x : Elem t u z k) {e : found.Element} (ro
       content-means = after-params ∙ (rw (← (r (x .attrs) (elem-owned x row))))
 
       -- ---- with its content
-      module _ (h s q c : List ℕ) (m : List ℤ) (g : List ℕ) (v : List ℤ) (f : List Float) (ex y : List ℕ)
-          (ready : Ready z (rest h p s q c m g v f ex y))
-          (h′ s′ q′ c′ : List ℕ) (m′ : List ℤ) (g′ : List ℕ) (v′ : List ℤ) (f′ : List Float) (ex′ y′ : List ℕ) where
+      module _ (h s q c : List ℕ) (m : List ℤ) (g : List ℕ) (f : List Float) (ex y : List ℕ) (ready : Ready z (rest h p s q c m g f ex y))
+          (h′ s′ q′ c′ : List ℕ) (m′ : List ℤ) (g′ : List ℕ) (f′ : List Float) (ex′ y′ : List ℕ) where
         abbrev before : Tables
-        before = rest h p s q c m g v f ex y
+        before = rest h p s q c m g f ex y
 
-        pub tt-outcome : (a : promise.Answer)
-            → ContentOutcome (contentMeans (paramsOf withPlaces attrs) ctx (elementIn x)) (paramsOf withPlaces attrs) z before
-            (rest h′ p s′ q′ c′ m′ g′ v′ f′ ex′ y′) a
-            → Outcome (trackIn withPlaces (elementIn x)) z before (rest h′ p′ s′ q′ c′ m′ g′ v′ f′ ex′ y′) a
+        abbrev Read : promise.Answer → Type 0
+        Read a =
+            ContentOutcome (contentMeans (paramsOf withPlaces attrs) ctx (elementIn x)) (paramsOf withPlaces attrs) z before
+            (rest h′ p s′ q′ c′ m′ g′ f′ ex′ y′) a
+
+        pub tt-laid : Read promise.Answer.Track
+            → Outcome (trackIn withPlaces (elementIn x)) z before (rest h′ p′ s′ q′ c′ m′ g′ f′ ex′ y′) promise.Answer.Track
         unfolding laidOf
-        tt-outcome promise.Answer.Track w =
+        tt-laid w =
             let params = params-laid (paramsOf withPlaces attrs) p p′ n collected (ready .zero .params) (ready .long .params) in
             record {
               track = w .track;
               means = content-means ∙ w .means;
-              laid = rest-laid (lengths before) (length z) (w .track) (w .head) (rw (w .same) params) (w .styles) (w .regions) (w .cues);
+              laid = rest-laid (lengths before) (length z) (w .track) (w .head) (rw (w .same) params) (w .styles) (w .regions) (w .sizes) (w .cues);
             }
-        tt-outcome (promise.Answer.Refused i) w = content-means ∙ w
+
+        pub tt-no : (i : Refusal) → Read (promise.Answer.Refused i) → {p″ : List ℕ} → p″ ≡ replicate (length p) 0
+            → Outcome (trackIn withPlaces (elementIn x)) z before (rest h′ p″ s′ q′ c′ m′ g′ f′ ex′ y′) (promise.Answer.Refused i)
+        tt-no i w e = (content-means ∙ w .0, params-cleared (w .1 (ready .zero .params)) e)
 
 -- ---- the first tt
 

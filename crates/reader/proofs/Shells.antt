@@ -1,6 +1,6 @@
 -- What the calls do around the reading of a tree meets their promise. Assumes nothing.
 --     zero-lengths, tells-long                                  tables that are cleared keep their lengths
---     long-as, zero-as, laid-as, kept-laid, blank-as            the tables of a track beside any strings
+--     long-as, zero-as, laid-as, kept-laid                      the tables of a track beside any strings
 --     meant-numbers, track-post, cue-post                       whatever is wanted: a number is from 12 to 16
 --     cue-asks, alone-post                                      a single cue leaves the other tables blank
 --     short-promise, away-promise, tree-asks, tree-promise      the call, by its outcomes
@@ -28,7 +28,7 @@ use Rattle.meaning.specs.Nodes.{Nodes}
 use Rattle.meaning.specs.Kinds.{nodesIn}
 use Rattle.laid.specs.Laid.{laidOf, laidStyles, laidRegions, laidCues, laidCue, rowsAfter, total, alone, whole, single}
 use Rattle.promised.specs.declared.Answer.{Answer}
-use Rattle.promised.specs.Promise.{AllZero, treeTables, zeros, Promise}
+use Rattle.promised.specs.Promise.{treeTables, Promise}
 use Rattle.promised.specs.Promise as promise
 use Rattle.promised.proofs.Numbers.{Numbered, whole-numbers, single-numbers}
 use Rattle.promised.proofs.Trees.{nodes-same}
@@ -36,13 +36,13 @@ use Rattle.promised.proofs.Promises.{RestLong, RestZero, RestLaid, rest-of, all
 use Rattle.promised.proofs.Promises.{promise-short, promise-away, promise-none, promise-track}
 use Rattle.reader.specs.declared.text.Wanted.{Wanted}
 use Rattle.reader.specs.Steps.{meantBy, rest, cueRest, Tells, Prepared, Laid, Asks, CueAsks, Post, CuePost, AsksTree, TreePost}
-use Rattle.reader.proofs.Parting.{nodes-part, given-fits, given-short, given-part}
+use Rattle.reader.proofs.Parting.{nodes-part, given-fits, given-short, given-part, given-ends}
 
 -- ---- the tables of a track beside any strings
 
 pub zero-lengths : {n : Lengths} {T : Tables} → RestZero n T → length (T .strings) ≡ n .strings → lengths T ≡ n
 zero-lengths z e =
-    rw (z .head, z .params, z .styles, z .regions, z .cues, z .times, z .segments, z .reveal, z .sizes, z .extras, e, z .texts)
+    rw (z .head, z .params, z .styles, z .regions, z .cues, z .times, z .segments, z .sizes, z .extras, e, z .texts)
     (simp length-replicate)
 
 pub tells-long : {n : Lengths} {T : Tables} (r : Bool) → RestZero n T → length (T .strings) ≡ n .strings → Tells (RestLong (lengths T)) r
@@ -59,7 +59,6 @@ lengthsBut n k = record {
   cues = n .cues;
   times = n .times;
   segments = n .segments;
-  reveal = n .reveal;
   sizes = n .sizes;
   extras = n .extras;
   strings = k;
@@ -75,7 +74,6 @@ but T z = record {
   cues = T .cues;
   times = T .times;
   segments = T .segments;
-  reveal = T .reveal;
   sizes = T .sizes;
   extras = T .extras;
   strings = z;
@@ -91,7 +89,6 @@ long-as k r = record {
   cues = r .cues;
   times = r .times;
   segments = r .segments;
-  reveal = r .reveal;
   sizes = r .sizes;
   extras = r .extras;
   texts = r .texts;
@@ -106,7 +103,6 @@ zero-as k z r = record {
   cues = r .cues;
   times = r .times;
   segments = r .segments;
-  reveal = r .reveal;
   sizes = r .sizes;
   extras = r .extras;
   texts = r .texts;
@@ -121,7 +117,6 @@ laid-as k z r = record {
   cues = r .cues;
   times = r .times;
   segments = r .segments;
-  reveal = r .reveal;
   sizes = r .sizes;
   extras = r .extras;
   texts = r .texts;
@@ -129,9 +124,6 @@ laid-as k z r = record {
 
 pub kept-laid : {m : meaning.Answer (Track Placed)} {z : List ℕ} {T T′ : Tables} (w w′ : List ℕ) → Laid m z T T′ → Laid m z (but T w) (but T′ w′)
 kept-laid w w′ x = record { track = x .track; means = x .means; laid = laid-as (length w) w′ (x .laid) }
-
-pub blank-as : {A : Type 0} {a b : ℕ} → a ≡ b → (x : A) {l : List A} → l ≡ replicate a x → l ≡ replicate b x
-blank-as h x e = rw h at e
 
 -- ---- whatever is wanted
 
@@ -152,9 +144,9 @@ cue-post e {t} {u} {z} {n} T T′ r h = subst (λ (w : Wanted). Post (meantBy w)
 
 -- ---- a single cue
 
-pub cue-asks : (h p s r c : List ℕ) (m : List ℤ) (g : List ℕ) (v : List ℤ) (f : List Float) (e y : List ℕ) {t u z : List ℕ} {n : ℕ}
-    → Asks t u z n (rest h p s r c m g v f e y) → CueAsks t u z n (cueRest h c m g v f y)
-cue-asks h p s r c m g v f e y x =
+pub cue-asks : (h p s r c : List ℕ) (m : List ℤ) (g : List ℕ) (f : List Float) (e y : List ℕ) {t u z : List ℕ} {n : ℕ}
+    → Asks t u z n (rest h p s r c m g f e y) → CueAsks t u z n (cueRest h c m g y)
+cue-asks h p s r c m g f e y x =
     let a = x .ready .zero in
     let b = x .ready .long in
     record {
@@ -168,8 +160,7 @@ cue-asks h p s r c m g v f e y x =
           cues = a .cues;
           times = a .times;
           segments = a .segments;
-          reveal = a .reveal;
-          sizes = a .sizes;
+          sizes = refl;
           extras = refl;
           texts = a .texts;
         };
@@ -177,27 +168,25 @@ cue-asks h p s r c m g v f e y x =
         cues = b .cues;
         times = b .times;
         segments = b .segments;
-        reveal = b .reveal;
-        sizes = omega (arith, b .sizes);
         texts = b .texts;
       };
       tree = x .tree;
     }
 
 -- the tables that it leaves out
-module _ (h p s r c : List ℕ) (m : List ℤ) (g : List ℕ) (v : List ℤ) (f : List Float) (e y : List ℕ) where
+module _ (h p s r c : List ℕ) (m : List ℤ) (g : List ℕ) (f : List Float) (e y : List ℕ) where
   abbrev whole-before : Tables
-  whole-before = rest h p s r c m g v f e y
+  whole-before = rest h p s r c m g f e y
 
-  module _ (h′ c′ : List ℕ) (m′ : List ℤ) (g′ : List ℕ) (v′ : List ℤ) (f′ : List Float) (y′ : List ℕ) where
+  module _ (h′ c′ : List ℕ) (m′ : List ℤ) (g′ y′ : List ℕ) where
     abbrev before : Tables
-    before = cueRest h c m g v f y
+    before = cueRest h c m g y
 
     abbrev after : Tables
-    after = cueRest h′ c′ m′ g′ v′ f′ y′
+    after = cueRest h′ c′ m′ g′ y′
 
     abbrev whole-after : Tables
-    whole-after = rest h′ p s r c′ m′ g′ v′ f′ e y′
+    whole-after = rest h′ p s r c′ m′ g′ f e y′
 
     cue-laid : (k : ℕ) (x : Cue Placed) → x .extras ≡ [] → RestZero (lengths whole-before) whole-before → RestLaid (lengths before) k (alone x) after
         → RestLaid (lengths whole-before) k (alone x) whole-after
@@ -210,9 +199,22 @@ module _ (h p s r c : List ℕ) (m : List ℤ) (g : List ℕ) (v : List ℤ) (f 
       cues = b .cues;
       times = b .times;
       segments = b .segments;
-      reveal = b .reveal;
-      sizes = b .sizes;
+      sizes = a .sizes ∙ rw sub-zero;
       extras = rw n (a .extras);
+      texts = b .texts;
+    }
+
+    cue-zero : RestZero (lengths whole-before) whole-before → RestZero (lengths before) after → RestZero (lengths whole-before) whole-after
+    cue-zero a b = record {
+      head = b .head;
+      params = a .params;
+      styles = a .styles;
+      regions = a .regions;
+      cues = b .cues;
+      times = b .times;
+      segments = b .segments;
+      sizes = a .sizes;
+      extras = a .extras;
       texts = b .texts;
     }
 
@@ -222,7 +224,7 @@ module _ (h p s r c : List ℕ) (m : List ℤ) (g : List ℕ) (v : List ℤ) (f 
         λ x.
         let w = b x in
         record { track = alone (w .cue); means = rw (w .means); laid = cue-laid (length z) (w .cue) (w .plain) a (w .laid) }
-    alone-post (Answer.Refused q) a b = λ x. rw (b x)
+    alone-post (Answer.Refused q) a b = λ x. (rw (b x .0), cue-zero a (b x .1))
 
 -- ---- a call, by its outcomes
 
@@ -257,19 +259,20 @@ module _ (w : Wanted) (s : List ℕ) (lent : promise.Tables) where
       used-long : length used ≡ length s
       used-long = length-take-le (length s) (mid .track .strings) (given-fits p e)
 
-      pub tree-asks : AsksTree (mid .nodes) (mid .attrs) (mid .track .strings) i (length s) (bare (mid .track))
+      pub tree-asks : AsksTree (mid .nodes) (mid .attrs) (mid .track .strings) i j (length s) (bare (mid .track))
       tree-asks =
-          let same = sym (zero-lengths (a .zero) refl) in (
-            given-fits p e,
-            record {
+          let same = sym (zero-lengths (a .zero) refl) in
+          record {
+            ends = given-ends p e;
+            asks = record {
               ready = record {
                 short = omega (arith, used-long, given-short p e);
                 zero = subst (λ (n : Lengths). RestZero n (bare (mid .track))) same (a .zero);
                 long = subst RestLong same (a .long);
               };
               tree = given-part p e;
-            },
-          )
+            };
+          }
 
       same-long : lengths (mid .track) ≡ lengths (lent .track)
       same-long = zero-lengths zero (given-tree p e .holds .as-long)
@@ -290,16 +293,11 @@ module _ (w : Wanted) (s : List ℕ) (lent : promise.Tables) where
           promise-track (meantBy w) (meant-numbers w) s lent long e q (ap (meantBy w) (same ∙ sym part-means) ∙ y .means) refl
           (laid-of (lengths (lent .track)) (length s) (y .track) laid)
       tree-promise (Answer.Refused q) left n m x =
-          promise-none (meantBy w) (meant-numbers w) s lent long e p (ap (meantBy w) (sym part-means) ∙ x .means (given-part p e)) refl
-          (zero-from left n m (x .kept))
-        where
-          zero-from : (left : promise.Tables) → length (mid .nodes) ≡ length (lent .nodes) → length (mid .attrs) ≡ length (lent .attrs)
-              → AllZero mid left → AllZero lent left
-          zero-from left n m z = record {
-            of-tree = record {
-              of-nodes = rw n at (z .of-tree .of-nodes);
-              of-attrs = rw m at (z .of-tree .of-attrs);
-              of-strings = rw (given-tree p e .holds .as-long) at (z .of-tree .of-strings);
-            };
-            of-track = z .of-track ∙ ap zeros same-long;
-          }
+          let y = x .means (given-part p e) in
+          let z : RestZero (lengths (lent .track)) (left .track) = subst (λ (k : Lengths). RestZero k (left .track)) same-long (y .1) in
+          promise-none (meantBy w) (meant-numbers w) s lent long e p (ap (meantBy w) (sym part-means) ∙ y .0) refl
+          (all-zero (record {
+            of-nodes = rw n at (x .kept .of-nodes);
+            of-attrs = rw m at (x .kept .of-attrs);
+            of-strings = rw (given-tree p e .holds .as-long) at (x .kept .of-strings);
+          }) z)

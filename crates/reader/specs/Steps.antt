@@ -1,13 +1,13 @@
 -- What the readers of whole texts ask and ensure. This file need not be believed: `parse` and `bytes_to_cue` promise what is left in the end.
 --     t, u are the tables of nodes and attributes; z are the strings, as many bytes as the text has
-use Prim.Native.Nat.{ℕ, _+_, _-_, _≤_}
+use Prim.Native.Nat.{ℕ, _+_, _-_, _*_, _≤_}
 use mathlib.Core.Path.{_≡_}
 use mathlib.Core.Bool.{Bool, true, false}
 use mathlib.Core.List.{List, [], _∷_}
 use mathlib.Core.Option.{none}
 use lib.IntN.{ℤ, pos}
 use lib.Ieee.{Float}
-use lib.ListN.{length, take, replicate}
+use lib.ListN.{length, take, drop, replicate}
 use lib.Seq.{sets}
 use Rattle.times.specs.declared.offset.TimingCtx.{TimingCtx}
 use Rattle.tree.specs.Trees.{Forest, size, attrsOf, spans, InOrder}
@@ -41,7 +41,7 @@ use Rattle.heads.specs.Steps.{stylesIn, regionsIn, insideHead}
 use Rattle.cues.specs.declared.lines.Line.{Line}
 use Rattle.cues.specs.declared.paragraph.Part.{Part}
 use Rattle.intervals.specs.declared.Interval.{Interval}
-use Rattle.cues.specs.Steps.{CueTables, seven, Base, Lined}
+use Rattle.cues.specs.Steps.{CueTables, five, Base, Lined}
 use Rattle.promised.specs.declared.Answer.{Answer}
 use Rattle.promised.specs.Promise as promise
 use Rattle.promised.proofs.Promises.{RestLong, RestZero, RestLaid}
@@ -61,24 +61,21 @@ treeTables t u z = xml.tables t u z
 
 -- those of a track but for its strings
 abbrev pub rest :
-    (head params styles regions cues : List ℕ) (times : List ℤ) (segments : List ℕ) (reveal : List ℤ) (sizes : List Float)
-    (extras texts : List ℕ) → Tables
-rest h p s r c m g v f e y = tables h p s r c m g v f e [] y
+    (head params styles regions cues : List ℕ) (times : List ℤ) (segments : List ℕ) (sizes : List Float) (extras texts : List ℕ) → Tables
+rest h p s r c m g f e y = tables h p s r c m g f e [] y
 
 -- those of them that hold a single cue
-abbrev pub cueRest :
-    (head cues : List ℕ) (times : List ℤ) (segments : List ℕ) (reveal : List ℤ) (sizes : List Float) (texts : List ℕ) → Tables
-cueRest h c m g v f y = rest h [] [] [] c m g v f [] y
+abbrev pub cueRest : (head cues : List ℕ) (times : List ℤ) (segments texts : List ℕ) → Tables
+cueRest h c m g y = rest h [] [] [] c m g [] [] y
 
 -- those of them that hold cues
 abbrev pub inCues : Tables → CueTables
-inCues T = seven (T .cues) (T .times) (T .segments) (T .reveal) (T .sizes) (T .extras) (T .texts)
+inCues T = five (T .cues) (T .times) (T .segments) (T .extras) (T .texts)
 
 -- what they are before the first cue, after these styles and regions
 abbrev pub headBase : Lengths → List (Style Placed) → List (Region Placed) → Base
 headBase n styles regions = record {
   lengths = n;
-  sizes = filledSizes (n .sizes - 16384) (each styleSize (laidStyles 0 styles));
   extras = placing.regionExtras (placing.styleExtras (replicate (n .extras) 0) (laidStyles 0 styles)) (laidRegions (styleExtras styles) regions);
   rows = styleExtras styles + regionExtras regions;
 }
@@ -106,12 +103,10 @@ pub record CueReady (z : List ℕ) (T : Tables) : Type 0 where
   pub head : 10 ≤ length (T .head)
   pub cues : 22528 ≤ length (T .cues)
   pub times : 4096 ≤ length (T .times)
-  pub segments : 131072 ≤ length (T .segments)
-  pub reveal : 16384 ≤ length (T .reveal)
-  pub sizes : 16384 ≤ length (T .sizes)
+  pub segments : 98304 ≤ length (T .segments)
   pub texts : 65536 ≤ length (T .texts)
 
--- m is what is read: the track stands in the tables; or it is that number at that place
+-- m is what is read: the track stands in the tables; or it is that number at that place, and they are blank
 module _ (m : meaning.Answer (Track Placed)) (z : List ℕ) (T T′ : Tables) where
   pub record Laid : Type 0 where
     pub track : Track Placed
@@ -120,7 +115,7 @@ module _ (m : meaning.Answer (Track Placed)) (z : List ℕ) (T T′ : Tables) wh
 
   abbrev pub Outcome : Answer → Type 0
   Outcome Answer.Track = Laid
-  Outcome (Answer.Refused q) = m ≡ turned q
+  Outcome (Answer.Refused q) = (m ≡ turned q) × RestZero (lengths T) T′
 
 -- the same of a cue, which has no extras
 module _ (m : meaning.Answer (Cue Placed)) (z : List ℕ) (T T′ : Tables) where
@@ -132,7 +127,7 @@ module _ (m : meaning.Answer (Cue Placed)) (z : List ℕ) (T T′ : Tables) wher
 
   abbrev pub CueOutcome : Answer → Type 0
   CueOutcome Answer.Track = CueLaid
-  CueOutcome (Answer.Refused q) = m ≡ turned q
+  CueOutcome (Answer.Refused q) = (m ≡ turned q) × RestZero (lengths T) T′
 
 -- ---- a tree
 
@@ -158,17 +153,28 @@ Post meant t u z n T T′ r = (x : Tree t u z n) → Outcome (meant (nodesIn z (
 abbrev pub CuePost : (t u z : List ℕ) (n : ℕ) (T T′ : Tables) → Answer → Type 0
 CuePost t u z n T T′ r = (x : Tree t u z n) → CueOutcome (cueOf withPlaces (nodesIn z (x .forest))) z T T′ r
 
--- of a text of `len` bytes
-abbrev pub AsksTree : (t u z : List ℕ) (n len : ℕ) (T : Tables) → Type 0
-AsksTree t u z n len T = (len ≤ length z) × Asks t u (take len z) n T
+-- from cell k on every cell is zero
+abbrev pub BlankFrom : ℕ → List ℕ → Type 0
+BlankFrom k t = (k ≤ length t) × (drop k t ≡ replicate (length t - k) 0)
+
+-- nothing stands after n nodes, m attributes and `len` bytes
+pub record Ends (t u z : List ℕ) (n m len : ℕ) : Type 0 where
+  pub nodes : BlankFrom (n * 6) t
+  pub attrs : BlankFrom (m * 4) u
+  pub strings : BlankFrom len z
+
+-- the tree of a text of so many bytes, and nothing else
+pub record AsksTree (t u z : List ℕ) (n m len : ℕ) (T : Tables) : Type 0 where
+  pub ends : Ends t u z n m len
+  pub asks : Asks t u (take len z) n T
 
 -- the tree stays as it was, or every cell is zero
-abbrev pub Kept : (T T′ : promise.Tables) → Answer → Type 0
-Kept T T′ Answer.Track = promise.treeTables T′ ≡ promise.treeTables T
-Kept T T′ (Answer.Refused q) = promise.AllZero T T′
+abbrev pub Kept : (T T′ : xml.Tables) → Answer → Type 0
+Kept T T′ Answer.Track = T′ ≡ T
+Kept T T′ (Answer.Refused q) = xml.AllZero T T′
 
 pub record TreePost (meant : Nodes Placed → meaning.Answer (Track Placed)) (n len : ℕ) (T T′ : promise.Tables) (r : Answer) : Type 0 where
-  pub kept : Kept T T′ r
+  pub kept : Kept (promise.treeTables T) (promise.treeTables T′) r
   pub means : (x : Tree (T .nodes) (T .attrs) (take len (T .track .strings)) n)
       → Outcome (meant (nodesIn (take len (T .track .strings)) (x .forest))) (take len (T .track .strings)) (T .track) (T′ .track) r
 
@@ -312,7 +318,7 @@ pub record ContentAsks (t u z : List ℕ) (k count : ℕ) (T : Tables) : Type 0 
   pub element : Elem t u z k
   pub few : count ≤ 64
 
--- m is what the content of tt means, of these parameters: all but they stand in the tables
+-- m is what the content of tt means, of these parameters: all but they stand in the tables; or all but they are blank
 module _ (m : meaning.Answer (Track Placed)) (params : List (Param Placed)) (z : List ℕ) (T T′ : Tables) where
   pub record ContentLaid : Type 0 where
     pub track : Track Placed
@@ -322,13 +328,14 @@ module _ (m : meaning.Answer (Track Placed)) (params : List (Param Placed)) (z :
     pub styles : T′ .styles ≡ filled (length (T .styles)) (joinedCells (λ x. styleCells (x .style)) (laidStyles 0 (track .styles)))
     pub regions : T′ .regions
         ≡ filled (length (T .regions)) (joinedCells (λ x. regionCells (x .region)) (laidRegions (styleExtras (track .styles)) (track .regions)))
+    pub sizes : T′ .sizes ≡ filledSizes (length (T .sizes)) (each styleSize (laidStyles 0 (track .styles)))
     pub hi : ℕ
     pub line : Line
     pub cues : Lined (headBase (lengths T) (track .styles) (track .regions)) hi (track .cues) line (inCues T′)
 
   abbrev pub ContentOutcome : Answer → Type 0
   ContentOutcome Answer.Track = ContentLaid
-  ContentOutcome (Answer.Refused q) = m ≡ turned q
+  ContentOutcome (Answer.Refused q) = (m ≡ turned q) × (T .params ≡ replicate (length (T .params)) 0 → RestZero (lengths T) T′)
 
 abbrev pub ContentPost : (t u z : List ℕ) (k count : ℕ) → TimingCtx → (T T′ : Tables) → Answer → Type 0
 ContentPost t u z k count ctx T T′ r =

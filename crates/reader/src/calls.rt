@@ -15,7 +15,6 @@ pub fn parse(
     cues: &mut [u32],
     times: &mut [i64],
     segments: &mut [u32],
-    reveal: &mut [i64],
     sizes: &mut [f32],
     extras: &mut [u32],
     strings: &mut [u8],
@@ -23,11 +22,11 @@ pub fn parse(
 ) -> Answer
     ensures { λ r. ⌜ Parsed (now (text .entry))
         (tables (now (nodes .entry)) (now (attrs .entry)) (now (head .entry)) (now (params .entry)) (now (styles .entry)) (now (regions .entry))
-        (now (cues .entry)) (now (times .entry)) (now (segments .entry)) (now (reveal .entry)) (now (sizes .entry)) (now (extras .entry))
-        (now (strings .entry)) (now (texts .entry))) r
+        (now (cues .entry)) (now (times .entry)) (now (segments .entry)) (now (sizes .entry)) (now (extras .entry)) (now (strings .entry))
+        (now (texts .entry))) r
         (tables (now (nodes .exit)) (now (attrs .exit)) (now (head .exit)) (now (params .exit)) (now (styles .exit)) (now (regions .exit))
-        (now (cues .exit)) (now (times .exit)) (now (segments .exit)) (now (reveal .exit)) (now (sizes .exit)) (now (extras .exit))
-        (now (strings .exit)) (now (texts .exit))) ⌝ }
+        (now (cues .exit)) (now (times .exit)) (now (segments .exit)) (now (sizes .exit)) (now (extras .exit)) (now (strings .exit))
+        (now (texts .exit))) ⌝ }
 {
     crate::text::read_text(
         text,
@@ -40,7 +39,6 @@ pub fn parse(
         cues,
         times,
         segments,
-        reveal,
         sizes,
         extras,
         strings,
@@ -61,7 +59,6 @@ pub fn bytes_to_cue(
     cues: &mut [u32],
     times: &mut [i64],
     segments: &mut [u32],
-    reveal: &mut [i64],
     sizes: &mut [f32],
     extras: &mut [u32],
     strings: &mut [u8],
@@ -69,11 +66,11 @@ pub fn bytes_to_cue(
 ) -> Answer
     ensures { λ r. ⌜ CueParsed (now (text .entry))
         (tables (now (nodes .entry)) (now (attrs .entry)) (now (head .entry)) (now (params .entry)) (now (styles .entry)) (now (regions .entry))
-        (now (cues .entry)) (now (times .entry)) (now (segments .entry)) (now (reveal .entry)) (now (sizes .entry)) (now (extras .entry))
-        (now (strings .entry)) (now (texts .entry))) r
+        (now (cues .entry)) (now (times .entry)) (now (segments .entry)) (now (sizes .entry)) (now (extras .entry)) (now (strings .entry))
+        (now (texts .entry))) r
         (tables (now (nodes .exit)) (now (attrs .exit)) (now (head .exit)) (now (params .exit)) (now (styles .exit)) (now (regions .exit))
-        (now (cues .exit)) (now (times .exit)) (now (segments .exit)) (now (reveal .exit)) (now (sizes .exit)) (now (extras .exit))
-        (now (strings .exit)) (now (texts .exit))) ⌝ }
+        (now (cues .exit)) (now (times .exit)) (now (segments .exit)) (now (sizes .exit)) (now (extras .exit)) (now (strings .exit))
+        (now (texts .exit))) ⌝ }
 {
     crate::text::read_text(
         text,
@@ -86,7 +83,6 @@ pub fn bytes_to_cue(
         cues,
         times,
         segments,
-        reveal,
         sizes,
         extras,
         strings,

@@ -1,5 +1,8 @@
 // The tables of a track but for its strings, which the tree reader tests and clears.
-ghost use Rattle.track.specs.Tables.{lengths};
+ghost use mathlib.Core.Path.{_≡_};
+ghost use lib.IntN.{pos};
+ghost use lib.ListN.{length, replicate};
+ghost use Rattle.track.specs.Tables.{lengths, zeroFloat};
 ghost use Rattle.promised.proofs.Promises.{RestLong, RestZero};
 ghost use Rattle.reader.specs.Steps.{rest, Tells, Prepared};
 
@@ -17,15 +20,39 @@ const TIMES: usize = track::CUES * 2;
 
 const SEGMENTS: usize = track::SEGMENTS * track::SEGMENT_CELLS;
 
-const REVEAL: usize = track::SEGMENTS;
-
-const SIZES: usize = track::SEGMENTS + track::STYLES;
+const SIZES: usize = track::STYLES;
 
 const EXTRAS: usize = track::EXTRAS * track::EXTRA_CELLS;
 
 const TEXTS: usize = tree::BYTES;
 
-// Every cell is 0.
+// Every cell of the tables that the head writes is 0;
+pub fn clear_head(styles: &mut [u32], regions: &mut [u32], sizes: &mut [f32], extras: &mut [u32])
+    ensures { λ _. ⌜ (now (styles .exit) ≡ replicate (length (now (styles .entry))) 0)
+        × (now (regions .exit) ≡ replicate (length (now (regions .entry))) 0)
+        × (now (sizes .exit) ≡ replicate (length (now (sizes .entry))) zeroFloat)
+        × (now (extras .exit) ≡ replicate (length (now (extras .entry))) 0) ⌝ }
+{
+    scan::clear(styles);
+    scan::clear(regions);
+    scan::clear_f32(sizes);
+    scan::clear(extras);
+}
+
+// of those that the body writes, but for the extras;
+pub fn clear_body(cues: &mut [u32], times: &mut [i64], segments: &mut [u32], texts: &mut [u8])
+    ensures { λ _. ⌜ (now (cues .exit) ≡ replicate (length (now (cues .entry))) 0)
+        × (now (times .exit) ≡ replicate (length (now (times .entry))) (pos 0))
+        × (now (segments .exit) ≡ replicate (length (now (segments .entry))) 0)
+        × (now (texts .exit) ≡ replicate (length (now (texts .entry))) 0) ⌝ }
+{
+    scan::clear(cues);
+    scan::clear_i64(times);
+    scan::clear(segments);
+    scan::clear_bytes(texts);
+}
+
+// of all.
 pub fn clear_track(
     head: &mut [u32],
     params: &mut [u32],
@@ -34,28 +61,20 @@ pub fn clear_track(
     cues: &mut [u32],
     times: &mut [i64],
     segments: &mut [u32],
-    reveal: &mut [i64],
     sizes: &mut [f32],
     extras: &mut [u32],
     texts: &mut [u8],
 )
     ensures { λ _. ⌜ RestZero
         (lengths (rest (now (head .entry)) (now (params .entry)) (now (styles .entry)) (now (regions .entry)) (now (cues .entry))
-        (now (times .entry)) (now (segments .entry)) (now (reveal .entry)) (now (sizes .entry)) (now (extras .entry)) (now (texts .entry))))
-        (rest (now (head .exit)) (now (params .exit)) (now (styles .exit)) (now (regions .exit)) (now (cues .exit))
-        (now (times .exit)) (now (segments .exit)) (now (reveal .exit)) (now (sizes .exit)) (now (extras .exit)) (now (texts .exit))) ⌝ }
+        (now (times .entry)) (now (segments .entry)) (now (sizes .entry)) (now (extras .entry)) (now (texts .entry))))
+        (rest (now (head .exit)) (now (params .exit)) (now (styles .exit)) (now (regions .exit)) (now (cues .exit)) (now (times .exit))
+        (now (segments .exit)) (now (sizes .exit)) (now (extras .exit)) (now (texts .exit))) ⌝ }
 {
     scan::clear(head);
     scan::clear(params);
-    scan::clear(styles);
-    scan::clear(regions);
-    scan::clear(cues);
-    scan::clear_i64(times);
-    scan::clear(segments);
-    scan::clear_i64(reveal);
-    scan::clear_f32(sizes);
-    scan::clear(extras);
-    scan::clear_bytes(texts);
+    clear_head(styles, regions, sizes, extras);
+    clear_body(cues, times, segments, texts);
 }
 
 // Is each at least as long as its fixed length?
@@ -67,14 +86,13 @@ pub fn long_enough(
     cues: &[u32],
     times: &[i64],
     segments: &[u32],
-    reveal: &[i64],
     sizes: &[f32],
     extras: &[u32],
     texts: &[u8],
 ) -> bool
     ensures { λ r. ⌜ Tells (RestLong
         (lengths (rest (now (head .entry)) (now (params .entry)) (now (styles .entry)) (now (regions .entry)) (now (cues .entry))
-        (now (times .entry)) (now (segments .entry)) (now (reveal .entry)) (now (sizes .entry)) (now (extras .entry)) (now (texts .entry))))) r ⌝ }
+        (now (times .entry)) (now (segments .entry)) (now (sizes .entry)) (now (extras .entry)) (now (texts .entry))))) r ⌝ }
 {
     if head.len() < HEAD {
         return false;
@@ -95,9 +113,6 @@ pub fn long_enough(
         return false;
     }
     if segments.len() < SEGMENTS {
-        return false;
-    }
-    if reveal.len() < REVEAL {
         return false;
     }
     if sizes.len() < SIZES {
@@ -121,16 +136,15 @@ pub fn prepare(
     cues: &mut [u32],
     times: &mut [i64],
     segments: &mut [u32],
-    reveal: &mut [i64],
     sizes: &mut [f32],
     extras: &mut [u32],
     texts: &mut [u8],
 ) -> bool
     ensures { λ r. ⌜ Prepared
-        (rest (now (head .entry)) (now (params .entry)) (now (styles .entry)) (now (regions .entry)) (now (cues .entry))
-        (now (times .entry)) (now (segments .entry)) (now (reveal .entry)) (now (sizes .entry)) (now (extras .entry)) (now (texts .entry)))
-        (rest (now (head .exit)) (now (params .exit)) (now (styles .exit)) (now (regions .exit)) (now (cues .exit))
-        (now (times .exit)) (now (segments .exit)) (now (reveal .exit)) (now (sizes .exit)) (now (extras .exit)) (now (texts .exit))) r ⌝ }
+        (rest (now (head .entry)) (now (params .entry)) (now (styles .entry)) (now (regions .entry)) (now (cues .entry)) (now (times .entry))
+        (now (segments .entry)) (now (sizes .entry)) (now (extras .entry)) (now (texts .entry)))
+        (rest (now (head .exit)) (now (params .exit)) (now (styles .exit)) (now (regions .exit)) (now (cues .exit)) (now (times .exit))
+        (now (segments .exit)) (now (sizes .exit)) (now (extras .exit)) (now (texts .exit))) r ⌝ }
 {
     clear_track(
         head,
@@ -140,7 +154,6 @@ pub fn prepare(
         cues,
         times,
         segments,
-        reveal,
         sizes,
         extras,
         texts,
@@ -153,7 +166,6 @@ pub fn prepare(
         cues,
         times,
         segments,
-        reveal,
         sizes,
         extras,
         texts,

@@ -89,19 +89,14 @@ fn read_timed(
     cues: &mut [u32],
     times: &mut [i64],
     segments: &mut [u32],
-    reveal: &mut [i64],
-    sizes: &mut [f32],
     texts: &mut [u8],
     k: usize,
     when: Interval,
 ) -> Answer
-    requires { ⌜ ElementAsks (now nodes) (now attrs) (now strings) k
-        (cueRest (now head) (now cues) (now times) (now segments) (now reveal) (now sizes) (now texts)) ⌝ }
+    requires { ⌜ ElementAsks (now nodes) (now attrs) (now strings) k (cueRest (now head) (now cues) (now times) (now segments) (now texts)) ⌝ }
     ensures { λ r. ⌜ ElementPost (timedCue when) (now (nodes .entry)) (now (attrs .entry)) (now (strings .entry)) k
-        (cueRest (now (head .entry)) (now (cues .entry)) (now (times .entry)) (now (segments .entry)) (now (reveal .entry)) (now (sizes .entry))
-        (now (texts .entry)))
-        (cueRest (now (head .exit)) (now (cues .exit)) (now (times .exit)) (now (segments .exit)) (now (reveal .exit)) (now (sizes .exit))
-        (now (texts .exit))) r ⌝ }
+        (cueRest (now (head .entry)) (now (cues .entry)) (now (times .entry)) (now (segments .entry)) (now (texts .entry)))
+        (cueRest (now (head .exit)) (now (cues .exit)) (now (times .exit)) (now (segments .exit)) (now (texts .exit))) r ⌝ }
 {
     let e = xml::element_at(nodes, k);
     let ws = styling::resolve_ws(attrs, strings, e.first, e.many, WsMode::Collapse);
@@ -110,8 +105,6 @@ fn read_timed(
         attrs,
         strings,
         segments,
-        reveal,
-        sizes,
         texts,
         k + 1,
         e.end,
@@ -120,7 +113,11 @@ fn read_timed(
         ws,
         0,
     ) {
-        Collecting::Refused(r) => Answer::Refused(r),
+        Collecting::Refused(r) => {
+            scan::clear(segments);
+            scan::clear_bytes(texts);
+            Answer::Refused(r)
+        }
         Collecting::Is(run) => {
             put_alone(attrs, strings, head, cues, times, e, when, run.rows);
             Answer::Track
@@ -137,18 +134,13 @@ fn read_p(
     cues: &mut [u32],
     times: &mut [i64],
     segments: &mut [u32],
-    reveal: &mut [i64],
-    sizes: &mut [f32],
     texts: &mut [u8],
     k: usize,
 ) -> Answer
-    requires { ⌜ ElementAsks (now nodes) (now attrs) (now strings) k
-        (cueRest (now head) (now cues) (now times) (now segments) (now reveal) (now sizes) (now texts)) ⌝ }
+    requires { ⌜ ElementAsks (now nodes) (now attrs) (now strings) k (cueRest (now head) (now cues) (now times) (now segments) (now texts)) ⌝ }
     ensures { λ r. ⌜ ElementPost (cueIn withPlaces) (now (nodes .entry)) (now (attrs .entry)) (now (strings .entry)) k
-        (cueRest (now (head .entry)) (now (cues .entry)) (now (times .entry)) (now (segments .entry)) (now (reveal .entry)) (now (sizes .entry))
-        (now (texts .entry)))
-        (cueRest (now (head .exit)) (now (cues .exit)) (now (times .exit)) (now (segments .exit)) (now (reveal .exit)) (now (sizes .exit))
-        (now (texts .exit))) r ⌝ }
+        (cueRest (now (head .entry)) (now (cues .entry)) (now (times .entry)) (now (segments .entry)) (now (texts .entry)))
+        (cueRest (now (head .exit)) (now (cues .exit)) (now (times .exit)) (now (segments .exit)) (now (texts .exit))) r ⌝ }
 {
     match intervals::single_interval(attrs, strings, xml::element_at(nodes, k), no_rates()) {
         Timed::Refused(r) => Answer::Refused(r),
@@ -160,8 +152,6 @@ fn read_p(
             cues,
             times,
             segments,
-            reveal,
-            sizes,
             texts,
             k,
             when,
@@ -178,18 +168,13 @@ pub fn read_cue(
     cues: &mut [u32],
     times: &mut [i64],
     segments: &mut [u32],
-    reveal: &mut [i64],
-    sizes: &mut [f32],
     texts: &mut [u8],
     n: usize,
 ) -> Answer
-    requires { ⌜ CueAsks (now nodes) (now attrs) (now strings) n
-        (cueRest (now head) (now cues) (now times) (now segments) (now reveal) (now sizes) (now texts)) ⌝ }
+    requires { ⌜ CueAsks (now nodes) (now attrs) (now strings) n (cueRest (now head) (now cues) (now times) (now segments) (now texts)) ⌝ }
     ensures { λ r. ⌜ CuePost (now (nodes .entry)) (now (attrs .entry)) (now (strings .entry)) n
-        (cueRest (now (head .entry)) (now (cues .entry)) (now (times .entry)) (now (segments .entry)) (now (reveal .entry)) (now (sizes .entry))
-        (now (texts .entry)))
-        (cueRest (now (head .exit)) (now (cues .exit)) (now (times .exit)) (now (segments .exit)) (now (reveal .exit)) (now (sizes .exit))
-        (now (texts .exit))) r ⌝ }
+        (cueRest (now (head .entry)) (now (cues .entry)) (now (times .entry)) (now (segments .entry)) (now (texts .entry)))
+        (cueRest (now (head .exit)) (now (cues .exit)) (now (times .exit)) (now (segments .exit)) (now (texts .exit))) r ⌝ }
 {
     match xml::find_element(nodes, strings, 0, n, b"p") {
         Found::Nothing => Answer::Refused(Refusal {
@@ -204,8 +189,6 @@ pub fn read_cue(
             cues,
             times,
             segments,
-            reveal,
-            sizes,
             texts,
             k,
         ),

@@ -1,7 +1,7 @@
 // A text, read.
 ghost use Rattle.xml.specs.Promise.{AllZero};
 ghost use Rattle.promised.specs.Promise.{tables, Promise};
-ghost use Rattle.reader.specs.Steps.{rest, treeTables, meantBy, Asks, Post, AsksTree, TreePost};
+ghost use Rattle.reader.specs.Steps.{rest, treeTables, meantBy, Asks, Post, Ends, AsksTree, TreePost};
 use promised::Answer;
 use tree::Refusal;
 
@@ -33,7 +33,6 @@ fn read_nodes(
     cues: &mut [u32],
     times: &mut [i64],
     segments: &mut [u32],
-    reveal: &mut [i64],
     sizes: &mut [f32],
     extras: &mut [u32],
     texts: &mut [u8],
@@ -41,12 +40,12 @@ fn read_nodes(
     wanted: Wanted,
 ) -> Answer
     requires { ⌜ Asks (now nodes) (now attrs) (now strings) n (rest (now head) (now params) (now styles) (now regions) (now cues)
-        (now times) (now segments) (now reveal) (now sizes) (now extras) (now texts)) ⌝ }
+        (now times) (now segments) (now sizes) (now extras) (now texts)) ⌝ }
     ensures { λ r. ⌜ Post (meantBy wanted) (now (nodes .entry)) (now (attrs .entry)) (now (strings .entry)) n
-        (rest (now (head .entry)) (now (params .entry)) (now (styles .entry)) (now (regions .entry)) (now (cues .entry))
-        (now (times .entry)) (now (segments .entry)) (now (reveal .entry)) (now (sizes .entry)) (now (extras .entry)) (now (texts .entry)))
-        (rest (now (head .exit)) (now (params .exit)) (now (styles .exit)) (now (regions .exit)) (now (cues .exit))
-        (now (times .exit)) (now (segments .exit)) (now (reveal .exit)) (now (sizes .exit)) (now (extras .exit)) (now (texts .exit))) r ⌝ }
+        (rest (now (head .entry)) (now (params .entry)) (now (styles .entry)) (now (regions .entry)) (now (cues .entry)) (now (times .entry))
+        (now (segments .entry)) (now (sizes .entry)) (now (extras .entry)) (now (texts .entry)))
+        (rest (now (head .exit)) (now (params .exit)) (now (styles .exit)) (now (regions .exit)) (now (cues .exit)) (now (times .exit))
+        (now (segments .exit)) (now (sizes .exit)) (now (extras .exit)) (now (texts .exit))) r ⌝ }
 {
     match wanted {
         Wanted::Track => crate::whole::read_track(
@@ -60,7 +59,6 @@ fn read_nodes(
             cues,
             times,
             segments,
-            reveal,
             sizes,
             extras,
             texts,
@@ -74,15 +72,31 @@ fn read_nodes(
             cues,
             times,
             segments,
-            reveal,
-            sizes,
             texts,
             n,
         ),
     }
 }
 
-// The same of a text of so many bytes; after a refusal every cell is 0.
+// The tree of n nodes and m attributes, of a text of so many bytes, leaves its tables: every cell is 0.
+fn drop_tree(
+    nodes: &mut [u32],
+    attrs: &mut [u32],
+    strings: &mut [u8],
+    n: usize,
+    m: usize,
+    len: usize,
+)
+    requires { ⌜ Ends (now nodes) (now attrs) (now strings) n m len ⌝ }
+    ensures { λ _. ⌜ AllZero (treeTables (now (nodes .entry)) (now (attrs .entry)) (now (strings .entry)))
+        (treeTables (now (nodes .exit)) (now (attrs .exit)) (now (strings .exit))) ⌝ }
+{
+    scan::clear(&mut nodes[..n * tree::NODE_CELLS]);
+    scan::clear(&mut attrs[..m * tree::ATTR_CELLS]);
+    scan::clear_bytes(&mut strings[..len]);
+}
+
+// What the tree means; after a refusal every cell is 0.
 fn read_tree(
     nodes: &mut [u32],
     attrs: &mut [u32],
@@ -93,24 +107,24 @@ fn read_tree(
     cues: &mut [u32],
     times: &mut [i64],
     segments: &mut [u32],
-    reveal: &mut [i64],
     sizes: &mut [f32],
     extras: &mut [u32],
     strings: &mut [u8],
     texts: &mut [u8],
     n: usize,
+    m: usize,
     len: usize,
     wanted: Wanted,
 ) -> Answer
-    requires { ⌜ AsksTree (now nodes) (now attrs) (now strings) n len (rest (now head) (now params) (now styles) (now regions) (now cues)
-        (now times) (now segments) (now reveal) (now sizes) (now extras) (now texts)) ⌝ }
+    requires { ⌜ AsksTree (now nodes) (now attrs) (now strings) n m len (rest (now head) (now params) (now styles) (now regions) (now cues)
+        (now times) (now segments) (now sizes) (now extras) (now texts)) ⌝ }
     ensures { λ r. ⌜ TreePost (meantBy wanted) n len
         (tables (now (nodes .entry)) (now (attrs .entry)) (now (head .entry)) (now (params .entry)) (now (styles .entry)) (now (regions .entry))
-        (now (cues .entry)) (now (times .entry)) (now (segments .entry)) (now (reveal .entry)) (now (sizes .entry)) (now (extras .entry))
-        (now (strings .entry)) (now (texts .entry)))
+        (now (cues .entry)) (now (times .entry)) (now (segments .entry)) (now (sizes .entry)) (now (extras .entry)) (now (strings .entry))
+        (now (texts .entry)))
         (tables (now (nodes .exit)) (now (attrs .exit)) (now (head .exit)) (now (params .exit)) (now (styles .exit)) (now (regions .exit))
-        (now (cues .exit)) (now (times .exit)) (now (segments .exit)) (now (reveal .exit)) (now (sizes .exit)) (now (extras .exit))
-        (now (strings .exit)) (now (texts .exit))) r ⌝ }
+        (now (cues .exit)) (now (times .exit)) (now (segments .exit)) (now (sizes .exit)) (now (extras .exit)) (now (strings .exit))
+        (now (texts .exit))) r ⌝ }
 {
     let used = &strings[..len];
     match read_nodes(
@@ -124,7 +138,6 @@ fn read_tree(
         cues,
         times,
         segments,
-        reveal,
         sizes,
         extras,
         texts,
@@ -133,20 +146,7 @@ fn read_tree(
     ) {
         Answer::Track => Answer::Track,
         Answer::Refused(r) => {
-            clear_tree(nodes, attrs, strings);
-            crate::clear::clear_track(
-                head,
-                params,
-                styles,
-                regions,
-                cues,
-                times,
-                segments,
-                reveal,
-                sizes,
-                extras,
-                texts,
-            );
+            drop_tree(nodes, attrs, strings, n, m, len);
             Answer::Refused(r)
         }
     }
@@ -164,7 +164,6 @@ pub fn read_text(
     cues: &mut [u32],
     times: &mut [i64],
     segments: &mut [u32],
-    reveal: &mut [i64],
     sizes: &mut [f32],
     extras: &mut [u32],
     strings: &mut [u8],
@@ -173,11 +172,11 @@ pub fn read_text(
 ) -> Answer
     ensures { λ r. ⌜ Promise (meantBy wanted) (now (text .entry))
         (tables (now (nodes .entry)) (now (attrs .entry)) (now (head .entry)) (now (params .entry)) (now (styles .entry)) (now (regions .entry))
-        (now (cues .entry)) (now (times .entry)) (now (segments .entry)) (now (reveal .entry)) (now (sizes .entry)) (now (extras .entry))
-        (now (strings .entry)) (now (texts .entry))) r
+        (now (cues .entry)) (now (times .entry)) (now (segments .entry)) (now (sizes .entry)) (now (extras .entry)) (now (strings .entry))
+        (now (texts .entry))) r
         (tables (now (nodes .exit)) (now (attrs .exit)) (now (head .exit)) (now (params .exit)) (now (styles .exit)) (now (regions .exit))
-        (now (cues .exit)) (now (times .exit)) (now (segments .exit)) (now (reveal .exit)) (now (sizes .exit)) (now (extras .exit))
-        (now (strings .exit)) (now (texts .exit))) ⌝ }
+        (now (cues .exit)) (now (times .exit)) (now (segments .exit)) (now (sizes .exit)) (now (extras .exit)) (now (strings .exit))
+        (now (texts .exit))) ⌝ }
 {
     if !crate::clear::prepare(
         head,
@@ -187,7 +186,6 @@ pub fn read_text(
         cues,
         times,
         segments,
-        reveal,
         sizes,
         extras,
         texts,
@@ -200,7 +198,7 @@ pub fn read_text(
     }
     match xml::parse_xml(text, nodes, attrs, strings) {
         tree::Answer::Refused(r) => Answer::Refused(r),
-        tree::Answer::Tree { nodes: n, attrs: _ } => read_tree(
+        tree::Answer::Tree { nodes: n, attrs: m } => read_tree(
             nodes,
             attrs,
             head,
@@ -210,12 +208,12 @@ pub fn read_text(
             cues,
             times,
             segments,
-            reveal,
             sizes,
             extras,
             strings,
             texts,
             n,
+            m,
             text.len(),
             wanted,
         ),

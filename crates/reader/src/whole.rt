@@ -6,6 +6,8 @@ ghost use Rattle.meaning.specs.Meaning.{trackIn};
 ghost use Rattle.laid.specs.Laid.{whole};
 ghost use Rattle.styling.specs.Posts.{HasRows, OfRows};
 ghost use Rattle.reader.specs.Steps.{rest, Asks, Post, LangIs, HeadAsks, HeadPut, ContentAsks, ContentPost, TrackAsks, TrackPost};
+use crate::clear::clear_body;
+use crate::clear::clear_head;
 use cues::Line;
 use cues::Lining;
 use cues::Part;
@@ -74,7 +76,7 @@ fn put_whole(
     );
 }
 
-// The head and the body of the tt in row k, when its parameters and rates are known.
+// The head and the body of the tt in row k, when its parameters and rates are known. After a refusal what they have written is cleared.
 fn read_content(
     nodes: &[u32],
     attrs: &[u32],
@@ -85,7 +87,6 @@ fn read_content(
     cues: &mut [u32],
     times: &mut [i64],
     segments: &mut [u32],
-    reveal: &mut [i64],
     sizes: &mut [f32],
     extras: &mut [u32],
     texts: &mut [u8],
@@ -94,13 +95,12 @@ fn read_content(
     ctx: TimingCtx,
 ) -> Answer
     requires { ⌜ ((p : List ℕ) × ContentAsks (now nodes) (now attrs) (now strings) k count
-        (rest (now head) p (now styles) (now regions) (now cues)
-        (now times) (now segments) (now reveal) (now sizes) (now extras) (now texts))) ⌝ }
+        (rest (now head) p (now styles) (now regions) (now cues) (now times) (now segments) (now sizes) (now extras) (now texts))) ⌝ }
     ensures { λ r. ⌜ ((p : List ℕ) → ContentPost (now (nodes .entry)) (now (attrs .entry)) (now (strings .entry)) k count ctx
-        (rest (now (head .entry)) p (now (styles .entry)) (now (regions .entry)) (now (cues .entry))
-        (now (times .entry)) (now (segments .entry)) (now (reveal .entry)) (now (sizes .entry)) (now (extras .entry)) (now (texts .entry)))
-        (rest (now (head .exit)) p (now (styles .exit)) (now (regions .exit)) (now (cues .exit))
-        (now (times .exit)) (now (segments .exit)) (now (reveal .exit)) (now (sizes .exit)) (now (extras .exit)) (now (texts .exit))) r) ⌝ }
+        (rest (now (head .entry)) p (now (styles .entry)) (now (regions .entry)) (now (cues .entry)) (now (times .entry)) (now (segments .entry))
+        (now (sizes .entry)) (now (extras .entry)) (now (texts .entry)))
+        (rest (now (head .exit)) p (now (styles .exit)) (now (regions .exit)) (now (cues .exit)) (now (times .exit)) (now (segments .exit))
+        (now (sizes .exit)) (now (extras .exit)) (now (texts .exit))) r) ⌝ }
 {
     let e = xml::element_at(nodes, k);
     let from = k + 1;
@@ -115,7 +115,10 @@ fn read_content(
         sizes,
         extras,
     ) {
-        Heading::Refused(r) => Answer::Refused(r),
+        Heading::Refused(r) => {
+            clear_head(styles, regions, sizes, extras);
+            Answer::Refused(r)
+        }
         Heading::Is(h) => {
             let ws = styling::resolve_ws(attrs, strings, e.first, e.many, WsMode::Collapse);
             match cues::collect_body(
@@ -125,8 +128,6 @@ fn read_content(
                 cues,
                 times,
                 segments,
-                reveal,
-                sizes,
                 extras,
                 texts,
                 from,
@@ -135,7 +136,11 @@ fn read_content(
                 ws,
                 h.extras,
             ) {
-                Lining::Refused(r) => Answer::Refused(r),
+                Lining::Refused(r) => {
+                    clear_head(styles, regions, sizes, extras);
+                    clear_body(cues, times, segments, texts);
+                    Answer::Refused(r)
+                }
                 Lining::Is(line) => {
                     put_whole(attrs, strings, head, e, count, h, line);
                     Answer::Track
@@ -157,29 +162,34 @@ fn read_tt(
     cues: &mut [u32],
     times: &mut [i64],
     segments: &mut [u32],
-    reveal: &mut [i64],
     sizes: &mut [f32],
     extras: &mut [u32],
     texts: &mut [u8],
     k: usize,
 ) -> Answer
     requires { ⌜ TrackAsks (now nodes) (now attrs) (now strings) k (rest (now head) (now params) (now styles) (now regions) (now cues)
-        (now times) (now segments) (now reveal) (now sizes) (now extras) (now texts)) ⌝ }
+        (now times) (now segments) (now sizes) (now extras) (now texts)) ⌝ }
     ensures { λ r. ⌜ TrackPost (trackIn withPlaces) (now (nodes .entry)) (now (attrs .entry)) (now (strings .entry)) k
-        (rest (now (head .entry)) (now (params .entry)) (now (styles .entry)) (now (regions .entry)) (now (cues .entry))
-        (now (times .entry)) (now (segments .entry)) (now (reveal .entry)) (now (sizes .entry)) (now (extras .entry)) (now (texts .entry)))
-        (rest (now (head .exit)) (now (params .exit)) (now (styles .exit)) (now (regions .exit)) (now (cues .exit))
-        (now (times .exit)) (now (segments .exit)) (now (reveal .exit)) (now (sizes .exit)) (now (extras .exit)) (now (texts .exit))) r ⌝ }
+        (rest (now (head .entry)) (now (params .entry)) (now (styles .entry)) (now (regions .entry)) (now (cues .entry)) (now (times .entry))
+        (now (segments .entry)) (now (sizes .entry)) (now (extras .entry)) (now (texts .entry)))
+        (rest (now (head .exit)) (now (params .exit)) (now (styles .exit)) (now (regions .exit)) (now (cues .exit)) (now (times .exit))
+        (now (segments .exit)) (now (sizes .exit)) (now (extras .exit)) (now (texts .exit))) r ⌝ }
 {
     let e = xml::element_at(nodes, k);
     match params::collect_params(attrs, strings, e.first, e.many, params) {
-        Added::Full => Answer::Refused(Refusal {
-            number: 13,
-            place: e.place,
-        }),
+        Added::Full => {
+            scan::clear(params);
+            Answer::Refused(Refusal {
+                number: 13,
+                place: e.place,
+            })
+        }
         Added::Next(count) => match params::timing_of(attrs, strings, e.first, e.many) {
-            TimingSaid::Refused(r) => Answer::Refused(r),
-            TimingSaid::Is(ctx) => read_content(
+            TimingSaid::Refused(r) => {
+                scan::clear(params);
+                Answer::Refused(r)
+            }
+            TimingSaid::Is(ctx) => match read_content(
                 nodes,
                 attrs,
                 strings,
@@ -189,14 +199,19 @@ fn read_tt(
                 cues,
                 times,
                 segments,
-                reveal,
                 sizes,
                 extras,
                 texts,
                 k,
                 count,
                 ctx,
-            ),
+            ) {
+                Answer::Track => Answer::Track,
+                Answer::Refused(r) => {
+                    scan::clear(params);
+                    Answer::Refused(r)
+                }
+            },
         },
     }
 }
@@ -213,19 +228,18 @@ pub fn read_track(
     cues: &mut [u32],
     times: &mut [i64],
     segments: &mut [u32],
-    reveal: &mut [i64],
     sizes: &mut [f32],
     extras: &mut [u32],
     texts: &mut [u8],
     n: usize,
 ) -> Answer
     requires { ⌜ Asks (now nodes) (now attrs) (now strings) n (rest (now head) (now params) (now styles) (now regions) (now cues)
-        (now times) (now segments) (now reveal) (now sizes) (now extras) (now texts)) ⌝ }
+        (now times) (now segments) (now sizes) (now extras) (now texts)) ⌝ }
     ensures { λ r. ⌜ Post whole (now (nodes .entry)) (now (attrs .entry)) (now (strings .entry)) n
-        (rest (now (head .entry)) (now (params .entry)) (now (styles .entry)) (now (regions .entry)) (now (cues .entry))
-        (now (times .entry)) (now (segments .entry)) (now (reveal .entry)) (now (sizes .entry)) (now (extras .entry)) (now (texts .entry)))
-        (rest (now (head .exit)) (now (params .exit)) (now (styles .exit)) (now (regions .exit)) (now (cues .exit))
-        (now (times .exit)) (now (segments .exit)) (now (reveal .exit)) (now (sizes .exit)) (now (extras .exit)) (now (texts .exit))) r ⌝ }
+        (rest (now (head .entry)) (now (params .entry)) (now (styles .entry)) (now (regions .entry)) (now (cues .entry)) (now (times .entry))
+        (now (segments .entry)) (now (sizes .entry)) (now (extras .entry)) (now (texts .entry)))
+        (rest (now (head .exit)) (now (params .exit)) (now (styles .exit)) (now (regions .exit)) (now (cues .exit)) (now (times .exit))
+        (now (segments .exit)) (now (sizes .exit)) (now (extras .exit)) (now (texts .exit))) r ⌝ }
 {
     match xml::find_element(nodes, strings, 0, n, b"tt") {
         Found::Nothing => Answer::Refused(Refusal {
@@ -243,7 +257,6 @@ pub fn read_track(
             cues,
             times,
             segments,
-            reveal,
             sizes,
             extras,
             texts,

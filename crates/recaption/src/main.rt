@@ -18,9 +18,8 @@ fn main() {
     let mut regions = [0u32; 1024];
     let mut cues = [0u32; 22528];
     let mut times = [0i64; 4096];
-    let mut segments = [0u32; 131072];
-    let mut reveal = [0i64; 16384];
-    let mut sizes = [0f32; 16640];
+    let mut segments = [0u32; 98304];
+    let mut sizes = [0f32; 256];
     let mut extras = [0u32; 24576];
     let mut strings = [0u8; 65536];
     let mut texts = [0u8; 65536];
@@ -36,7 +35,6 @@ fn main() {
         &mut cues,
         &mut times,
         &mut segments,
-        &mut reveal,
         &mut sizes,
         &mut extras,
         &mut strings,

@@ -1,20 +1,19 @@
 -- What stands beside the rows grows with them: times, the f32 of sizes, extras. Assumes nothing.
---     each-append, each-length, cell-added, sets-left, sets-right     lists, cell by cell
---     times-added, segment-size-added, style-size-added, extras-added     one more
+--     each-append, each-length, cell-added, sets-right     lists, cell by cell
+--     times-added, style-size-added, extras-added     one more
 use Prim.Native.Nat.{ℕ, suc, _+_, _-_, _*_, _≤_}
 use mathlib.Core.List.{List, [], _∷_, _++_, append-nil}
 use mathlib.Core.Path.{_≡_, refl, ap, _∙_}
 use native.Mathlib.Omega.{arith}
 use native.Mathlib.Nat.{add-suc, suc-add, suc-mul, add-mul}
 use lib.IntN.{pos}
-use lib.Ieee.{Float}
-use lib.ListN.{length, set, replicate, length-append, length-replicate, length-set}
-use lib.Seq.{sets, set-append-left}
+use lib.ListN.{length, set, replicate}
+use lib.Seq.{sets}
 use Rattle.scan.proofs.Stores.{sets-append}
 use Rattle.track.specs.declared.values.Extra.{Extra}
 use Rattle.track.specs.declared.values.Rows.{Rows}
 use Rattle.track.specs.Tables.{zeroFloat}
-use Rattle.track.specs.Layout.{each, joinedCells, filledTimes, filledSizes, cueTimes, styleSize, segmentSize, extraCells, layExtras, Sized}
+use Rattle.track.specs.Layout.{each, joinedCells, filledTimes, filledSizes, cueTimes, styleSize, extraCells, layExtras}
 use Rattle.track.specs.Layout.{PlacedStyle, PlacedCue}
 use Rattle.records.proofs.RowLaws.{filled-more, joined-append, joined-length, extra-wide}
 
@@ -49,15 +48,6 @@ module _ {A : Type 0} where
   sets-right [] a b i = refl
   sets-right (x ∷ v) a b i = rw (set-right a b i x, ← (add-suc (length a) i)) (sets-right v a (set b i x) (suc i))
 
-  -- and in the first
-  pub sets-left : (v a b : List A) (i : ℕ) → i + length v ≤ length a → sets (a ++ b) i v ≡ sets a i v ++ b
-  sets-left [] a b i h = refl
-  sets-left (x ∷ v) a b i h = rw (set-append-left a b i x (omega arith)) (sets-left v (set a i x) b (suc i) (rw length-set (omega arith)))
-
--- the f32 of a segment's size
-abbrev pub sizedSize : Sized → Float
-sizedSize x = segmentSize (x .segment)
-
 -- ---- times of cues
 pub times-append : (a b : List PlacedCue) → cueTimes (a ++ b) ≡ cueTimes a ++ cueTimes b
 times-append [] b = refl
@@ -76,22 +66,10 @@ times-added n l x h =
     let e : length (cueTimes l) ≡ length l * 2 = times-length l in
     rw (← e, times-append l (x ∷ [])) (filled-more (pos 0) (cueTimes l) (x .cue .start ∷ x .cue .end ∷ []) n (omega arith))
 
--- ---- sizes: those of 16,384 segments, and those of styles after them
-pub segment-size-added : (n : ℕ) (l : List Sized) (x : Sized) (b : List Float) → length l + 1 ≤ n
-    → sets (filledSizes n (each sizedSize l) ++ b) (length l) (sizedSize x ∷ []) ≡ filledSizes n (each sizedSize (l ++ (x ∷ []))) ++ b
-segment-size-added n l x b h =
-    let a = each sizedSize l in
-    let e : length a ≡ length l = each-length sizedSize l in
-    let m : length (filledSizes n a) ≡ n = length-append a (replicate (n - length a) zeroFloat) ∙ rw length-replicate (omega arith) in
-    sets-left (sizedSize x ∷ []) (filledSizes n a) b (length l) (omega (arith, m))
-    ∙ ap (λ (s : List Float). s ++ b) (cell-added sizedSize zeroFloat n l x h)
-
-module _ (s : List Float) (long : length s ≡ 16384) where
-  pub style-size-added : (n : ℕ) (l : List PlacedStyle) (x : PlacedStyle) → length l + 1 ≤ n
-      → sets (s ++ filledSizes n (each styleSize l)) (16384 + length l) (styleSize x ∷ []) ≡ s ++ filledSizes n (each styleSize (l ++ (x ∷ [])))
-  style-size-added n l x h =
-      rw (← long, sets-right (styleSize x ∷ []) s (filledSizes n (each styleSize l)) (length l))
-      (ap (λ (b : List Float). s ++ b) (cell-added styleSize zeroFloat n l x h))
+-- ---- sizes of styles
+pub style-size-added : (n : ℕ) (l : List PlacedStyle) (x : PlacedStyle) → length l + 1 ≤ n
+    → sets (filledSizes n (each styleSize l)) (length l) (styleSize x ∷ []) ≡ filledSizes n (each styleSize (l ++ (x ∷ [])))
+style-size-added n l x h = cell-added styleSize zeroFloat n l x h
 
 -- ---- extras
 pub extras-added : (t : List ℕ) (x : Rows) (l : List Extra) (e : Extra)

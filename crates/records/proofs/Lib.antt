@@ -4,7 +4,7 @@ pub mod Storing
 pub mod Zeros
 pub mod Overwrites
 pub mod Moves
-pub mod Segmented
+pub mod RowMoves
 pub mod Finding
 pub mod FoundRows
 pub mod SegmentRows

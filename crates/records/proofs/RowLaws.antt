@@ -16,7 +16,7 @@ use Rattle.track.specs.declared.segments.Segment.{Segment}
 use Rattle.track.specs.Layout.{joinedCells, filled, paramCells, extraCells, styleCells, regionCells, cueCells, segmentCells, headCells, Placed}
 use Rattle.records.specs.declared.cells.Added.{Added}
 use Rattle.records.specs.Posts.{AddPost, headRow, headOf}
-use Rattle.records.proofs.Storing.{optional-wide, size-wide, look-wide}
+use Rattle.records.proofs.Storing.{optional-wide, look-wide, font-wide}
 
 -- ---- a table that is filled up
 drop-replicate : {A : Type 0} (k n : ℕ) (d : A) → drop k (replicate n d) ≡ replicate (n - k) d
@@ -88,7 +88,7 @@ pub cue-wide : (x : Cue) → length (cueCells x) ≡ 11
 unfolding cueCells
 cue-wide x = simp length-append (rw (optional-wide (x .«has_style») (x .style), optional-wide (x .«has_region») (x .region)))
 
-pub segment-wide : (s : Segment) (n : ℕ) → length (segmentCells s n) ≡ 8
+pub segment-wide : (s : Segment) (n : ℕ) → length (segmentCells s n) ≡ 6
 unfolding segmentCells
 segment-wide (Segment.Text s) n = refl
 segment-wide Segment.Break n = refl
@@ -98,7 +98,7 @@ segment-wide Segment.Italic n = refl
 segment-wide Segment.Underline n = refl
 segment-wide Segment.Strike n = refl
 segment-wide (Segment.Color c) n = refl
-segment-wide (Segment.Font x) n = simp length-append (rw (optional-wide (x .«has_family») (x .family), size-wide (x .«has_size») (x .size)))
+segment-wide (Segment.Font x) n = rw (font-wide x)
 
 -- the head of a track, as it is laid out
 pub head-laid : (k : Placed) (u v : ℕ) → headRow (headOf k u v) ≡ headCells k u v

@@ -1,9 +1,9 @@
--- Rows of segments in their three tables: a wrapper is put before rows that stand already, and a segment after them. Assumes nothing.
+-- Rows of segments in their table: a wrapper is put before rows that stand already, and a segment after them. Assumes nothing.
 use Prim.Native.Nat.{ℕ, suc, _+_, _-_, _*_, _≤_}
 use mathlib.Core.Path.{_≡_, refl, sym, ap, _∙_}
 use mathlib.Core.List.{List, [], _∷_, _++_, append-nil, append-assoc}
 use native.Mathlib.Omega.{arith}
-use native.Mathlib.Nat.{add-zero, add-suc, suc-add, add-comm, suc-mul, add-mul, one-mul, mul-one}
+use native.Mathlib.Nat.{add-zero, add-suc, suc-add, add-comm}
 use lib.ListN.{length, set, take, drop, length-append, length-drop, take-append-drop}
 use lib.Seq.{sets, sets-eq, length-take-le, take-append-seam, take-at, drop-at, drop-drop, drop-append-add}
 use lib.IntN.{ℤ}
@@ -11,11 +11,10 @@ use Rattle.track.specs.declared.strings.Span.{Span}
 use Rattle.track.specs.declared.segments.Segment.{Segment}
 use Rattle.track.specs.Track.{Wrapper, Segments, segmentRows}
 use Rattle.track.specs.Track as track
-use Rattle.track.specs.Layout.{Sized, wrapperOf, preorder, joinedCells, each}
+use Rattle.track.specs.Layout.{Sized, wrapperOf, preorder, joinedCells}
 use Rattle.scan.specs.Part.{part}
 use Rattle.records.specs.Siblings.{joined, wrapped, wrapperRows, rowCells, cellsOf}
-use Rattle.records.proofs.RowLaws.{joined-append, segment-wide}
-use Rattle.records.proofs.Beside.{each-append}
+use Rattle.records.proofs.RowLaws.{joined-append, joined-length, segment-wide}
 use Rattle.track.proofs.SegmentsLaid.{rows-many}
 
 -- ---- lists of cells, of any type
@@ -113,152 +112,47 @@ unfolding wrapperRows
 wrappers-length [] n = refl
 wrappers-length (x ∷ l) n = rw (wrappers-length l n)
 
--- ---- their rows in a table of cells of any type, w cells to a row
-unfoldable pub laid : {A : Type 0} → (Sized → List A) → List Sized → List A
-laid g [] = []
-laid g (x ∷ l) = g x ++ laid g l
-
+-- ---- their rows in the table
 -- the row of a wrapper around these
 abbrev pub wrapperRow : Wrapper Span → Segments Span → Sized
 wrapperRow x f = record { segment = wrapperOf x; rows = 1 + segmentRows f }
 
-module _ {A : Type 0} (g : Sized → List A) where
-  pub laid-append : (a b : List Sized) → laid g (a ++ b) ≡ laid g a ++ laid g b
-  unfolding laid
-  laid-append [] b = refl
-  laid-append (x ∷ a) b = rw (laid-append a b, append-assoc)
+pub row-wide : (x : Sized) → length (rowCells x) ≡ 6
+row-wide x = segment-wide (x .segment) (x .rows)
 
-  laid-one : (x : Sized) → laid g (x ∷ []) ≡ g x
-  unfolding laid
-  laid-one x = append-nil (g x)
-
-  module _ (w : ℕ) (wide : (x : Sized) → length (g x) ≡ w) where
-    laid-length : (l : List Sized) → length (laid g l) ≡ length l * w
-    unfolding laid
-    laid-length [] = omega arith
-    laid-length (x ∷ l) =
-        let i = laid-length l in
-        let e = wide x in
-        rw (length-append, suc-mul) (omega arith)
-
-    pub rows-length : (f : Segments Span) → length (laid g (preorder f)) ≡ segmentRows f * w
-    rows-length f = rw (← (rows-many f)) (laid-length (preorder f))
-
-    -- rows shifted by as many as there are in r, and those put before them
-    pub before-rows : (pre rest t t′ t″ : List A) (r : List Sized) (f h : Segments Span) (at end : ℕ) → preorder h ≡ r ++ preorder f
-        → t ≡ pre ++ (laid g (preorder f) ++ rest) → length pre ≡ at * w → end ≡ at + segmentRows f → length r * w ≤ length rest
-        → t′ ≡ sets t ((at + length r) * w) (take (end * w - at * w) (drop (at * w) t)) → t″ ≡ sets t′ (at * w) (laid g r)
-        → t″ ≡ pre ++ (laid g (preorder h) ++ drop (length r * w) rest)
-    before-rows pre rest t t′ t″ r f h at end o e p n k e′ e″ =
-        let wide-all = rows-length f in
-        let next : (at + length r) * w ≡ at * w + length r * w = add-mul at (length r) w in
-        let all : end * w ≡ at * w + segmentRows f * w = rw (n, add-mul at (segmentRows f) w) in
-        let many : end * w - at * w ≡ length (laid g (preorder f)) = omega arith in
-        rw (o, laid-append r (preorder f), append-assoc)
-        (put-before pre (laid g (preorder f)) (laid g r) rest t t′ t″ (at * w) (length r * w) e p (laid-length r) k (rw (next, many) at e′) e″)
-
-    -- one wrapper
-    pub wrap-rows : (pre rest t t′ t″ : List A) (x : Wrapper Span) (f : Segments Span) (at end : ℕ) → t ≡ pre ++ (laid g (preorder f) ++ rest)
-        → length pre ≡ at * w
-        → end ≡ at + segmentRows f → w ≤ length rest → t′ ≡ sets t ((at + 1) * w) (take (end * w - at * w) (drop (at * w) t))
-        → t″ ≡ sets t′ (at * w) (g (wrapperRow x f)) → t″ ≡ pre ++ (laid g (preorder (track.wrap x f track.done)) ++ drop w rest)
-    unfolding preorder
-    wrap-rows pre rest t t′ t″ x f at end e p n k e′ e″ =
-        let o : preorder (track.wrap x f track.done) ≡ (wrapperRow x f ∷ []) ++ preorder f = rw (append-nil (preorder f)) in
-        rw (one-mul w) at (before-rows pre rest t t′ t″ (wrapperRow x f ∷ []) f (track.wrap x f track.done) at end o e p n (rw (one-mul w) k) e′
-        (rw (laid-one (wrapperRow x f)) e″))
-
-    -- several, the first outermost
-    pub wrap-all : (pre rest t t′ t″ : List A) (l : List (Wrapper Span)) (f : Segments Span) (at end : ℕ) → t ≡ pre ++ (laid g (preorder f) ++ rest)
-        → length pre ≡ at * w
-        → end ≡ at + segmentRows f → length l * w ≤ length rest → t′ ≡ sets t ((at + length l) * w) (take (end * w - at * w) (drop (at * w) t))
-        → t″ ≡ sets t′ (at * w) (laid g (wrapperRows l (segmentRows f))) → t″ ≡ pre ++ (laid g (preorder (wrapped l f)) ++ drop (length l * w) rest)
-    wrap-all pre rest t t′ t″ l f at end e p n k e′ e″ =
-        let many : length (wrapperRows l (segmentRows f)) ≡ length l = wrappers-length l (segmentRows f) in
-        rw many at (before-rows pre rest t t′ t″ (wrapperRows l (segmentRows f)) f (wrapped l f) at end (preorder-wrapped l f) e p n (rw many k)
-        (rw many e′) e″)
-
-    -- a row put after them
-    pub add-row : (pre rest t t′ : List A) (f h : Segments Span) (x : Sized) (at n : ℕ) → preorder h ≡ x ∷ []
-        → t ≡ pre ++ (laid g (preorder f) ++ rest)
-        → length pre ≡ at * w → n ≡ at + segmentRows f → w ≤ length rest → t′ ≡ sets t (n * w) (g x)
-        → t′ ≡ pre ++ (laid g (preorder (joined f h)) ++ drop w rest)
-    add-row pre rest t t′ f h x at n o e p m k e′ =
-        let wide-all = rows-length f in
-        let all : n * w ≡ at * w + segmentRows f * w = rw (m, add-mul at (segmentRows f) w) in
-        let rows : laid g (preorder (joined f h)) ≡ laid g (preorder f) ++ g x =
-        rw (preorder-joined f h, laid-append (preorder f) (preorder h), o, laid-one x) in
-        rw rows (put-after pre (laid g (preorder f)) (g x) rest t t′ (n * w) w e (omega arith) (wide x) k e′)
-
--- ---- in the three tables
-pub laid-cells : (l : List Sized) → laid rowCells l ≡ cellsOf l
-unfolding laid joinedCells
-laid-cells [] = refl
-laid-cells (x ∷ l) = rw (laid-cells l)
-
-module _ (pre rest t t′ : List ℕ) (f : Segments Span) (at n : ℕ) (e : t ≡ pre ++ (cellsOf (preorder f) ++ rest)) (p : length pre ≡ at * 8)
-    (m : n ≡ at + segmentRows f) where
-  -- `shift_segments` by one and `put_segment` of a wrapper
-  pub wrap-cells : (t″ : List ℕ) (x : Wrapper Span) → 8 ≤ length rest → t′ ≡ sets t ((at + 1) * 8) (part (at * 8) (n * 8) t)
-      → t″ ≡ sets t′ (at * 8) (rowCells (wrapperRow x f))
-      → t″ ≡ pre ++ (cellsOf (preorder (track.wrap x f track.done)) ++ drop 8 rest)
-  wrap-cells t″ x k e′ e″ =
-      rw (← (laid-cells (preorder (track.wrap x f track.done))))
-      (wrap-rows rowCells 8 (λ y. segment-wide (y .segment) (y .rows)) pre rest t t′ t″ x f at n (rw (laid-cells (preorder f)) e) p m k e′ e″)
-
-  -- the same by as many as there are wrappers
-  pub wrap-all-cells : (t″ : List ℕ) (l : List (Wrapper Span)) → length l * 8 ≤ length rest
-      → t′ ≡ sets t ((at + length l) * 8) (part (at * 8) (n * 8) t)
-      → t″ ≡ sets t′ (at * 8) (cellsOf (wrapperRows l (segmentRows f))) → t″ ≡ pre ++ (cellsOf (preorder (wrapped l f)) ++ drop (length l * 8) rest)
-  wrap-all-cells t″ l k e′ e″ =
-      rw (← (laid-cells (preorder (wrapped l f))))
-      (wrap-all rowCells 8 (λ y. segment-wide (y .segment) (y .rows)) pre rest t t′ t″ l f at n (rw (laid-cells (preorder f)) e) p m k e′
-      (rw (laid-cells (wrapperRows l (segmentRows f))) e″))
-
-  -- a segment more that has one row
-  pub add-cells : (h : Segments Span) (x : Sized) → preorder h ≡ x ∷ [] → 8 ≤ length rest → t′ ≡ sets t (n * 8) (rowCells x)
-      → t′ ≡ pre ++ (cellsOf (preorder (joined f h)) ++ drop 8 rest)
-  add-cells h x o k e′ =
-      rw (← (laid-cells (preorder (joined f h))))
-      (add-row rowCells 8 (λ y. segment-wide (y .segment) (y .rows)) pre rest t t′ f h x at n o (rw (laid-cells (preorder f)) e) p m k e′)
+pub cells-length : (f : Segments Span) → length (cellsOf (preorder f)) ≡ segmentRows f * 6
+cells-length f = joined-length rowCells 6 row-wide (preorder f) ∙ rw (rows-many f)
 
 pub cells-joined : (f g : Segments Span) → cellsOf (preorder (joined f g)) ≡ cellsOf (preorder f) ++ cellsOf (preorder g)
 cells-joined f g = rw (preorder-joined f g) (joined-append rowCells (preorder f) (preorder g))
 
--- tables with one cell to a row: times and sizes
-pub laid-each : {A : Type 0} (v : Sized → A) (l : List Sized) → laid (λ (x : Sized). v x ∷ []) l ≡ each v l
-unfolding laid each
-laid-each v [] = refl
-laid-each v (x ∷ l) = rw (laid-each v l)
+pub cells-wrapped : (x : Wrapper Span) (f : Segments Span)
+    → cellsOf (preorder (track.wrap x f track.done)) ≡ rowCells (wrapperRow x f) ++ cellsOf (preorder f)
+unfolding preorder joinedCells
+cells-wrapped x f = rw (append-nil (preorder f))
 
-pub each-joined : {A : Type 0} (v : Sized → A) (f g : Segments Span) → each v (preorder (joined f g)) ≡ each v (preorder f) ++ each v (preorder g)
-each-joined v f g = rw (preorder-joined f g) (each-append v (preorder f) (preorder g))
-
-module _ {A : Type 0} (v : Sized → A) (pre rest t t′ : List A) (f : Segments Span) (at n : ℕ) (e : t ≡ pre ++ (each v (preorder f) ++ rest))
-    (p : length pre ≡ at)
+module _ (pre rest t t′ : List ℕ) (f : Segments Span) (at n : ℕ) (e : t ≡ pre ++ (cellsOf (preorder f) ++ rest)) (p : length pre ≡ at * 6)
     (m : n ≡ at + segmentRows f) where
-  pub wrap-each : (t″ : List A) (x : Wrapper Span) → 1 ≤ length rest → t′ ≡ sets t (at + 1) (take (n - at) (drop at t))
-      → t″ ≡ sets t′ at (v (wrapperRow x f) ∷ [])
-      → t″ ≡ pre ++ (each v (preorder (track.wrap x f track.done)) ++ drop 1 rest)
-  wrap-each t″ x k e′ e″ =
-      rw (← (laid-each v (preorder (track.wrap x f track.done))))
-      (wrap-rows (λ (y : Sized). v y ∷ []) 1 (λ y. refl) pre rest t t′ t″ x f at n (rw (laid-each v (preorder f)) e) (rw mul-one p) m k
-      (simp mul-one e′) (rw mul-one e″))
+  -- `shift_segments` by one and `put_segment` of a wrapper
+  pub wrap-cells : (t″ : List ℕ) (x : Wrapper Span) → 6 ≤ length rest → t′ ≡ sets t ((at + 1) * 6) (part (at * 6) (n * 6) t)
+      → t″ ≡ sets t′ (at * 6) (rowCells (wrapperRow x f))
+      → t″ ≡ pre ++ (cellsOf (preorder (track.wrap x f track.done)) ++ drop 6 rest)
+  wrap-cells t″ x k e′ e″ =
+      let body : List ℕ = cellsOf (preorder f) in
+      let row : List ℕ = rowCells (wrapperRow x f) in
+      let next : (at + 1) * 6 ≡ at * 6 + 6 = omega arith in
+      let many : n * 6 - at * 6 ≡ length body = omega (arith, m, cells-length f) in
+      rw (cells-wrapped x f, append-assoc row body (drop 6 rest))
+      (put-before pre body row rest t t′ t″ (at * 6) 6 e p (row-wide (wrapperRow x f)) k (rw (next, many) at e′) e″)
 
-  pub wrap-all-each : (t″ : List A) (l : List (Wrapper Span)) → length l ≤ length rest → t′ ≡ sets t (at + length l) (take (n - at) (drop at t))
-      → t″ ≡ sets t′ at (each v (wrapperRows l (segmentRows f))) → t″ ≡ pre ++ (each v (preorder (wrapped l f)) ++ drop (length l) rest)
-  wrap-all-each t″ l k e′ e″ =
-      rw (← (laid-each v (preorder (wrapped l f))))
-      (rw (mul-one (length l)) at (wrap-all (λ (y : Sized). v y ∷ []) 1 (λ y. refl) pre rest t t′ t″ l f at n (rw (laid-each v (preorder f)) e)
-      (rw mul-one p) m
-      (rw mul-one k) (simp mul-one e′) (rw (mul-one at, laid-each v (wrapperRows l (segmentRows f))) e″)))
-
-  pub add-each : (h : Segments Span) (x : Sized) → preorder h ≡ x ∷ [] → 1 ≤ length rest → t′ ≡ sets t n (v x ∷ [])
-      → t′ ≡ pre ++ (each v (preorder (joined f h)) ++ drop 1 rest)
-  add-each h x o k e′ =
-      rw (← (laid-each v (preorder (joined f h))))
-      (add-row (λ (y : Sized). v y ∷ []) 1 (λ y. refl) pre rest t t′ f h x at n o (rw (laid-each v (preorder f)) e) (rw mul-one p) m k
-      (rw mul-one e′))
+  -- a segment more that has one row
+  pub add-cells : (h : Segments Span) (x : Sized) → preorder h ≡ x ∷ [] → 6 ≤ length rest → t′ ≡ sets t (n * 6) (rowCells x)
+      → t′ ≡ pre ++ (cellsOf (preorder (joined f h)) ++ drop 6 rest)
+  unfolding joinedCells
+  add-cells h x o k e′ =
+      let body : List ℕ = cellsOf (preorder f) in
+      rw (cells-joined f h, o, append-nil (rowCells x))
+      (put-after pre body (rowCells x) rest t t′ (n * 6) 6 e (omega (arith, m, p, cells-length f)) (row-wide x) k e′)
 
 -- those that have one row
 pub text-one : (s : Span) → preorder (track.text s track.done) ≡ record { segment = Segment.Text s; rows = 1 } ∷ []

@@ -1,6 +1,6 @@
 -- Pieces stored side by side are one run of cells; and how many cells the parts of a row have. Assumes nothing.
-use Prim.Native.Nat.{ℕ, _+_}
-use mathlib.Core.Bool.{Bool, true, false}
+use Prim.Native.Nat.{ℕ, suc, _+_}
+use mathlib.Core.Bool.{Bool, true, false, cond}
 use mathlib.Core.List.{List, [], _∷_, _++_}
 use mathlib.Core.Path.{_≡_, refl, ap}
 use native.Mathlib.Omega.{arith}
@@ -10,8 +10,9 @@ use Rattle.scan.proofs.Stores.{sets-on}
 use Rattle.colors.specs.declared.read.Rgba.{Rgba}
 use Rattle.decimals.specs.declared.size.Size.{Size}
 use Rattle.track.specs.declared.strings.Span.{Span}
+use Rattle.track.specs.declared.segments.Font.{Font}
 use Rattle.track.specs.declared.values.Look.{Look}
-use Rattle.track.specs.Layout.{optionalCells, colorCells, sizeCells, flagCells, lookCells}
+use Rattle.track.specs.Layout.{spanCells, optionalCells, colorCells, sizeCells, flagCells, lookCells, fontCells}
 
 -- the table t with the k cells a from cell i on is t′
 pub record Wrote (t : List ℕ) (i k : ℕ) (a t′ : List ℕ) : Type 0 where
@@ -33,6 +34,13 @@ then {t} {a} {t′} {t″} {i} {k} {m} w b e h =
 -- a cell after a
 pub then-cell : {t a t′ : List ℕ} {i k x y : ℕ} → Wrote t i k a t′ → x ≡ y → Wrote t i (k + 1) (a ++ (y ∷ [])) (set t′ (i + k) x)
 then-cell {t} {a} {t′} {i} {k} {x} {y} w e = then w (y ∷ []) (ap (λ (z : ℕ). set t′ (i + k) z) e) refl
+
+-- two cells after a
+pub then-two : {t a t′ : List ℕ} {i k x y x′ y′ : ℕ} → Wrote t i k a t′ → x ≡ y → x′ ≡ y′
+    → Wrote t i (k + 2) (a ++ (y ∷ y′ ∷ [])) (set (set t′ (i + k) x) (i + (k + 1)) x′)
+then-two {t} {a} {t′} {i} {k} {x} {y} {x′} {y′} w e e′ =
+    let next : i + (k + 1) ≡ suc (i + k) = omega arith in
+    then w (y ∷ y′ ∷ []) (rw (e, e′, next)) refl
 
 pub optional-wide : (b : Bool) (x : Span) → length (optionalCells b x) ≡ 3
 optional-wide true x = refl
@@ -57,3 +65,11 @@ look-wide x =
       optional-wide (x .«has_family») (x .family),
       size-wide (x .«has_size») (x .size),
     ))
+
+pub family-wide : (b : Bool) (x : Span) → length (cond b (spanCells x) (0 ∷ 0 ∷ [])) ≡ 2
+family-wide true x = refl
+family-wide false x = refl
+
+pub font-wide : (x : Font) → length (fontCells x) ≡ 4
+unfolding fontCells
+font-wide x = rw (length-append, family-wide (x .«has_family») (x .family))

@@ -67,10 +67,6 @@ abbrev pub ValuePost : ℕ → Float → (t t′ : List Float) → Added → Typ
 ValuePost i v t t′ (Added.Next m) = t′ ≡ sets t i (v ∷ [])
 ValuePost i v t t′ Added.Full = t′ ≡ t
 
-abbrev pub TimePost : ℕ → ℤ → (t t′ : List ℤ) → Added → Type 0
-TimePost i v t t′ (Added.Next m) = t′ ≡ sets t i (v ∷ [])
-TimePost i v t t′ Added.Full = t′ ≡ t
-
 abbrev pub TimesPost : ℕ → ℤ → ℤ → (t t′ : List ℤ) → Added → Type 0
 TimesPost i v w t t′ (Added.Next m) = t′ ≡ sets t i (v ∷ w ∷ [])
 TimesPost i v w t t′ Added.Full = t′ ≡ t

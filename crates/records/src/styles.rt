@@ -19,9 +19,6 @@ use track::STYLE_CELLS;
 use track::STYLES;
 use track::Style;
 
-// The f32 of a style's size stands after those of the segments.
-const SIZES: usize = track::SEGMENTS;
-
 fn align_at(c: u32) -> Align
     ensures { λ r. ⌜ r ≡ alignAt c ⌝ }
 {
@@ -71,12 +68,12 @@ fn look_at(styles: &[u32], at: usize, value: f32) -> Look
 }
 
 pub fn style_at(styles: &[u32], sizes: &[f32], i: usize) -> Style
-    requires { ⌜ (i * 27 + 27 ≤ length (now styles)) × (16384 + i + 1 ≤ length (now sizes)) × (isColor (now styles) (i * 27 + 4) ≡ true)
+    requires { ⌜ (i * 27 + 27 ≤ length (now styles)) × (i + 1 ≤ length (now sizes)) × (isColor (now styles) (i * 27 + 4) ≡ true)
         × (isColor (now styles) (i * 27 + 9) ≡ true) ⌝ }
     ensures { λ r. ⌜ r ≡ styleAt (now (styles .entry)) (now (sizes .entry)) i ⌝ }
 {
     let at = i * STYLE_CELLS;
-    let look = look_at(styles, at, sizes[SIZES + i]);
+    let look = look_at(styles, at, sizes[i]);
     Style {
         name: track::span_at(styles, at),
         chain: track::span_at(styles, at + 2),
@@ -138,17 +135,17 @@ fn size_value(x: Look) -> f32
 
 // A style more, where there are n.
 pub fn add_style(styles: &mut [u32], sizes: &mut [f32], n: usize, x: Style) -> Added
-    requires { ⌜ (6912 ≤ length (now styles)) × (16640 ≤ length (now sizes)) × SmallSpan (x .name) × SmallSpan (x .chain)
+    requires { ⌜ (6912 ≤ length (now styles)) × (256 ≤ length (now sizes)) × SmallSpan (x .name) × SmallSpan (x .chain)
         × SmallSpan (x .look .family) × SmallRows (x .extras) ⌝ }
     ensures { λ r. ⌜ AddPost 256 27 (styleCells x) (now (styles .entry)) (now (styles .exit)) n r ⌝ }
-    ensures { λ r. ⌜ ValuePost (16384 + n) (sizeValue (x .look .«has_size») (x .look .size)) (now (sizes .entry)) (now (sizes .exit)) r ⌝ }
+    ensures { λ r. ⌜ ValuePost n (sizeValue (x .look .«has_size») (x .look .size)) (now (sizes .entry)) (now (sizes .exit)) r ⌝ }
 {
     if STYLES <= n {
         return Added::Full;
     }
     let look = x.look;
     put_style(styles, n * STYLE_CELLS, x);
-    sizes[SIZES + n] = size_value(look);
+    sizes[n] = size_value(look);
     Added::Next(n + 1)
 }
 

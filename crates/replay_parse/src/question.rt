@@ -11,9 +11,8 @@ fn parse_agrees(text: &[u8], told: &[u8]) -> bool {
     let mut regions = [7u32; 1024];
     let mut cues = [7u32; 22528];
     let mut times = [7i64; 4096];
-    let mut segments = [7u32; 131072];
-    let mut reveal = [7i64; 16384];
-    let mut sizes = [7.0f32; 16640];
+    let mut segments = [7u32; 98304];
+    let mut sizes = [7.0f32; 256];
     let mut extras = [7u32; 24576];
     let mut strings = [7u8; 65536];
     let mut texts = [7u8; 65536];
@@ -28,7 +27,6 @@ fn parse_agrees(text: &[u8], told: &[u8]) -> bool {
         &mut cues,
         &mut times,
         &mut segments,
-        &mut reveal,
         &mut sizes,
         &mut extras,
         &mut strings,
@@ -44,7 +42,6 @@ fn parse_agrees(text: &[u8], told: &[u8]) -> bool {
         &cues,
         &times,
         &segments,
-        &reveal,
         &extras,
         &strings,
         &texts,
@@ -61,9 +58,8 @@ fn cue_agrees(text: &[u8], told: &[u8]) -> bool {
     let mut regions = [7u32; 1024];
     let mut cues = [7u32; 22528];
     let mut times = [7i64; 4096];
-    let mut segments = [7u32; 131072];
-    let mut reveal = [7i64; 16384];
-    let mut sizes = [7.0f32; 16640];
+    let mut segments = [7u32; 98304];
+    let mut sizes = [7.0f32; 256];
     let mut extras = [7u32; 24576];
     let mut strings = [7u8; 65536];
     let mut texts = [7u8; 65536];
@@ -78,7 +74,6 @@ fn cue_agrees(text: &[u8], told: &[u8]) -> bool {
         &mut cues,
         &mut times,
         &mut segments,
-        &mut reveal,
         &mut sizes,
         &mut extras,
         &mut strings,
@@ -94,7 +89,6 @@ fn cue_agrees(text: &[u8], told: &[u8]) -> bool {
         &cues,
         &times,
         &segments,
-        &reveal,
         &extras,
         &strings,
         &texts,
@@ -112,9 +106,8 @@ fn recaption_agrees(text: &[u8], told: &[u8]) -> bool {
     let mut regions = [7u32; 1024];
     let mut cues = [7u32; 22528];
     let mut times = [7i64; 4096];
-    let mut segments = [7u32; 131072];
-    let mut reveal = [7i64; 16384];
-    let mut sizes = [7.0f32; 16640];
+    let mut segments = [7u32; 98304];
+    let mut sizes = [7.0f32; 256];
     let mut extras = [7u32; 24576];
     let mut strings = [7u8; 65536];
     let mut texts = [7u8; 65536];
@@ -130,7 +123,6 @@ fn recaption_agrees(text: &[u8], told: &[u8]) -> bool {
         &mut cues,
         &mut times,
         &mut segments,
-        &mut reveal,
         &mut sizes,
         &mut extras,
         &mut strings,

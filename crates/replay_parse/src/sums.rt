@@ -86,8 +86,7 @@ pub fn of_tables(
     regions: &[u32; 1024],
     cues: &[u32; 22528],
     times: &[i64; 4096],
-    segments: &[u32; 131072],
-    reveal: &[i64; 16384],
+    segments: &[u32; 98304],
     extras: &[u32; 24576],
     strings: &[u8; 65536],
     texts: &[u8; 65536],
@@ -101,7 +100,6 @@ pub fn of_tables(
     sum = add_cells(sum, cues);
     sum = add_times(sum, times);
     sum = add_cells(sum, segments);
-    sum = add_times(sum, reveal);
     sum = add_cells(sum, extras);
     sum = add_bytes(sum, strings);
     add_bytes(sum, texts)

@@ -26,7 +26,6 @@ fn asked(
     cues: &[u32],
     times: &[i64],
     segments: &[u32],
-    reveal: &[i64],
     sizes: &[f32],
     extras: &[u32],
     strings: &[u8],
@@ -35,10 +34,10 @@ fn asked(
 ) -> Resolved {
     match kind {
         b'V' => queries::resolve_referenced_style(
-            text, head, params, styles, regions, cues, times, segments, reveal, sizes, extras, strings, texts, ids,
+            text, head, params, styles, regions, cues, times, segments, sizes, extras, strings, texts, ids,
         ),
         b'R' => queries::region_style(
-            text, head, params, styles, regions, cues, times, segments, reveal, sizes, extras, strings, texts, ids,
+            text, head, params, styles, regions, cues, times, segments, sizes, extras, strings, texts, ids,
         ),
         _ => queries::effective_style_for_cue_index(
             head,
@@ -48,7 +47,6 @@ fn asked(
             cues,
             times,
             segments,
-            reveal,
             sizes,
             extras,
             strings,
@@ -70,7 +68,6 @@ fn asked_bytes(
     cues: &[u32],
     times: &[i64],
     segments: &[u32],
-    reveal: &[i64],
     sizes: &[f32],
     extras: &[u32],
     bytes: &[u8],
@@ -89,7 +86,6 @@ fn asked_bytes(
         cues,
         times,
         segments,
-        reveal,
         sizes,
         extras,
         &bytes[0..65536],
@@ -98,7 +94,7 @@ fn asked_bytes(
     )
 }
 
-// What a query of this kind answers. The tables of 32 bits are one, and those of times.
+// What a query of this kind answers. The tables of 32 bits are one.
 pub fn ask(
     kind: u8,
     text: &[u8],
@@ -108,10 +104,7 @@ pub fn ask(
     bytes: &[u8],
     ids: &mut [u32],
 ) -> Resolved {
-    if cells.len() < 186378 {
-        return too_short();
-    }
-    if times.len() < 20480 {
+    if cells.len() < 153610 {
         return too_short();
     }
     asked_bytes(
@@ -122,11 +115,10 @@ pub fn ask(
         &cells[266..7178],
         &cells[7178..8202],
         &cells[8202..30730],
-        &times[0..4096],
-        &cells[30730..161802],
-        &times[4096..20480],
+        times,
+        &cells[30730..129034],
         sizes,
-        &cells[161802..186378],
+        &cells[129034..153610],
         bytes,
         ids,
     )

@@ -14,7 +14,7 @@ pub fn fill(line: &[u8], cells: &mut [u32], sizes: &mut [f32], bytes: &mut [u8])
         b's' => put_numbers(&line[2..], 266, cells),
         b'r' => put_numbers(&line[2..], 7178, cells),
         b'c' => put_numbers(&line[2..], 8202, cells),
-        b'e' => put_numbers(&line[2..], 161802, cells),
+        b'e' => put_numbers(&line[2..], 129034, cells),
         b'f' => put_size(&line[2..], sizes),
         b'z' => {
             replaying::unhex(&line[2..], bytes);

@@ -30,10 +30,10 @@ struct Tally {
 fn main() {
     let mut space = [0u8; 262144];
     let got = io::read_full(libc::STDIN_FILENO, &mut space);
-    let mut cells = [0u32; 186378];
-    let mut sizes = [0f32; 16640];
+    let mut cells = [0u32; 153610];
+    let mut sizes = [0f32; 256];
     let mut bytes = [0u8; 131072];
-    let times = [0i64; 20480];
+    let times = [0i64; 4096];
     let tally = replay(&space[..got], &mut cells, &times, &mut sizes, &mut bytes);
     io::print_decimal(STDOUT_FILENO, tally.agree);
     io::write_all(STDOUT_FILENO, b" agree, ");

@@ -4,13 +4,13 @@ use track::Check;
 
 // What `check_track` answers where the table with the letter `short` is lent one cell short.
 pub fn ask(short: u8, cells: &[u32], times: &[i64], sizes: &[f32], bytes: &[u8]) -> u32 {
-    if cells.len() < 186378 {
+    if cells.len() < 153610 {
         return 1;
     }
-    if times.len() < 20480 {
+    if times.len() < 4096 {
         return 1;
     }
-    if sizes.len() < 16640 {
+    if sizes.len() < 256 {
         return 1;
     }
     if bytes.len() < 131072 {
@@ -22,10 +22,9 @@ pub fn ask(short: u8, cells: &[u32], times: &[i64], sizes: &[f32], bytes: &[u8])
     let r = end(short, b'r', 8202);
     let c = end(short, b'c', 30730);
     let t = end(short, b't', 4096);
-    let g = end(short, b'g', 161802);
-    let v = end(short, b'v', 20480);
-    let f = end(short, b'f', 16640);
-    let e = end(short, b'e', 186378);
+    let g = end(short, b'g', 129034);
+    let f = end(short, b'f', 256);
+    let e = end(short, b'e', 153610);
     let z = end(short, b'z', 65536);
     let y = end(short, b'y', 131072);
     number_of(track::check_track(
@@ -36,9 +35,8 @@ pub fn ask(short: u8, cells: &[u32], times: &[i64], sizes: &[f32], bytes: &[u8])
         &cells[8202..c],
         &times[..t],
         &cells[30730..g],
-        &times[4096..v],
         &sizes[..f],
-        &cells[161802..e],
+        &cells[129034..e],
         &bytes[..z],
         &bytes[65536..y],
     ))

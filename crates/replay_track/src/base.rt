@@ -147,14 +147,13 @@ const CUE_ROWS: [u32; 33] = [
 
 // In the first cue a text, a bold one with a break, an italic one; in the second a timestamp,
 // underline around strike and an empty colour, and a font of family `serif` and size 0.1; in the third
-// a font of size -12.5 around an empty text.
-const SEGMENT_ROWS: [u32; 120] = [
+// a font of size -12.5 around an empty text. The marks of the fonts are 139, a family and `0.1`, and
+// 16012, `-12.5` alone; the cell behind them has the bits of the f32.
+const SEGMENT_ROWS: [u32; 90] = [
     1,
     1,
     0,
     6,
-    0,
-    0,
     0,
     0,
     4,
@@ -163,28 +162,20 @@ const SEGMENT_ROWS: [u32; 120] = [
     0,
     0,
     0,
-    0,
-    0,
     1,
     1,
     6,
     6,
-    0,
-    0,
     0,
     0,
     2,
     1,
-    0,
-    0,
     0,
     0,
     0,
     0,
     5,
     2,
-    0,
-    0,
     0,
     0,
     0,
@@ -195,20 +186,14 @@ const SEGMENT_ROWS: [u32; 120] = [
     6,
     0,
     0,
-    0,
-    0,
     3,
     1,
-    0,
-    0,
-    0,
+    2000000,
     0,
     0,
     0,
     6,
     4,
-    0,
-    0,
     0,
     0,
     0,
@@ -219,14 +204,10 @@ const SEGMENT_ROWS: [u32; 120] = [
     0,
     0,
     0,
-    0,
-    0,
     1,
     1,
     18,
     1,
-    0,
-    0,
     0,
     0,
     8,
@@ -235,37 +216,27 @@ const SEGMENT_ROWS: [u32; 120] = [
     0,
     128,
     0,
-    0,
-    0,
     9,
     2,
-    1,
     38,
     5,
-    1,
-    1,
-    1,
+    139,
+    1036831949,
     1,
     1,
     19,
     4,
     0,
     0,
-    0,
-    0,
     9,
     2,
     0,
     0,
-    0,
-    2,
-    125,
-    1,
+    16012,
+    3242721280,
     1,
     1,
     23,
-    0,
-    0,
     0,
     0,
     0,
@@ -298,22 +269,19 @@ pub fn build_cells(cells: &mut Cells) {
     fill(cells, EXTRAS, &EXTRA_ROWS);
 }
 
-// Times of the cues, and from cell 4,096 on those of the segments.
+// Times of the cues.
 pub fn build_times(times: &mut Times) {
     put_time(times, 1, 1500000);
     put_time(times, 2, 1500000);
     put_time(times, 3, 4000000);
     put_time(times, 4, -1);
     put_time(times, 5, 9223372036854775807);
-    put_time(times, 4102, 2000000);
 }
 
-// Sizes of the segments, and from cell 16,384 on those of the styles.
+// Sizes of the styles.
 pub fn build_sizes(sizes: &mut Sizes) {
-    put_size(sizes, 11, float(7));
-    put_size(sizes, 13, float(5));
-    put_size(sizes, 16384, float(2));
-    put_size(sizes, 16385, float(5));
+    put_size(sizes, 0, float(2));
+    put_size(sizes, 1, float(5));
 }
 
 pub fn build_bytes(bytes: &mut Bytes) {
@@ -358,7 +326,7 @@ pub fn grow(how: u8, n: u32, cells: &mut Cells) {
 // A cell of a segment, if there is such a row.
 fn put_segment(cells: &mut [u32], row: u32, i: usize, v: u32) {
     if row < 16384 {
-        put(cells, SEGMENTS + row as usize * 8, i, v);
+        put(cells, SEGMENTS + row as usize * 6, i, v);
     }
 }
 

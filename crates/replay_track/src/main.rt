@@ -11,8 +11,8 @@
 //     # ...          a remark
 //
 // Tables are h head, p parameters, s styles, r regions, c cues, g segments, e extras, z strings, y
-// texts and f sizes (their values are numbers of `floats::float`); l also takes t times and v reveal.
-// After each line the track is what it was.
+// texts and f sizes (their values are numbers of `floats::float`); l also takes t times. After each
+// line the track is what it was.
 mod ask;
 mod base;
 mod chance;
@@ -30,9 +30,9 @@ use tables::Times;
 fn main() {
     let mut space = [0u8; 65536];
     let got = io::read_full(libc::STDIN_FILENO, &mut space);
-    let mut cells = [0u32; 186378];
-    let mut times = [0i64; 20480];
-    let mut sizes = [0f32; 16640];
+    let mut cells = [0u32; 153610];
+    let mut times = [0i64; 4096];
+    let mut sizes = [0f32; 256];
     let mut bytes = [0u8; 131072];
     base::build_cells(&mut cells);
     base::build_times(&mut times);

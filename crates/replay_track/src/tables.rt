@@ -1,12 +1,11 @@
-// The twelve tables, in four: all cells of 32 bits, all times, the sizes, all bytes.
+// The eleven tables, in four: all cells of 32 bits, the times, the sizes, all bytes.
 ghost use Prim.Native.Nat.{_+_, _≤_, _<_, _^_};
 
-pub type Cells = [u32; 186378];
+pub type Cells = [u32; 153610];
 
-// times, reveal
-pub type Times = [i64; 20480];
+pub type Times = [i64; 4096];
 
-pub type Sizes = [f32; 16640];
+pub type Sizes = [f32; 256];
 
 // strings, texts
 pub type Bytes = [u8; 131072];
@@ -21,13 +20,13 @@ pub const CUES: usize = 8202;
 
 pub const SEGMENTS: usize = 30730;
 
-pub const EXTRAS: usize = 161802;
+pub const EXTRAS: usize = 129034;
 
 pub const TEXTS: usize = 65536;
 
 // Where the table with a letter begins, among the tables of its kind.
 pub fn start(table: u8) -> usize
-    ensures { λ r. ⌜ r ≤ 161802 ⌝ }
+    ensures { λ r. ⌜ r ≤ 129034 ⌝ }
 {
     match table {
         b'p' => PARAMS,

@@ -41,4 +41,4 @@ tidy-look t v i = record {
 
 pub tidy-style : (t : List ℕ) (f : List Float) (i : ℕ) → Tidy (styleAt t f i .look)
 unfolding styleAt cell
-tidy-style t f i = tidy-look t (sizeCell f (16384 + i)) (i * 27)
+tidy-style t f i = tidy-look t (sizeCell f i) (i * 27)

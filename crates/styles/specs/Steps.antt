@@ -45,7 +45,6 @@ bare s f e z = record {
   cues = [];
   times = [];
   segments = [];
-  reveal = [];
   sizes = f;
   extras = e;
   strings = z;
@@ -71,7 +70,7 @@ pub record Chained (s z : List ℕ) (n : ℕ) : Type 0 where
 
 pub record Ready (s : List ℕ) (f : List Float) (z : List ℕ) (n : ℕ) : Type 0 where
   pub chained : Chained s z n
-  pub sizes : 16384 + n ≤ length f
+  pub sizes : n ≤ length f
   pub color : (i : ℕ) → i < n → isColor s (i * 27 + 4) ≡ true
   pub back : (i : ℕ) → i < n → isColor s (i * 27 + 9) ≡ true
 

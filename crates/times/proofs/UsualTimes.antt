@@ -125,7 +125,8 @@ module _ (s : List ℕ) (twelve : length s ≡ 12) where
       (λ c. absurd (omega (arith, rw c at h)))
 
 -- ... and so it is that time
-pub usual-time : (s : List ℕ) (r : ℕ) → r ≡ usualMillis s → length s ≡ 12 → r < 360000000 → (ctx : TimingCtx) → timeIn s ctx ≡ Time.Is (pos (r * 1000))
+pub usual-time : (s : List ℕ) (r : ℕ) → r ≡ usualMillis s → length s ≡ 12 → r < 360000000 → (ctx : TimingCtx)
+    → timeIn s ctx ≡ Time.Is (pos (r * 1000))
 usual-time s r e twelve h ctx =
     ap (λ (w : List ℕ). timeIn w ctx) (usual-written s twelve (rw (← e) h) ∙ ap clockOfMillis (sym e)) ∙ back r (omega arith) ctx
 

@@ -35,11 +35,11 @@ module _ (T : Tables) where
   module _ (h : isTrack T ≡ true) where
     parts : (withinLimits (T .head) ≡ true) × (bytesMean (T .head) usedStrings usedTexts ≡ true)
         × (rowsMean (T .head) (T .params) (T .styles) (T .regions) (T .sizes) (T .extras) usedStrings ≡ true)
-        × (areCues (T .cues) (T .extras) (T .segments) (T .sizes) usedStrings usedTexts (segmentCount (T .head)) 0 (cueCount (T .head)) 0 ≡ true)
+        × (areCues (T .cues) (T .extras) (T .segments) usedStrings usedTexts (segmentCount (T .head)) 0 (cueCount (T .head)) 0 ≡ true)
     unfolding isTrack
     parts = four (withinLimits (T .head)) (bytesMean (T .head) usedStrings usedTexts)
         (rowsMean (T .head) (T .params) (T .styles) (T .regions) (T .sizes) (T .extras) usedStrings)
-        (areCues (T .cues) (T .extras) (T .segments) (T .sizes) usedStrings usedTexts (segmentCount (T .head)) 0 (cueCount (T .head)) 0) h
+        (areCues (T .cues) (T .extras) (T .segments) usedStrings usedTexts (segmentCount (T .head)) 0 (cueCount (T .head)) 0) h
 
     pub limits-ok : withinLimits (T .head) ≡ true
     limits-ok = parts .0
@@ -79,7 +79,7 @@ module _ (T : Tables) where
 
       -- its segments begin where its cell 7 says, and are among all
       pub cue-ok : i < cueCount (T .head)
-          → (isCue (T .cues) (T .extras) (T .segments) (T .sizes) usedStrings usedTexts (segmentCount (T .head)) (cell 11 (T .cues) i 7) i ≡ true)
+          → (isCue (T .cues) (T .extras) (T .segments) usedStrings usedTexts (segmentCount (T .head)) (cell 11 (T .cues) i 7) i ≡ true)
           × (cell 11 (T .cues) i 7 + cell 11 (T .cues) i 8 ≤ segmentCount (T .head))
-      cue-ok l = rw (zero-add i) at (cue-row (T .cues) (T .extras) (T .segments) (T .sizes) usedStrings usedTexts (segmentCount (T .head)) 0
+      cue-ok l = rw (zero-add i) at (cue-row (T .cues) (T .extras) (T .segments) usedStrings usedTexts (segmentCount (T .head)) 0
           (cueCount (T .head)) 0 i (parts .3) l)

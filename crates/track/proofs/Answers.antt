@@ -23,13 +23,13 @@ pub record RowsLong (h p s r c g e : ℕ) : Type 0 where
   pub styles : 6912 ≤ s
   pub regions : 1024 ≤ r
   pub cues : 22528 ≤ c
-  pub segments : 131072 ≤ g
+  pub segments : 98304 ≤ g
   pub extras : 24576 ≤ e
 
 pub rows-long : (h p s r c g e : ℕ) → rowsFull h p s r c g e ≡ true → RowsLong h p s r c g e
 unfolding rowsFull
 rows-long h p s r c g e w =
-    let x = four (leb 10 h && leb 256 p && leb 6912 s && leb 1024 r) (leb 22528 c) (leb 131072 g) (leb 24576 e) w in
+    let x = four (leb 10 h && leb 256 p && leb 6912 s && leb 1024 r) (leb 22528 c) (leb 98304 g) (leb 24576 e) w in
     let y = four (leb 10 h) (leb 256 p) (leb 6912 s) (leb 1024 r) (x .0) in
     record {
       head = leb-true 10 h (y .0);
@@ -37,26 +37,23 @@ rows-long h p s r c g e w =
       styles = leb-true 6912 s (y .2);
       regions = leb-true 1024 r (y .3);
       cues = leb-true 22528 c (x .1);
-      segments = leb-true 131072 g (x .2);
+      segments = leb-true 98304 g (x .2);
       extras = leb-true 24576 e (x .3);
     }
 
-pub record RestLong (t r f z y : ℕ) : Type 0 where
+pub record RestLong (t f z y : ℕ) : Type 0 where
   pub times : 4096 ≤ t
-  pub reveal : 16384 ≤ r
-  pub sizes : 16640 ≤ f
+  pub sizes : 256 ≤ f
   pub strings : 65536 ≤ z
   pub texts : 65536 ≤ y
 
-pub rest-long : (t r f z y : ℕ) → restFull t r f z y ≡ true → RestLong t r f z y
+pub rest-long : (t f z y : ℕ) → restFull t f z y ≡ true → RestLong t f z y
 unfolding restFull
-rest-long t r f z y w =
-    let x = four (leb 4096 t && leb 16384 r) (leb 16640 f) (leb 65536 z) (leb 65536 y) w in
-    let v = both {a = leb 4096 t} {b = leb 16384 r} (x .0) in
+rest-long t f z y w =
+    let x = four (leb 4096 t) (leb 256 f) (leb 65536 z) (leb 65536 y) w in
     record {
-      times = leb-true 4096 t (v .0);
-      reveal = leb-true 16384 r (v .1);
-      sizes = leb-true 16640 f (x .1);
+      times = leb-true 4096 t (x .0);
+      sizes = leb-true 256 f (x .1);
       strings = leb-true 65536 z (x .2);
       texts = leb-true 65536 y (x .3);
     }
@@ -93,7 +90,7 @@ module _ (T : Tables) where
       (length (T .extras))
 
   abbrev restOk : Bool
-  restOk = restFull (length (T .times)) (length (T .reveal)) (length (T .sizes)) (length (T .strings)) (length (T .texts))
+  restOk = restFull (length (T .times)) (length (T .sizes)) (length (T .strings)) (length (T .texts))
 
   pub full-rows : rowsOk ≡ false → isFull T ≡ false
   unfolding isFull
@@ -113,7 +110,7 @@ module _ (T : Tables) where
   full-long e =
       let w = both {a = rowsOk} {b = restOk} e in
       let a = rows-long _ _ _ _ _ _ _ (w .0) in
-      let b = rest-long _ _ _ _ _ (w .1) in
+      let b = rest-long _ _ _ _ (w .1) in
       record {
         head = a .head;
         params = a .params;
@@ -122,7 +119,6 @@ module _ (T : Tables) where
         cues = a .cues;
         times = b .times;
         segments = a .segments;
-        reveal = b .reveal;
         sizes = b .sizes;
         extras = a .extras;
         strings = b .strings;
@@ -137,11 +133,10 @@ module _ (T : Tables) where
     le-leb 6912 _ (m .styles),
     le-leb 1024 _ (m .regions),
     le-leb 22528 _ (m .cues),
-    le-leb 131072 _ (m .segments),
+    le-leb 98304 _ (m .segments),
     le-leb 24576 _ (m .extras),
     le-leb 4096 _ (m .times),
-    le-leb 16384 _ (m .reveal),
-    le-leb 16640 _ (m .sizes),
+    le-leb 256 _ (m .sizes),
     le-leb 65536 _ (m .strings),
     le-leb 65536 _ (m .texts),
   )
@@ -157,7 +152,7 @@ module _ (T : Tables) where
   rowsHold = rowsMean (T .head) (T .params) (T .styles) (T .regions) (T .sizes) (T .extras) z
 
   abbrev cuesHold : Bool
-  cuesHold = areCues (T .cues) (T .extras) (T .segments) (T .sizes) z y (segmentCount (T .head)) 0 (cueCount (T .head)) 0
+  cuesHold = areCues (T .cues) (T .extras) (T .segments) z y (segmentCount (T .head)) 0 (cueCount (T .head)) 0
 
   pub track-limits : withinLimits (T .head) ≡ false → isTrack T ≡ false
   unfolding isTrack

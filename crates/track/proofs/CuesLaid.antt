@@ -58,7 +58,7 @@ module _ (T : Tables) (z y : List ℕ) (most : ℕ) where
     pub cells : Reads 0 (T .cues) (i * 11) (cueCells (x .cue))
     pub times : (getD (T .times) (i * 2) (pos 0) ≡ x .cue .start) × (getD (T .times) (i * 2 + 1) (pos 0) ≡ x .cue .end)
     pub extras : Reads 0 (T .extras) (x .cue .extras .first * 3) (cellsOf (x .extras))
-    pub rows : Stand (T .segments) (T .reveal) (T .sizes) from (preorder (x .segments))
+    pub rows : Stand (T .segments) from (preorder (x .segments))
     pub first : x .cue .segments .first ≡ from
     pub count : x .cue .segments .count ≡ segmentRows (x .segments)
     pub room : from + segmentRows (x .segments) ≤ most
@@ -93,11 +93,11 @@ module _ (T : Tables) (z y : List ℕ) (most : ℕ) where
     unfolding cell
     rows-are = q .count ∙ s .count
 
-    cue-fits : isCue (T .cues) (T .extras) (T .segments) (T .sizes) z y most from i ≡ true
+    cue-fits : isCue (T .cues) (T .extras) (T .segments) z y most from i ≡ true
     unfolding isCue cell
     cue-fits =
         rw (values-fit, q .first, s .first, eq-eqb from from refl, rows-are, le-leb (from + segmentRows (x .segments)) most (s .room))
-        (segments-read (T .segments) (T .reveal) (T .sizes) z y (x .segments) 512 from (f .nested) (f .segments) (s .rows) .0)
+        (segments-read (T .segments) z y (x .segments) 512 from (f .nested) (f .segments) (s .rows) .0)
 
     -- the cue, whatever reads its segments
     abbrev cueWith : (ℕ → ℕ → Segments Span) → PlacedCue
@@ -131,16 +131,16 @@ module _ (T : Tables) (z y : List ℕ) (most : ℕ) where
     cue-means : cueIn T i ≡ shownCue (T .strings) (T .texts) x
     unfolding cueIn
     cue-means =
-        cue-with (λ n j. segmentsAt (T .segments) (T .reveal) (T .sizes) 512 n j)
-        (segments-read (T .segments) (T .reveal) (T .sizes) z y (x .segments) 512 from (f .nested) (f .segments) (s .rows) .1)
+        cue-with (segmentsAt (T .segments) 512)
+        (segments-read (T .segments) z y (x .segments) 512 from (f .nested) (f .segments) (s .rows) .1)
 
   pub cues-read :
       (l : List PlacedCue) (from i : ℕ) → Reads 0 (T .cues) (i * 11) (joinedCells (λ x. cueCells (x .cue)) l)
       → Reads (pos 0) (T .times) (i * 2) (cueTimes l)
       → All (λ x. Reads 0 (T .extras) (x .cue .extras .first * 3) (cellsOf (x .extras))) l
-      → Stand (T .segments) (T .reveal) (T .sizes) from (allSegments l)
+      → Stand (T .segments) from (allSegments l)
       → All (CueFits z y) l → InTurn from l → from + length (allSegments l) ≡ most
-      → (areCues (T .cues) (T .extras) (T .segments) (T .sizes) z y most from (length l) i ≡ true)
+      → (areCues (T .cues) (T .extras) (T .segments) z y most from (length l) i ≡ true)
       × (rowsFrom (cueIn T) (length l) i ≡ each (shownCue (T .strings) (T .texts)) l)
   unfolding areCues joinedCells rowsFrom each allSegments
   cues-read [] from i c t e g f n m = (eq-eqb from most (omega arith), refl)
@@ -149,7 +149,7 @@ module _ (T : Tables) (z y : List ℕ) (most : ℕ) where
       let p = preorder (x .segments) in
       let r : length p ≡ w = rows-many (x .segments) in
       let o : length (p ++ allSegments l) ≡ length p + length (allSegments l) = length-append p (allSegments l) in
-      let b = stand-append (T .segments) (T .reveal) (T .sizes) from (from + w) p (allSegments l) (omega arith) g in
+      let b = stand-append (T .segments) from (from + w) p (allSegments l) (omega arith) g in
       let a : length (cueCells (x .cue)) ≡ 11 = cue-long (x .cue) in
       let v : (i + 1) * 2 ≡ i * 2 + 2 = omega arith in
       let s : Sits from i x = record {

@@ -4,12 +4,12 @@
 --     layout-means            so they mean it
 --     layout-full, layout-checked    they are as long as they must be, and pass the check of a handed track
 use Prim.Native.Nat.{ℕ, _+_, _-_, _*_, _≤_}
-use mathlib.Core.Path.{_≡_, refl, sym, _∙_}
+use mathlib.Core.Path.{_≡_, refl}
 use mathlib.Core.Bool.{Bool, true, false}
 use mathlib.Core.List.{List, [], _∷_, _++_}
 use mathlib.Core.Option.{some}
 use native.Mathlib.Omega.{arith}
-use native.Mathlib.Nat.{zero-add}
+use native.Mathlib.Nat.{add-zero, zero-add}
 use lib.ListN.{length, getD, take, replicate, length-append, length-replicate}
 use lib.IntN.{pos}
 use lib.Ieee.{Float}
@@ -21,17 +21,17 @@ use Rattle.track.specs.Steps.{checkOf}
 use Rattle.track.specs.Meaning.{isParam, isStyle, isRegion, areCues, allRows, withinLimits, bytesMean, rowsMean, isTrack, styleIn}
 use Rattle.track.specs.Meaning.{regionIn, cueIn, trackAt, trackIn}
 use Rattle.track.specs.Layout.{joinedCells, each, optionalCells, paramCells, styleCells, regionCells, cueCells, cueTimes, styleSize}
-use Rattle.track.specs.Layout.{allSegments, filledSizes, Placed, PlacedStyle, headCells, layout}
+use Rattle.track.specs.Layout.{allSegments, Placed, PlacedStyle, headCells, layout}
 use Rattle.track.specs.Placing.{All, ParamFits, StyleFits, RegionFits, CueFits, Fits, laidStyle, laidRegion, laidCue, laid}
 use Rattle.track.specs.Shown.{shownParam, shownStyle, shownRegion, shownCue, shown}
 use Rattle.track.proofs.Answers.{long-full}
 use Rattle.track.proofs.Exactly.{check-track}
 use Rattle.track.proofs.ShownLaws.{paramIn, params-in, styles-in, regions-in, cues-in}
-use Rattle.track.proofs.ReadBack.{Reads, AllAt, reads-here, reads-after, reads-first, reads-rest, rows-at, at-both, rows-mean, all-append}
-use Rattle.track.proofs.ReadBack.{all-each, all-join, each-all, all-both, each-many}
+use Rattle.track.proofs.ReadBack.{Reads, AllAt, reads-here, reads-after, reads-rest, rows-at, at-both, rows-mean, all-append}
+use Rattle.track.proofs.ReadBack.{all-each, all-join, each-all, all-both}
 use Rattle.track.proofs.ExtrasLaid.{Sits, Stays, extrasLaid, laid-long, laid-extras}
 use Rattle.track.proofs.RowsLaid.{OptionalRead, optional-long, optional-read, param-read, region-read, style-read, style-long}
-use Rattle.track.proofs.SegmentsLaid.{Stand, cellsIn, timeIn, sizeIn}
+use Rattle.track.proofs.SegmentsLaid.{Stand, cellsIn}
 use Rattle.track.proofs.CuesLaid.{cues-read}
 
 -- tables that hold a placed track; u and v bytes are used
@@ -49,23 +49,17 @@ pub record Holds (T : Tables) (k : Placed) (u v : ℕ) : Type 0 where
   pub regions : Reads 0 (T .regions) 0 (joinedCells (λ x. regionCells (x .region)) (k .regions))
   pub cues : Reads 0 (T .cues) 0 (joinedCells (λ x. cueCells (x .cue)) (k .cues))
   pub times : Reads (pos 0) (T .times) 0 (cueTimes (k .cues))
-  pub segments : Stand (T .segments) (T .reveal) (T .sizes) 0 (allSegments (k .cues))
-  pub sizes : Reads zeroFloat (T .sizes) 16384 (each styleSize (k .styles))
+  pub segments : Stand (T .segments) 0 (allSegments (k .cues))
+  pub sizes : Reads zeroFloat (T .sizes) 0 (each styleSize (k .styles))
   pub extras : All (Stays (T .extras)) (laid k)
 
 -- ---- what they mean
 -- sizes of styles, one by one
-sizes-at : (f : List Float) (l : List PlacedStyle) (i : ℕ) → Reads zeroFloat f (16384 + i) (each styleSize l)
-    → AllAt (λ i x. sizeCell f (16384 + i) ≡ styleSize x) i l
+sizes-at : (f : List Float) (l : List PlacedStyle) (i : ℕ) → Reads zeroFloat f i (each styleSize l) → AllAt (λ i x. sizeCell f i ≡ styleSize x) i l
 unfolding each
 sizes-at f [] i h = tt
 sizes-at f (x ∷ l) i h =
-    let e : 16384 + i + 0 ≡ 16384 + i = omega arith in
-    let e′ : 16384 + (i + 1) ≡ 16384 + i + 1 = omega arith in (
-      rw e at (h 0 (omega arith)),
-      sizes-at f l (i + 1)
-          (reads-rest zeroFloat f (16384 + i) (styleSize x ∷ []) (each styleSize l) h (16384 + (i + 1)) e′),
-    )
+    (rw (add-zero i) at (h 0 (omega arith)), sizes-at f l (i + 1) (reads-rest zeroFloat f i (styleSize x ∷ []) (each styleSize l) h (i + 1) refl))
 
 module _ (T : Tables) (k : Placed) (u v : ℕ) (h : Holds T k u v) (f : Fits k (T .strings) (T .texts) u v) where
   abbrev usedStrings : List ℕ
@@ -113,7 +107,7 @@ module _ (T : Tables) (k : Placed) (u v : ℕ) (h : Holds T k u v) (f : Fits k (
   unfolding laidStyle
   styles-read =
       let row : ℕ → PlacedStyle → Type 0 = λ i x. Reads 0 (T .styles) (i * 27) (styleCells (x .style)) in
-      let size : ℕ → PlacedStyle → Type 0 = λ i x. sizeCell (T .sizes) (16384 + i) ≡ styleSize x in
+      let size : ℕ → PlacedStyle → Type 0 = λ i x. sizeCell (T .sizes) i ≡ styleSize x in
       rows-mean (λ i x. row i x × size i x) (λ x. Stays (T .extras) (laidStyle x) × StyleFits usedStrings x)
       (isStyle (T .styles) (T .sizes) (T .extras) usedStrings) (styleIn T) (shownStyle (T .strings))
       (λ i x a b. style-read T usedStrings i x (a .0) (b .1) (a .1) (b .0)) (k .styles) 0
@@ -121,8 +115,7 @@ module _ (T : Tables) (k : Placed) (u v : ℕ) (h : Holds T k u v) (f : Fits k (
       (sizes-at (T .sizes) (k .styles) 0 (h .sizes)))
       (all-both (λ x. Stays (T .extras) (laidStyle x)) (StyleFits usedStrings) (k .styles) (extras-of .0) (f .styles))
 
-  cues-mean : (areCues (T .cues) (T .extras) (T .segments) (T .sizes) usedStrings usedTexts (length (allSegments (k .cues))) 0 (length (k .cues)) 0
-      ≡ true)
+  cues-mean : (areCues (T .cues) (T .extras) (T .segments) usedStrings usedTexts (length (allSegments (k .cues))) 0 (length (k .cues)) 0 ≡ true)
       × (rowsFrom (cueIn T) (length (k .cues)) 0 ≡ each (shownCue (T .strings) (T .texts)) (k .cues))
   unfolding laidCue
   cues-mean = cues-read T usedStrings usedTexts (length (allSegments (k .cues))) (k .cues) 0 0 (h .cues) (h .times) (extras-of .2) (h .segments)
@@ -205,20 +198,6 @@ rows-sit k z y u v f =
     (each-all Sits (RegionFits (take u z)) laidRegion (λ x g. (g .extras .many, g .extras .room)) (k .regions) (f .regions))
     (each-all Sits (CueFits (take u z) (take v y)) laidCue (λ x g. (g .extras .many, g .extras .room)) (k .cues) (f .cues)))
 
--- two tables of sizes, one after the other
-module _ (n m : ℕ) (a b : List Float) (h : length a ≤ n) where
-  abbrev both : List Float
-  both = filledSizes n a ++ filledSizes m b
-
-  sizes-first : Reads zeroFloat both 0 a
-  sizes-first = reads-first zeroFloat both 0 a (replicate (n - length a) zeroFloat) (reads-here zeroFloat (filledSizes n a) (filledSizes m b))
-
-  sizes-next : Reads zeroFloat both n b
-  sizes-next =
-      let r = replicate (n - length a) zeroFloat in
-      let e : length (a ++ r) ≡ n = length-append a r ∙ omega (arith, length-replicate (n - length a) zeroFloat) in
-      reads-after zeroFloat (filledSizes n a) b (replicate (m - length b) zeroFloat) n (sym e)
-
 pub layout-holds :
     (n : Lengths) (k : Placed) (z y : List ℕ) (u v : ℕ) → 24576 ≤ n .extras → Fits k z y u v → Holds (layout n k z y u v) k u v
 unfolding layout headCells
@@ -227,9 +206,6 @@ layout-holds n k z y u v l f =
     let h = headCells k u v in
     let w = used (length (k .params)) (length (k .styles)) (length (k .regions)) (length (k .cues)) (length g) u v (k .«has_lang») (k .lang)
     (replicate (n .head - length h) 0) in
-    let a = each sizeIn g in
-    let b = each styleSize (k .styles) in
-    let e : length a ≤ 16384 = rw (each-many sizeIn g) (f .few-segments) in
     record {
       many-params = refl;
       many-styles = refl;
@@ -244,14 +220,8 @@ layout-holds n k z y u v l f =
       regions = reads-here 0 (joinedCells (λ x. regionCells (x .region)) (k .regions)) _;
       cues = reads-here 0 (joinedCells (λ x. cueCells (x .cue)) (k .cues)) _;
       times = reads-here (pos 0) (cueTimes (k .cues)) _;
-      segments =
-          record {
-            cells = reads-here 0 (joinedCells cellsIn g) _;
-            times = reads-here (pos 0) (each timeIn g) _;
-            sizes = sizes-first 16384
-                (n .sizes - 16384) a b e;
-          };
-      sizes = sizes-next 16384 (n .sizes - 16384) a b e;
+      segments = reads-here 0 (joinedCells cellsIn g) _;
+      sizes = reads-here zeroFloat (each styleSize (k .styles)) _;
       extras = laid-extras k (replicate (n .extras) 0) (omega (arith, length-replicate {A = ℕ} (n .extras) 0)) (rows-sit k z y u v f) (f .apart);
     }
 
@@ -265,9 +235,6 @@ filled-long : {A : Type 0} (d : A) (n : ℕ) (l : List A) → n ≤ length (l ++
 filled-long d n l =
     let r = replicate (n - length l) d in
     omega (arith, length-append l r, length-replicate (n - length l) d)
-
-sizes-long : (n m : ℕ) (a b : List Float) → n + m ≤ length (filledSizes n a ++ filledSizes m b)
-sizes-long n m a b = omega (arith, length-append (filledSizes n a) (filledSizes m b), filled-long zeroFloat n a, filled-long zeroFloat m b)
 
 -- where the lengths are long enough, the tables are
 module _ (n : Lengths) (k : Placed) (z y : List ℕ) (u v : ℕ) (m : LongEnough n) (hz : n .strings ≤ length z) (hy : n .texts ≤ length y) where
@@ -285,8 +252,7 @@ module _ (n : Lengths) (k : Placed) (z y : List ℕ) (u v : ℕ) (m : LongEnough
         cues = omega (arith, m .cues, filled-long 0 (n .cues) (joinedCells (λ x. cueCells (x .cue)) (k .cues)));
         times = omega (arith, m .times, filled-long (pos 0) (n .times) (cueTimes (k .cues)));
         segments = omega (arith, m .segments, filled-long 0 (n .segments) (joinedCells cellsIn g));
-        reveal = omega (arith, m .reveal, filled-long (pos 0) (n .reveal) (each timeIn g));
-        sizes = omega (arith, m .sizes, sizes-long 16384 (n .sizes - 16384) (each sizeIn g) (each styleSize (k .styles)));
+        sizes = omega (arith, m .sizes, filled-long zeroFloat (n .sizes) (each styleSize (k .styles)));
         extras = omega (arith, m .extras, x);
         strings = omega (arith, m .strings, hz);
         texts = omega (arith, m .texts, hy);

@@ -2,6 +2,7 @@
 pub mod Chains
 pub mod Spans
 pub mod RowLaws
+pub mod Packed
 pub mod SegmentLaws
 pub mod Defaults
 pub mod StringLaws

@@ -39,7 +39,7 @@ pub record StyleParts (t : List ℕ) (f : List Float) (e z : List ℕ) (i : ℕ)
   pub color : isColor t (i * 27 + 4) ≡ true
   pub back : isColor t (i * 27 + 9) ≡ true
   pub family : isOptional z (cell 27 t i 14) (cell 27 t i 15) (cell 27 t i 16) ≡ true
-  pub size : isSizeAt (cell 27 t i 17) (cell 27 t i 18) (cell 27 t i 19) (sizeCell f (16384 + i)) ≡ true
+  pub size : isSizeAt (cell 27 t i 17) (cell 27 t i 18) (cell 27 t i 19) (sizeCell f i) ≡ true
   pub bold : cell 27 t i 20 ≤ 1
   pub italic : cell 27 t i 21 ≤ 1
   pub underline : cell 27 t i 22 ≤ 1
@@ -51,10 +51,10 @@ pub style-parts : (t : List ℕ) (f : List Float) (e z : List ℕ) (i : ℕ) →
 unfolding isStyle styleStrings styleValues styleFlags isFlag cell
 style-parts t f e z i h =
     let c : ℕ → ℕ = λ j. getD t (i * 27 + j) 0 in
-    let a = four (styleStrings t z (i * 27)) (styleValues t (sizeCell f (16384 + i)) (i * 27)) (styleFlags t (i * 27))
+    let a = four (styleStrings t z (i * 27)) (styleValues t (sizeCell f i) (i * 27)) (styleFlags t (i * 27))
     (hasExtras e z 46 (c 25) (c 26)) h in
     let b = three (isSpan z (getD t (i * 27) 0) (c 1)) (isSpan z (c 2) (c 3)) (isOptional z (c 14) (c 15) (c 16)) (a .0) in
-    let v = three (isColor t (i * 27 + 4)) (isColor t (i * 27 + 9)) (isSizeAt (c 17) (c 18) (c 19) (sizeCell f (16384 + i))) (a .1) in
+    let v = three (isColor t (i * 27 + 4)) (isColor t (i * 27 + 9)) (isSizeAt (c 17) (c 18) (c 19) (sizeCell f i)) (a .1) in
     let w = four (leb (c 20) 1 && leb (c 21) 1) (leb (c 22) 1) (leb (c 23) 1) (leb (c 24) 4) (a .2) in
     let x = both {a = leb (c 20) 1} {b = leb (c 21) 1} (w .0) in
     record {
@@ -83,21 +83,21 @@ region-parts t e z i h =
     let a = both {a = isSpan z (c 0) (c 1)} {b = hasExtras e z 53 (c 2) (c 3)} h in
     record { id = a .0; extras = a .1 }
 
-pub record CueParts (t e g : List ℕ) (f : List Float) (z y : List ℕ) (most from i : ℕ) : Type 0 where
+pub record CueParts (t e g z y : List ℕ) (most from i : ℕ) : Type 0 where
   pub style : isOptional z (cell 11 t i 0) (cell 11 t i 1) (cell 11 t i 2) ≡ true
   pub region : isOptional z (cell 11 t i 3) (cell 11 t i 4) (cell 11 t i 5) ≡ true
   pub preserve : cell 11 t i 6 ≤ 1
   pub extras : hasExtras e z 47 (cell 11 t i 9) (cell 11 t i 10) ≡ true
   pub begins : cell 11 t i 7 ≡ from
   pub within : from + cell 11 t i 8 ≤ most
-  pub segments : areSegments g f z y 512 (cell 11 t i 8) from ≡ true
+  pub segments : areSegments g z y 512 (cell 11 t i 8) from ≡ true
 
-pub cue-parts : (t e g : List ℕ) (f : List Float) (z y : List ℕ) (most from i : ℕ) → isCue t e g f z y most from i ≡ true
-    → CueParts t e g f z y most from i
+pub cue-parts : (t e g z y : List ℕ) (most from i : ℕ) → isCue t e g z y most from i ≡ true
+    → CueParts t e g z y most from i
 unfolding isCue cueValues isFlag
-cue-parts t e g f z y most from i h =
+cue-parts t e g z y most from i h =
     let c : ℕ → ℕ = cell 11 t i in
-    let a = four (cueValues t e z i) (eqb (c 7) from) (leb (from + c 8) most) (areSegments g f z y 512 (c 8) from) h in
+    let a = four (cueValues t e z i) (eqb (c 7) from) (leb (from + c 8) most) (areSegments g z y 512 (c 8) from) h in
     let b = four (isOptional z (c 0) (c 1) (c 2)) (isOptional z (c 3) (c 4) (c 5)) (leb (c 6) 1) (hasExtras e z 47 (c 9) (c 10)) (a .0) in
     record {
       style = b .0;

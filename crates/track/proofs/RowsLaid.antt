@@ -30,16 +30,13 @@ use Rattle.track.specs.Shown.{shownParam, shownRegion, shownStyle, shown
 use Rattle.track.proofs.ShownLaws.{paramIn}
 use Rattle.track.proofs.ReadBack.{Reads, reads-first, reads-rest}
 use Rattle.track.proofs.ExtrasLaid.{cellsOf, extras-read}
+use Rattle.track.proofs.Packed.{sign-is}
 
 -- ---- values
 pub flag-is : (b : Bool) → (isFlag (flag b) ≡ true) × (eqb (flag b) 1 ≡ b)
 unfolding isFlag
 flag-is true = (refl, refl)
 flag-is false = (refl, refl)
-
-sign-is : (n : Bool) → (eqb (cond n 2 1) 0 ≡ false) × (eqb (cond n 2 1) 2 ≡ n) × (leb (cond n 2 1) 2 ≡ true)
-sign-is true = (refl, refl, refl)
-sign-is false = (refl, refl, refl)
 
 pub optional-long : (b : Bool) (x : Span) → length (optionalCells b x) ≡ 3
 optional-long true x = refl
@@ -292,12 +289,12 @@ module _ (T : Tables) (z : List ℕ) (i : ℕ) (x : PlacedStyle) (h : Reads 0 (T
       )
       (align-read (s .align) .0)
 
-  module _ (e : sizeCell (T .sizes) (16384 + i) ≡ styleSize x) where
-    q-size : SizeRead (T .styles) (i * 27 + 17) (sizeCell (T .sizes) (16384 + i)) (x .style .look .«has_size») (x .style .look .size)
-    q-size = size-read (T .styles) (i * 27 + 17) (sizeCell (T .sizes) (16384 + i)) (x .style .look .«has_size») (x .style .look .size) e (q .size)
+  module _ (e : sizeCell (T .sizes) i ≡ styleSize x) where
+    q-size : SizeRead (T .styles) (i * 27 + 17) (sizeCell (T .sizes) i) (x .style .look .«has_size») (x .style .look .size)
+    q-size = size-read (T .styles) (i * 27 + 17) (sizeCell (T .sizes) i) (x .style .look .«has_size») (x .style .look .size) e (q .size)
         (f .size)
 
-    values-fit : styleValues (T .styles) (sizeCell (T .sizes) (16384 + i)) (i * 27) ≡ true
+    values-fit : styleValues (T .styles) (sizeCell (T .sizes) i) (i * 27) ≡ true
     unfolding styleValues
     values-fit =
         rw (

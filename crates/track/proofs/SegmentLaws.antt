@@ -1,5 +1,5 @@
 -- Laws of segments: rows one after the other, each with the number of rows of its subtree. Assumes nothing.
--- t are the segments, r the times, f the sizes, z the used strings, y the used texts; n rows from row i on, nested at most d.
+-- t are the segments, z the used strings, y the used texts; n rows from row i on, nested at most d.
 --     are-none, are-shallow, are-suc, are-more, are-deep     the test's equations: no rows, depth 0, one row and the rest (at `suc`, and for any
 --                                                            depth and number), and rows need a depth
 --     are-unfit, are-empty, are-long, are-torn, are-on       the same for the loop over siblings: where it stops, and that it goes on
@@ -16,14 +16,12 @@
 --     childless                                              a text, a break and a timestamp have no children
 use Prim.Native.Nat.{ℕ, zero, suc, _+_, _-_, _*_, _≤_, _<_}
 use mathlib.Core.Path.{_≡_, refl, sym, _∙_}
-use mathlib.Core.Bool.{Bool, true, false, not, _&&_}
+use mathlib.Core.Bool.{Bool, true, false, _&&_}
 use mathlib.Core.List.{List}
 use native.Mathlib.Omega.{arith}
 use lib.ListN.{getD}
 use lib.Dec.{eqb, leb, ltb}
-use lib.IntN.{ℤ, pos}
-use lib.Ieee.{Float}
-use borrow.Author.Tests.{ltb-true, leb-true, eqb-true, eqb-false, not-true, lt-ltb, lt-leb, le-leb, ne-eqb}
+use borrow.Author.Tests.{ltb-true, leb-true, eqb-true, eqb-false, lt-ltb, lt-leb, le-leb, ne-eqb}
 use Rattle.scan.proofs.Every.{both}
 use Rattle.decimals.proofs.Tests.{no}
 use Rattle.decimals.specs.Size.{isSize}
@@ -31,8 +29,9 @@ use Rattle.track.specs.declared.strings.Span.{Span}
 use Rattle.track.specs.declared.segments.Segment.{Segment}
 use Rattle.track.specs.Track.{Segments}
 use Rattle.track.specs.Track as track
-use Rattle.track.specs.Tables.{cell, span, optional, sizeAt, sizeCell, fontAt, segmentAt, followedBy, siblingsAt, segmentsAt}
-use Rattle.track.specs.Meaning.{isSpan, isOptional, areThree, isSizeAt, isFont, isSegment, areSiblings, areSegments}
+use Rattle.track.specs.Tables.{cell, span, optional, timeFrom, familyMark, fontAt, segmentAt, followedBy, siblingsAt, segmentsAt}
+use Rattle.track.specs.Meaning.{isSpan, isOptional, areThree, isMarked, isFont, isSegment, areSiblings, areSegments}
+use Rattle.track.proofs.Packed.{marked-size}
 
 -- what follows a test counts only where the test is true
 guarded : (g k a b : Bool) → (g ≡ true → a ≡ b) → (g && k && a) ≡ (g && k && b)
@@ -41,8 +40,8 @@ guarded true false a b h = refl
 guarded false k a b h = refl
 
 -- ---- rows that are passed over
-module _ (t : List ℕ) (f : List Float) (z y : List ℕ) (kids : ℕ → ℕ → Bool) where
-  are-past : (n k i : ℕ) → k ≤ n → areSiblings t f z y kids n k i ≡ areSiblings t f z y kids (n - k) 0 (i + k)
+module _ (t z y : List ℕ) (kids : ℕ → ℕ → Bool) where
+  are-past : (n k i : ℕ) → k ≤ n → areSiblings t z y kids n k i ≡ areSiblings t z y kids (n - k) 0 (i + k)
   unfolding areSiblings
   are-past n zero i h =
       let a : n - 0 ≡ n = omega arith in
@@ -54,8 +53,8 @@ module _ (t : List ℕ) (f : List Float) (z y : List ℕ) (kids : ℕ → ℕ �
       let b : i + suc k ≡ i + 1 + k = omega arith in
       rw (a, b) (are-past n k (i + 1) (omega arith))
 
-module _ (t : List ℕ) (r : List ℤ) (f : List Float) (kids : ℕ → ℕ → Segments Span) where
-  siblings-past : (n k i : ℕ) → k ≤ n → siblingsAt t r f kids n k i ≡ siblingsAt t r f kids (n - k) 0 (i + k)
+module _ (t : List ℕ) (kids : ℕ → ℕ → Segments Span) where
+  siblings-past : (n k i : ℕ) → k ≤ n → siblingsAt t kids n k i ≡ siblingsAt t kids (n - k) 0 (i + k)
   unfolding siblingsAt
   siblings-past n zero i h =
       let a : n - 0 ≡ n = omega arith in
@@ -68,35 +67,35 @@ module _ (t : List ℕ) (r : List ℤ) (f : List Float) (kids : ℕ → ℕ → 
       rw (a, b) (siblings-past n k (i + 1) (omega arith))
 
 -- ---- the equations of the test
-module _ (t : List ℕ) (f : List Float) (z y : List ℕ) where
-  pub are-none : (d i : ℕ) → areSegments t f z y d 0 i ≡ true
+module _ (t z y : List ℕ) where
+  pub are-none : (d i : ℕ) → areSegments t z y d 0 i ≡ true
   unfolding areSegments areSiblings
   are-none zero i = refl
   are-none (suc d) i = refl
 
-  pub are-shallow : (d n i : ℕ) → d ≡ 0 → areSegments t f z y d n i ≡ eqb n 0
+  pub are-shallow : (d n i : ℕ) → d ≡ 0 → areSegments t z y d n i ≡ eqb n 0
   unfolding areSegments
   are-shallow d n i e = rw e
 
   pub are-suc :
-      (d n i : ℕ) → areSegments t f z y (suc d) (suc n) i
-      ≡ (isSegment t f z y i && ltb 0 (cell 8 t i 1) && leb (cell 8 t i 1) (suc n) && areSegments t f z y d (cell 8 t i 1 - 1) (i + 1)
-      && areSegments t f z y (suc d) (suc n - cell 8 t i 1) (i + cell 8 t i 1))
+      (d n i : ℕ) → areSegments t z y (suc d) (suc n) i
+      ≡ (isSegment t z y i && ltb 0 (cell 6 t i 1) && leb (cell 6 t i 1) (suc n) && areSegments t z y d (cell 6 t i 1 - 1) (i + 1)
+      && areSegments t z y (suc d) (suc n - cell 6 t i 1) (i + cell 6 t i 1))
   unfolding areSegments areSiblings
   are-suc d n i =
-      let m = cell 8 t i 1 in
-      guarded (isSegment t f z y i && ltb 0 m && leb m (suc n)) (areSegments t f z y d (m - 1) (i + 1)) _ _ λ g.
-      let l : 0 < m = ltb-true 0 m (both {a = isSegment t f z y i} (both {a = isSegment t f z y i && ltb 0 m} g .0) .1) in
-      let h : m ≤ suc n = leb-true m (suc n) (both {a = isSegment t f z y i && ltb 0 m} g .1) in
+      let m = cell 6 t i 1 in
+      guarded (isSegment t z y i && ltb 0 m && leb m (suc n)) (areSegments t z y d (m - 1) (i + 1)) _ _ λ g.
+      let l : 0 < m = ltb-true 0 m (both {a = isSegment t z y i} (both {a = isSegment t z y i && ltb 0 m} g .0) .1) in
+      let h : m ≤ suc n = leb-true m (suc n) (both {a = isSegment t z y i && ltb 0 m} g .1) in
       let a : suc n - m ≡ n - (m - 1) = omega arith in
       let b : i + m ≡ i + 1 + (m - 1) = omega arith in
-      rw (a, b) (are-past t f z y (areSegments t f z y d) n (m - 1) (i + 1) (omega arith))
+      rw (a, b) (are-past t z y (areSegments t z y d) n (m - 1) (i + 1) (omega arith))
 
   -- the same for any d and n
   pub are-more :
-      (d n i : ℕ) → 0 < d → 0 < n → areSegments t f z y d n i
-      ≡ (isSegment t f z y i && ltb 0 (cell 8 t i 1) && leb (cell 8 t i 1) n && areSegments t f z y (d - 1) (cell 8 t i 1 - 1) (i + 1)
-      && areSegments t f z y d (n - cell 8 t i 1) (i + cell 8 t i 1))
+      (d n i : ℕ) → 0 < d → 0 < n → areSegments t z y d n i
+      ≡ (isSegment t z y i && ltb 0 (cell 6 t i 1) && leb (cell 6 t i 1) n && areSegments t z y (d - 1) (cell 6 t i 1 - 1) (i + 1)
+      && areSegments t z y d (n - cell 6 t i 1) (i + cell 6 t i 1))
   are-more zero n i h g = absurd (omega arith)
   are-more (suc d) zero i h g = absurd (omega arith)
   are-more (suc d) (suc n) i h g =
@@ -104,77 +103,77 @@ module _ (t : List ℕ) (f : List Float) (z y : List ℕ) where
       rw e (are-suc d n i)
 
   -- rows at depth 0 are none
-  pub are-deep : (d n i : ℕ) → areSegments t f z y d n i ≡ true → 0 < n → 0 < d
+  pub are-deep : (d n i : ℕ) → areSegments t z y d n i ≡ true → 0 < n → 0 < d
   unfolding areSegments
   are-deep zero n i e h = omega (arith, eqb-true n 0 e)
   are-deep (suc d) n i e h = omega arith
 
 -- ---- the loop over siblings: at row i, n rows are left, and m is what the row says of its own
-module _ (t : List ℕ) (f : List Float) (z y : List ℕ) (d n i m : ℕ) (h : 0 < d) (g : 0 < n) (q : m ≡ cell 8 t i 1) where
-  turn : areSegments t f z y d n i
-      ≡ (isSegment t f z y i && ltb 0 m && leb m n && areSegments t f z y (d - 1) (m - 1) (i + 1) && areSegments t f z y d (n - m) (i + m))
-  turn = rw q (are-more t f z y d n i h g)
+module _ (t z y : List ℕ) (d n i m : ℕ) (h : 0 < d) (g : 0 < n) (q : m ≡ cell 6 t i 1) where
+  turn : areSegments t z y d n i
+      ≡ (isSegment t z y i && ltb 0 m && leb m n && areSegments t z y (d - 1) (m - 1) (i + 1) && areSegments t z y d (n - m) (i + m))
+  turn = rw q (are-more t z y d n i h g)
 
-  pub are-unfit : isSegment t f z y i ≡ false → areSegments t f z y d n i ≡ false
+  pub are-unfit : isSegment t z y i ≡ false → areSegments t z y d n i ≡ false
   are-unfit e = turn ∙ rw e
 
-  module _ (e : isSegment t f z y i ≡ true) where
-    pub are-empty : m ≡ 0 → areSegments t f z y d n i ≡ false
+  module _ (e : isSegment t z y i ≡ true) where
+    pub are-empty : m ≡ 0 → areSegments t z y d n i ≡ false
     are-empty k = turn ∙ rw (e, k)
 
     module _ (k : 0 < m) where
-      pub are-long : n < m → areSegments t f z y d n i ≡ false
+      pub are-long : n < m → areSegments t z y d n i ≡ false
       are-long l = turn ∙ rw (e, lt-ltb 0 m k, lt-leb m n l)
 
       module _ (l : m ≤ n) where
-        pub are-torn : areSegments t f z y (d - 1) (m - 1) (i + 1) ≡ false → areSegments t f z y d n i ≡ false
+        pub are-torn : areSegments t z y (d - 1) (m - 1) (i + 1) ≡ false → areSegments t z y d n i ≡ false
         are-torn w = turn ∙ rw (e, lt-ltb 0 m k, le-leb m n l, w)
 
-        pub are-on : areSegments t f z y (d - 1) (m - 1) (i + 1) ≡ true → areSegments t f z y d n i ≡ areSegments t f z y d (n - m) (i + m)
+        pub are-on : areSegments t z y (d - 1) (m - 1) (i + 1) ≡ true → areSegments t z y d n i ≡ areSegments t z y d (n - m) (i + m)
         are-on w = turn ∙ rw (e, lt-ltb 0 m k, le-leb m n l, w)
 
 -- ---- what one who walks over n rows from row i on learns, nested at most d
-pub record Walk (t : List ℕ) (f : List Float) (z y : List ℕ) (d n i : ℕ) : Type 0 where
+pub record Walk (t z y : List ℕ) (d n i : ℕ) : Type 0 where
   pub deep : 0 < d
-  pub is : isSegment t f z y i ≡ true
-  pub least : 0 < cell 8 t i 1
-  pub most : cell 8 t i 1 ≤ n
-  pub inside : areSegments t f z y (d - 1) (cell 8 t i 1 - 1) (i + 1) ≡ true
-  pub after : areSegments t f z y d (n - cell 8 t i 1) (i + cell 8 t i 1) ≡ true
+  pub is : isSegment t z y i ≡ true
+  pub least : 0 < cell 6 t i 1
+  pub most : cell 6 t i 1 ≤ n
+  pub inside : areSegments t z y (d - 1) (cell 6 t i 1 - 1) (i + 1) ≡ true
+  pub after : areSegments t z y d (n - cell 6 t i 1) (i + cell 6 t i 1) ≡ true
 
-pub walk : (t : List ℕ) (f : List Float) (z y : List ℕ) (d n i : ℕ) → areSegments t f z y d n i ≡ true → 0 < n → Walk t f z y d n i
-walk t f z y d n i e h =
-    let m = cell 8 t i 1 in
-    let g = are-deep t f z y d n i e h in
-    let a = both {b = areSegments t f z y d (n - m) (i + m)} (sym (are-more t f z y d n i g h) ∙ e) in
-    let b = both {b = areSegments t f z y (d - 1) (m - 1) (i + 1)} (a .0) in
+pub walk : (t z y : List ℕ) (d n i : ℕ) → areSegments t z y d n i ≡ true → 0 < n → Walk t z y d n i
+walk t z y d n i e h =
+    let m = cell 6 t i 1 in
+    let g = are-deep t z y d n i e h in
+    let a = both {b = areSegments t z y d (n - m) (i + m)} (sym (are-more t z y d n i g h) ∙ e) in
+    let b = both {b = areSegments t z y (d - 1) (m - 1) (i + 1)} (a .0) in
     let l = both {b = leb m n} (b .0) in
-    let s = both {a = isSegment t f z y i} {b = ltb 0 m} (l .0) in
+    let s = both {a = isSegment t z y i} {b = ltb 0 m} (l .0) in
     record { deep = g; is = s .0; least = ltb-true 0 m (s .1); most = leb-true m n (l .1); inside = b .1; after = a .1 }
 
 -- ---- the equations of the value
-module _ (t : List ℕ) (r : List ℤ) (f : List Float) where
-  pub segments-none : (d i : ℕ) → segmentsAt t r f d 0 i ≡ track.done
+module _ (t : List ℕ) where
+  pub segments-none : (d i : ℕ) → segmentsAt t d 0 i ≡ track.done
   unfolding segmentsAt siblingsAt
   segments-none zero i = refl
   segments-none (suc d) i = refl
 
   pub segments-suc :
-      (d n i : ℕ) → 0 < cell 8 t i 1 → cell 8 t i 1 ≤ suc n → segmentsAt t r f (suc d) (suc n) i
-      ≡ followedBy (segmentAt t r f i) (segmentsAt t r f d (cell 8 t i 1 - 1) (i + 1))
-      (segmentsAt t r f (suc d) (suc n - cell 8 t i 1) (i + cell 8 t i 1))
+      (d n i : ℕ) → 0 < cell 6 t i 1 → cell 6 t i 1 ≤ suc n → segmentsAt t (suc d) (suc n) i
+      ≡ followedBy (segmentAt t i) (segmentsAt t d (cell 6 t i 1 - 1) (i + 1))
+      (segmentsAt t (suc d) (suc n - cell 6 t i 1) (i + cell 6 t i 1))
   unfolding segmentsAt siblingsAt
   segments-suc d n i h g =
-      let m = cell 8 t i 1 in
+      let m = cell 6 t i 1 in
       let a : suc n - m ≡ n - (m - 1) = omega arith in
       let b : i + m ≡ i + 1 + (m - 1) = omega arith in
-      rw (a, b, siblings-past t r f (segmentsAt t r f d) n (m - 1) (i + 1) (omega arith))
+      rw (a, b, siblings-past t (segmentsAt t d) n (m - 1) (i + 1) (omega arith))
 
   -- the same for any d and n
   pub segments-more :
-      (d n i : ℕ) → 0 < d → 0 < cell 8 t i 1 → cell 8 t i 1 ≤ n → segmentsAt t r f d n i
-      ≡ followedBy (segmentAt t r f i) (segmentsAt t r f (d - 1) (cell 8 t i 1 - 1) (i + 1))
-      (segmentsAt t r f d (n - cell 8 t i 1) (i + cell 8 t i 1))
+      (d n i : ℕ) → 0 < d → 0 < cell 6 t i 1 → cell 6 t i 1 ≤ n → segmentsAt t d n i
+      ≡ followedBy (segmentAt t i) (segmentsAt t (d - 1) (cell 6 t i 1 - 1) (i + 1))
+      (segmentsAt t d (n - cell 6 t i 1) (i + cell 6 t i 1))
   segments-more zero n i h l m = absurd (omega arith)
   segments-more (suc d) zero i h l m = absurd (omega arith)
   segments-more (suc d) (suc n) i h l m =
@@ -182,44 +181,43 @@ module _ (t : List ℕ) (r : List ℤ) (f : List Float) where
       rw e (segments-suc d n i l m)
 
 -- ---- deeper nesting may be allowed
-module _ (t : List ℕ) (f : List Float) (z y : List ℕ) where
+module _ (t z y : List ℕ) where
   siblings-kept :
       (a b : ℕ → ℕ → Bool) → ((m j : ℕ) → a m j ≡ true → b m j ≡ true) → (n k i : ℕ)
-      → areSiblings t f z y a n k i ≡ true → areSiblings t f z y b n k i ≡ true
+      → areSiblings t z y a n k i ≡ true → areSiblings t z y b n k i ≡ true
   unfolding areSiblings
   siblings-kept a b h zero k i e = e
   siblings-kept a b h (suc n) (suc k) i e = siblings-kept a b h n k (i + 1) e
   siblings-kept a b h (suc n) zero i e =
-      let m = cell 8 t i 1 in
-      let g = isSegment t f z y i && ltb 0 m && leb m (suc n) in
-      let x = both {a = g && a (m - 1) (i + 1)} {b = areSiblings t f z y a n (m - 1) (i + 1)} e in
+      let m = cell 6 t i 1 in
+      let g = isSegment t z y i && ltb 0 m && leb m (suc n) in
+      let x = both {a = g && a (m - 1) (i + 1)} {b = areSiblings t z y a n (m - 1) (i + 1)} e in
       let w = both {a = g} {b = a (m - 1) (i + 1)} (x .0) in
       rw (w .0, h (m - 1) (i + 1) (w .1)) (siblings-kept a b h n (m - 1) (i + 1) (x .1))
 
-  pub are-deeper : (d n i : ℕ) → areSegments t f z y d n i ≡ true → areSegments t f z y (suc d) n i ≡ true
+  pub are-deeper : (d n i : ℕ) → areSegments t z y d n i ≡ true → areSegments t z y (suc d) n i ≡ true
   unfolding areSegments areSiblings
   are-deeper zero zero i e = refl
   are-deeper zero (suc n) i e = absurd (omega (arith, eqb-true (suc n) 0 e))
-  are-deeper (suc d) n i e = siblings-kept (areSegments t f z y d) (areSegments t f z y (suc d)) (are-deeper d) n 0 i e
+  are-deeper (suc d) n i e = siblings-kept (areSegments t z y d) (areSegments t z y (suc d)) (are-deeper d) n 0 i e
 
-  module _ (r : List ℤ) where
-    siblings-same :
-        (a : ℕ → ℕ → Bool) (v w : ℕ → ℕ → Segments Span) → ((m j : ℕ) → a m j ≡ true → v m j ≡ w m j) → (n k i : ℕ)
-        → areSiblings t f z y a n k i ≡ true → siblingsAt t r f v n k i ≡ siblingsAt t r f w n k i
-    unfolding areSiblings siblingsAt
-    siblings-same a v w h zero k i e = refl
-    siblings-same a v w h (suc n) (suc k) i e = siblings-same a v w h n k (i + 1) e
-    siblings-same a v w h (suc n) zero i e =
-        let m = cell 8 t i 1 in
-        let g = isSegment t f z y i && ltb 0 m && leb m (suc n) in
-        let x = both {a = g && a (m - 1) (i + 1)} {b = areSiblings t f z y a n (m - 1) (i + 1)} e in
-        rw (h (m - 1) (i + 1) (both {a = g} {b = a (m - 1) (i + 1)} (x .0) .1), siblings-same a v w h n (m - 1) (i + 1) (x .1))
+  siblings-same :
+      (a : ℕ → ℕ → Bool) (v w : ℕ → ℕ → Segments Span) → ((m j : ℕ) → a m j ≡ true → v m j ≡ w m j) → (n k i : ℕ)
+      → areSiblings t z y a n k i ≡ true → siblingsAt t v n k i ≡ siblingsAt t w n k i
+  unfolding areSiblings siblingsAt
+  siblings-same a v w h zero k i e = refl
+  siblings-same a v w h (suc n) (suc k) i e = siblings-same a v w h n k (i + 1) e
+  siblings-same a v w h (suc n) zero i e =
+      let m = cell 6 t i 1 in
+      let g = isSegment t z y i && ltb 0 m && leb m (suc n) in
+      let x = both {a = g && a (m - 1) (i + 1)} {b = areSiblings t z y a n (m - 1) (i + 1)} e in
+      rw (h (m - 1) (i + 1) (both {a = g} {b = a (m - 1) (i + 1)} (x .0) .1), siblings-same a v w h n (m - 1) (i + 1) (x .1))
 
-    pub segments-deeper : (d n i : ℕ) → areSegments t f z y d n i ≡ true → segmentsAt t r f (suc d) n i ≡ segmentsAt t r f d n i
-    unfolding areSegments segmentsAt areSiblings siblingsAt
-    segments-deeper zero zero i e = refl
-    segments-deeper zero (suc n) i e = absurd (omega (arith, eqb-true (suc n) 0 e))
-    segments-deeper (suc d) n i e = siblings-same (areSegments t f z y d) (segmentsAt t r f (suc d)) (segmentsAt t r f d) (segments-deeper d) n 0 i e
+  pub segments-deeper : (d n i : ℕ) → areSegments t z y d n i ≡ true → segmentsAt t (suc d) n i ≡ segmentsAt t d n i
+  unfolding areSegments segmentsAt areSiblings siblingsAt
+  segments-deeper zero zero i e = refl
+  segments-deeper zero (suc n) i e = absurd (omega (arith, eqb-true (suc n) 0 e))
+  segments-deeper (suc d) n i e = siblings-same (areSegments t z y d) (segmentsAt t (suc d)) (segmentsAt t d) (segments-deeper d) n 0 i e
 
 -- ---- kinds
 -- a number, where those from 1 to 9 are told apart
@@ -249,39 +247,39 @@ number (suc (suc (suc (suc (suc (suc (suc (suc (suc zero))))))))) = nine refl
 number (suc (suc (suc (suc (suc (suc (suc (suc (suc (suc k)))))))))) = other (λ h g. omega arith)
 
 -- the code reads the kind there
-pub kind-at : (t : List ℕ) (i : ℕ) → cell 8 t i 0 ≡ getD t (i * 8) 0
+pub kind-at : (t : List ℕ) (i : ℕ) → cell 6 t i 0 ≡ getD t (i * 6) 0
 unfolding cell
-kind-at t i = let e : i * 8 + 0 ≡ i * 8 = omega arith in rw e
+kind-at t i = let e : i * 6 + 0 ≡ i * 6 = omega arith in rw e
 
 -- what makes row i a segment
-module _ (t : List ℕ) (f : List Float) (z y : List ℕ) (i : ℕ) where
-  pub is-text : getD t (i * 8) 0 ≡ 1 → isSegment t f z y i ≡ (eqb (cell 8 t i 1) 1 && isSpan y (cell 8 t i 2) (cell 8 t i 3))
+module _ (t z y : List ℕ) (i : ℕ) where
+  pub is-text : getD t (i * 6) 0 ≡ 1 → isSegment t z y i ≡ (eqb (cell 6 t i 1) 1 && isSpan y (cell 6 t i 2) (cell 6 t i 3))
   unfolding isSegment
   is-text e = rw (kind-at t i, e)
 
   -- by the number of its rows
-  pub is-long : getD t (i * 8) 0 ≡ 1 → (cell 8 t i 1 ≡ 1 → ⊥) → isSegment t f z y i ≡ false
-  is-long e h = is-text e ∙ rw (ne-eqb (cell 8 t i 1) 1 h)
+  pub is-long : getD t (i * 6) 0 ≡ 1 → (cell 6 t i 1 ≡ 1 → ⊥) → isSegment t z y i ≡ false
+  is-long e h = is-text e ∙ rw (ne-eqb (cell 6 t i 1) 1 h)
 
-  pub is-alone : getD t (i * 8) 0 ≡ 1 → cell 8 t i 1 ≡ 1 → isSegment t f z y i ≡ isSpan y (cell 8 t i 2) (cell 8 t i 3)
+  pub is-alone : getD t (i * 6) 0 ≡ 1 → cell 6 t i 1 ≡ 1 → isSegment t z y i ≡ isSpan y (cell 6 t i 2) (cell 6 t i 3)
   is-alone e h = is-text e ∙ rw h
 
   -- a break or a timestamp
-  pub is-leaf : 2 ≤ getD t (i * 8) 0 → getD t (i * 8) 0 ≤ 3 → isSegment t f z y i ≡ eqb (cell 8 t i 1) 1
+  pub is-leaf : 2 ≤ getD t (i * 6) 0 → getD t (i * 6) 0 ≤ 3 → isSegment t z y i ≡ eqb (cell 6 t i 1) 1
   unfolding isSegment
-  is-leaf h g = go (eqb (getD t (i * 8) 0) 2) refl
+  is-leaf h g = go (eqb (getD t (i * 6) 0) 2) refl
     where
-      go : (b : Bool) → eqb (getD t (i * 8) 0) 2 ≡ b → isSegment t f z y i ≡ eqb (cell 8 t i 1) 1
-      go true e = rw (kind-at t i, eqb-true (getD t (i * 8) 0) 2 e)
+      go : (b : Bool) → eqb (getD t (i * 6) 0) 2 ≡ b → isSegment t z y i ≡ eqb (cell 6 t i 1) 1
+      go true e = rw (kind-at t i, eqb-true (getD t (i * 6) 0) 2 e)
       go false e =
-          let k : getD t (i * 8) 0 ≡ 3 = omega (arith, eqb-false (getD t (i * 8) 0) 2 e) in
+          let k : getD t (i * 6) 0 ≡ 3 = omega (arith, eqb-false (getD t (i * 6) 0) 2 e) in
           rw (kind-at t i, k)
 
   -- bold, italic, underline or strike
-  pub is-plain : 4 ≤ getD t (i * 8) 0 → getD t (i * 8) 0 ≤ 7 → isSegment t f z y i ≡ true
+  pub is-plain : 4 ≤ getD t (i * 6) 0 → getD t (i * 6) 0 ≤ 7 → isSegment t z y i ≡ true
   unfolding isSegment
   is-plain h g =
-      let k = getD t (i * 8) 0 in
+      let k = getD t (i * 6) 0 in
       rw (
         kind-at t i,
         ne-eqb k 1 (λ e. omega arith),
@@ -293,19 +291,19 @@ module _ (t : List ℕ) (f : List Float) (z y : List ℕ) (i : ℕ) where
         le-leb k 7 g,
       )
 
-  pub is-color : getD t (i * 8) 0 ≡ 8 → isSegment t f z y i ≡ areThree t (i * 8 + 2)
+  pub is-color : getD t (i * 6) 0 ≡ 8 → isSegment t z y i ≡ areThree t (i * 6 + 2)
   unfolding isSegment
   is-color e = rw (kind-at t i, e)
 
-  pub is-font : getD t (i * 8) 0 ≡ 9 → isSegment t f z y i ≡ isFont t f z y i
+  pub is-font : getD t (i * 6) 0 ≡ 9 → isSegment t z y i ≡ isFont t z y i
   unfolding isSegment
   is-font e = rw (kind-at t i, e)
 
-  pub is-unknown : (0 < getD t (i * 8) 0 → getD t (i * 8) 0 ≤ 9 → ⊥) → isSegment t f z y i ≡ false
+  pub is-unknown : (0 < getD t (i * 6) 0 → getD t (i * 6) 0 ≤ 9 → ⊥) → isSegment t z y i ≡ false
   unfolding isSegment
-  is-unknown h = go (getD t (i * 8) 0) refl h
+  is-unknown h = go (getD t (i * 6) 0) refl h
     where
-      go : (k : ℕ) → getD t (i * 8) 0 ≡ k → (0 < k → k ≤ 9 → ⊥) → isSegment t f z y i ≡ false
+      go : (k : ℕ) → getD t (i * 6) 0 ≡ k → (0 < k → k ≤ 9 → ⊥) → isSegment t z y i ≡ false
       go zero e h = rw (kind-at t i, e)
       go (suc k) e h =
           let g : 9 < suc k = omega (arith, h (omega arith)) in
@@ -322,91 +320,91 @@ module _ (t : List ℕ) (f : List Float) (z y : List ℕ) (i : ℕ) where
           )
 
   -- so the segment can be read
-  pub readable : isSegment t f z y i ≡ true → getD t (i * 8) 0 ≡ 8 → areThree t (i * 8 + 2) ≡ true
+  pub readable : isSegment t z y i ≡ true → getD t (i * 6) 0 ≡ 8 → areThree t (i * 6 + 2) ≡ true
   readable h e = sym (is-color e) ∙ h
 
 -- which segment it is
-module _ (t : List ℕ) (r : List ℤ) (f : List Float) (i : ℕ) where
-  pub at-text : getD t (i * 8) 0 ≡ 1 → segmentAt t r f i ≡ Segment.Text (span (cell 8 t i 2) (cell 8 t i 3))
+module _ (t : List ℕ) (i : ℕ) where
+  pub at-text : getD t (i * 6) 0 ≡ 1 → segmentAt t i ≡ Segment.Text (span (cell 6 t i 2) (cell 6 t i 3))
   unfolding segmentAt
   at-text e = rw (kind-at t i, e)
 
-  pub at-break : getD t (i * 8) 0 ≡ 2 → segmentAt t r f i ≡ Segment.Break
+  pub at-break : getD t (i * 6) 0 ≡ 2 → segmentAt t i ≡ Segment.Break
   unfolding segmentAt
   at-break e = rw (kind-at t i, e)
 
-  pub at-timestamp : getD t (i * 8) 0 ≡ 3 → segmentAt t r f i ≡ Segment.Timestamp (getD r i (pos 0))
+  pub at-timestamp : getD t (i * 6) 0 ≡ 3 → segmentAt t i ≡ Segment.Timestamp (timeFrom (cell 6 t i 2 + cell 6 t i 3 * 4294967296))
   unfolding segmentAt
   at-timestamp e = rw (kind-at t i, e)
 
-  pub at-bold : getD t (i * 8) 0 ≡ 4 → segmentAt t r f i ≡ Segment.Bold
+  pub at-bold : getD t (i * 6) 0 ≡ 4 → segmentAt t i ≡ Segment.Bold
   unfolding segmentAt
   at-bold e = rw (kind-at t i, e)
 
-  pub at-italic : getD t (i * 8) 0 ≡ 5 → segmentAt t r f i ≡ Segment.Italic
+  pub at-italic : getD t (i * 6) 0 ≡ 5 → segmentAt t i ≡ Segment.Italic
   unfolding segmentAt
   at-italic e = rw (kind-at t i, e)
 
-  pub at-underline : getD t (i * 8) 0 ≡ 6 → segmentAt t r f i ≡ Segment.Underline
+  pub at-underline : getD t (i * 6) 0 ≡ 6 → segmentAt t i ≡ Segment.Underline
   unfolding segmentAt
   at-underline e = rw (kind-at t i, e)
 
-  pub at-strike : getD t (i * 8) 0 ≡ 7 → segmentAt t r f i ≡ Segment.Strike
+  pub at-strike : getD t (i * 6) 0 ≡ 7 → segmentAt t i ≡ Segment.Strike
   unfolding segmentAt
   at-strike e = rw (kind-at t i, e)
 
-  pub at-color : getD t (i * 8) 0 ≡ 8 → segmentAt t r f i ≡ Segment.Color (record { r = cell 8 t i 2; g = cell 8 t i 3; b = cell 8 t i 4 })
+  pub at-color : getD t (i * 6) 0 ≡ 8 → segmentAt t i ≡ Segment.Color (record { r = cell 6 t i 2; g = cell 6 t i 3; b = cell 6 t i 4 })
   unfolding segmentAt
   at-color e = rw (kind-at t i, e)
 
-  pub at-font : getD t (i * 8) 0 ≡ 9 → segmentAt t r f i ≡ Segment.Font (fontAt t r f i)
+  pub at-font : getD t (i * 6) 0 ≡ 9 → segmentAt t i ≡ Segment.Font (fontAt t i)
   unfolding segmentAt
   at-font e = rw (kind-at t i, e)
 
   -- and any kind but the first eight
-  module _ (a : getD t (i * 8) 0 ≡ 1 → ⊥) (b : getD t (i * 8) 0 ≡ 2 → ⊥) (c : getD t (i * 8) 0 ≡ 3 → ⊥) (d : getD t (i * 8) 0 ≡ 4 → ⊥) where
+  module _ (a : getD t (i * 6) 0 ≡ 1 → ⊥) (b : getD t (i * 6) 0 ≡ 2 → ⊥) (c : getD t (i * 6) 0 ≡ 3 → ⊥) (d : getD t (i * 6) 0 ≡ 4 → ⊥) where
     pub at-rest :
-        (getD t (i * 8) 0 ≡ 5 → ⊥) → (getD t (i * 8) 0 ≡ 6 → ⊥) → (getD t (i * 8) 0 ≡ 7 → ⊥) → (getD t (i * 8) 0 ≡ 8 → ⊥)
-        → segmentAt t r f i ≡ Segment.Font (fontAt t r f i)
+        (getD t (i * 6) 0 ≡ 5 → ⊥) → (getD t (i * 6) 0 ≡ 6 → ⊥) → (getD t (i * 6) 0 ≡ 7 → ⊥) → (getD t (i * 6) 0 ≡ 8 → ⊥)
+        → segmentAt t i ≡ Segment.Font (fontAt t i)
     unfolding segmentAt
     at-rest e g h l =
-        let k = getD t (i * 8) 0 in
+        let k = getD t (i * 6) 0 in
         rw (kind-at t i, ne-eqb k 1 a, ne-eqb k 2 b, ne-eqb k 3 c, ne-eqb k 4 d, ne-eqb k 5 e, ne-eqb k 6 g, ne-eqb k 7 h, ne-eqb k 8 l)
 
 -- a segment's row, by its kind: what its cells say, and which segment it is
-pub data Kind (t : List ℕ) (r : List ℤ) (f : List Float) (z y : List ℕ) (i : ℕ) : Type 0 where
-  text : getD t (i * 8) 0 ≡ 1 → cell 8 t i 1 ≡ 1 → isSpan y (cell 8 t i 2) (cell 8 t i 3) ≡ true
-      → segmentAt t r f i ≡ Segment.Text (span (cell 8 t i 2) (cell 8 t i 3)) → Kind t r f z y i
-  break : getD t (i * 8) 0 ≡ 2 → cell 8 t i 1 ≡ 1 → segmentAt t r f i ≡ Segment.Break → Kind t r f z y i
-  timestamp : getD t (i * 8) 0 ≡ 3 → cell 8 t i 1 ≡ 1 → segmentAt t r f i ≡ Segment.Timestamp (getD r i (pos 0)) → Kind t r f z y i
-  bold : getD t (i * 8) 0 ≡ 4 → segmentAt t r f i ≡ Segment.Bold → Kind t r f z y i
-  italic : getD t (i * 8) 0 ≡ 5 → segmentAt t r f i ≡ Segment.Italic → Kind t r f z y i
-  underline : getD t (i * 8) 0 ≡ 6 → segmentAt t r f i ≡ Segment.Underline → Kind t r f z y i
-  strike : getD t (i * 8) 0 ≡ 7 → segmentAt t r f i ≡ Segment.Strike → Kind t r f z y i
-  color : getD t (i * 8) 0 ≡ 8 → areThree t (i * 8 + 2) ≡ true
-      → segmentAt t r f i ≡ Segment.Color (record { r = cell 8 t i 2; g = cell 8 t i 3; b = cell 8 t i 4 }) → Kind t r f z y i
-  font : getD t (i * 8) 0 ≡ 9 → isOptional z (cell 8 t i 2) (cell 8 t i 3) (cell 8 t i 4) ≡ true
-      → isSizeAt (cell 8 t i 5) (cell 8 t i 6) (cell 8 t i 7) (sizeCell f i) ≡ true
-      → segmentAt t r f i ≡ Segment.Font (fontAt t r f i) → Kind t r f z y i
+pub data Kind (t z y : List ℕ) (i : ℕ) : Type 0 where
+  text : getD t (i * 6) 0 ≡ 1 → cell 6 t i 1 ≡ 1 → isSpan y (cell 6 t i 2) (cell 6 t i 3) ≡ true
+      → segmentAt t i ≡ Segment.Text (span (cell 6 t i 2) (cell 6 t i 3)) → Kind t z y i
+  break : getD t (i * 6) 0 ≡ 2 → cell 6 t i 1 ≡ 1 → segmentAt t i ≡ Segment.Break → Kind t z y i
+  timestamp : getD t (i * 6) 0 ≡ 3 → cell 6 t i 1 ≡ 1
+      → segmentAt t i ≡ Segment.Timestamp (timeFrom (cell 6 t i 2 + cell 6 t i 3 * 4294967296)) → Kind t z y i
+  bold : getD t (i * 6) 0 ≡ 4 → segmentAt t i ≡ Segment.Bold → Kind t z y i
+  italic : getD t (i * 6) 0 ≡ 5 → segmentAt t i ≡ Segment.Italic → Kind t z y i
+  underline : getD t (i * 6) 0 ≡ 6 → segmentAt t i ≡ Segment.Underline → Kind t z y i
+  strike : getD t (i * 6) 0 ≡ 7 → segmentAt t i ≡ Segment.Strike → Kind t z y i
+  color : getD t (i * 6) 0 ≡ 8 → areThree t (i * 6 + 2) ≡ true
+      → segmentAt t i ≡ Segment.Color (record { r = cell 6 t i 2; g = cell 6 t i 3; b = cell 6 t i 4 }) → Kind t z y i
+  font : getD t (i * 6) 0 ≡ 9 → isOptional z (familyMark (cell 6 t i 4)) (cell 6 t i 2) (cell 6 t i 3) ≡ true
+      → isMarked (cell 6 t i 4) (cell 6 t i 5) ≡ true → segmentAt t i ≡ Segment.Font (fontAt t i) → Kind t z y i
 
-module _ (t : List ℕ) (r : List ℤ) (f : List Float) (z y : List ℕ) (i : ℕ) (h : isSegment t f z y i ≡ true) where
-  pub kind : Kind t r f z y i
+module _ (t z y : List ℕ) (i : ℕ) (h : isSegment t z y i ≡ true) where
+  pub kind : Kind t z y i
   unfolding isFont
-  kind = go (number (getD t (i * 8) 0))
+  kind = go (number (getD t (i * 6) 0))
     where
-      go : Number (getD t (i * 8) 0) → Kind t r f z y i
-      go (one e) = let d = both {a = eqb (cell 8 t i 1) 1} (sym (is-text t f z y i e) ∙ h) in text e (eqb-true _ 1 (d .0)) (d .1) (at-text t r f i e)
-      go (two e) = break e (eqb-true _ 1 (sym (is-leaf t f z y i (omega arith) (omega arith)) ∙ h)) (at-break t r f i e)
-      go (three e) = timestamp e (eqb-true _ 1 (sym (is-leaf t f z y i (omega arith) (omega arith)) ∙ h)) (at-timestamp t r f i e)
-      go (four e) = bold e (at-bold t r f i e)
-      go (five e) = italic e (at-italic t r f i e)
-      go (six e) = underline e (at-underline t r f i e)
-      go (seven e) = strike e (at-strike t r f i e)
-      go (eight e) = color e (sym (is-color t f z y i e) ∙ h) (at-color t r f i e)
+      go : Number (getD t (i * 6) 0) → Kind t z y i
+      go (one e) = let d = both {a = eqb (cell 6 t i 1) 1} (sym (is-text t z y i e) ∙ h) in text e (eqb-true _ 1 (d .0)) (d .1) (at-text t i e)
+      go (two e) = break e (eqb-true _ 1 (sym (is-leaf t z y i (omega arith) (omega arith)) ∙ h)) (at-break t i e)
+      go (three e) = timestamp e (eqb-true _ 1 (sym (is-leaf t z y i (omega arith) (omega arith)) ∙ h)) (at-timestamp t i e)
+      go (four e) = bold e (at-bold t i e)
+      go (five e) = italic e (at-italic t i e)
+      go (six e) = underline e (at-underline t i e)
+      go (seven e) = strike e (at-strike t i e)
+      go (eight e) = color e (sym (is-color t z y i e) ∙ h) (at-color t i e)
       go (nine e) =
-          let d = both {a = isOptional z (cell 8 t i 2) (cell 8 t i 3) (cell 8 t i 4)} (sym (is-font t f z y i e) ∙ h) in
-          font e (d .0) (d .1) (at-font t r f i e)
-      go (other n) = no (sym h ∙ is-unknown t f z y i n)
+          let d = both {a = isOptional z (familyMark (cell 6 t i 4)) (cell 6 t i 2) (cell 6 t i 3)} (sym (is-font t z y i e) ∙ h) in
+          font e (d .0) (d .1) (at-font t i e)
+      go (other n) = no (sym h ∙ is-unknown t z y i n)
 
 -- what holds of a segment that has m rows; z are the used strings, y the used texts
 abbrev pub Holds : List ℕ → List ℕ → ℕ → Segment → Type 0
@@ -425,18 +423,13 @@ optional-span : (z : List ℕ) (c p n : ℕ) → isOptional z c p n ≡ true →
 unfolding isOptional
 optional-span z c p n h e = rw (eqb-true c 1 e) at h
 
-size-there :
-    (s d c : ℕ) (v : Float) → isSizeAt s d c v ≡ true → not (eqb s 0) ≡ true → isSize (sizeAt s d c v) ≡ true
-unfolding isSizeAt sizeAt
-size-there s d c v h e = rw (not-true (eqb s 0) e) (both {a = leb s 2} (rw (not-true (eqb s 0) e) at h) .1)
-
-pub color-bytes : (t : List ℕ) (i : ℕ) → areThree t (i * 8 + 2) ≡ true → (cell 8 t i 2 < 256) × (cell 8 t i 3 < 256) × (cell 8 t i 4 < 256)
+pub color-bytes : (t : List ℕ) (i : ℕ) → areThree t (i * 6 + 2) ≡ true → (cell 6 t i 2 < 256) × (cell 6 t i 3 < 256) × (cell 6 t i 4 < 256)
 unfolding cell areThree
 color-bytes t i h =
-    let a : i * 8 + 2 + 1 ≡ i * 8 + 3 = omega arith in
-    let b : i * 8 + 2 + 2 ≡ i * 8 + 4 = omega arith in
-    let d = both {b = ltb (getD t (i * 8 + 4) 0) 256} (rw (a, b) at h) in
-    let e = both {a = ltb (getD t (i * 8 + 2) 0) 256} (d .0) in
+    let a : i * 6 + 2 + 1 ≡ i * 6 + 3 = omega arith in
+    let b : i * 6 + 2 + 2 ≡ i * 6 + 4 = omega arith in
+    let d = both {b = ltb (getD t (i * 6 + 4) 0) 256} (rw (a, b) at h) in
+    let e = both {a = ltb (getD t (i * 6 + 2) 0) 256} (d .0) in
     (ltb-true _ 256 (e .0), ltb-true _ 256 (e .1), ltb-true _ 256 (d .1))
 
 -- its string is the one that its cells say
@@ -446,12 +439,11 @@ optional-there :
 unfolding optional
 optional-there z c p n h e = rw e (optional-span z c p n h e)
 
-pub segment-holds :
-    (t : List ℕ) (r : List ℤ) (f : List Float) (z y : List ℕ) (i : ℕ) → isSegment t f z y i ≡ true → Holds z y (cell 8 t i 1) (segmentAt t r f i)
+pub segment-holds : (t z y : List ℕ) (i : ℕ) → isSegment t z y i ≡ true → Holds z y (cell 6 t i 1) (segmentAt t i)
 unfolding cell fontAt
-segment-holds t r f z y i h = go (kind t r f z y i h)
+segment-holds t z y i h = go (kind t z y i h)
   where
-    go : Kind t r f z y i → Holds z y (cell 8 t i 1) (segmentAt t r f i)
+    go : Kind t z y i → Holds z y (cell 6 t i 1) (segmentAt t i)
     go (text e m s q) = rw q (m, s)
     go (break e m q) = rw q m
     go (timestamp e m q) = rw q m
@@ -460,18 +452,18 @@ segment-holds t r f z y i h = go (kind t r f z y i h)
     go (underline e q) = rw q tt
     go (strike e q) = rw q tt
     go (color e s q) = rw q (color-bytes t i s)
-    go (font e a s q) = rw q (optional-there z _ _ _ a, size-there _ _ _ _ s)
+    go (font e a s q) = rw q (optional-there z _ _ _ a, marked-size _ _ s)
 
 -- a text, a break and a timestamp have no children
 pub childless :
-    (t : List ℕ) (r : List ℤ) (f : List Float) (i : ℕ) → 0 < getD t (i * 8) 0 → getD t (i * 8) 0 ≤ 3 → (a b x : Segments Span)
-    → followedBy (segmentAt t r f i) a x ≡ followedBy (segmentAt t r f i) b x
-childless t r f i h g a b x = go (number (getD t (i * 8) 0))
+    (t : List ℕ) (i : ℕ) → 0 < getD t (i * 6) 0 → getD t (i * 6) 0 ≤ 3 → (a b x : Segments Span)
+    → followedBy (segmentAt t i) a x ≡ followedBy (segmentAt t i) b x
+childless t i h g a b x = go (number (getD t (i * 6) 0))
   where
-    go : Number (getD t (i * 8) 0) → followedBy (segmentAt t r f i) a x ≡ followedBy (segmentAt t r f i) b x
-    go (one e) = rw (at-text t r f i e)
-    go (two e) = rw (at-break t r f i e)
-    go (three e) = rw (at-timestamp t r f i e)
+    go : Number (getD t (i * 6) 0) → followedBy (segmentAt t i) a x ≡ followedBy (segmentAt t i) b x
+    go (one e) = rw (at-text t i e)
+    go (two e) = rw (at-break t i e)
+    go (three e) = rw (at-timestamp t i e)
     go (four e) = absurd (omega arith)
     go (five e) = absurd (omega arith)
     go (six e) = absurd (omega arith)

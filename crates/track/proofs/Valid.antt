@@ -11,8 +11,6 @@ use mathlib.Core.Option.{Option, none, some}
 use native.Mathlib.Omega.{arith}
 use lib.ListN.{getD, take}
 use lib.Dec.{eqb, leb, ltb}
-use lib.IntN.{ℤ}
-use lib.Ieee.{Float}
 use borrow.Author.Tests.{eqb-true}
 use Rattle.scan.specs.Part.{stringAt}
 use Rattle.unicode.specs.Utf8.{Utf8}
@@ -166,36 +164,29 @@ module _ (T : Tables) (u : ℕ) (h : isUtf8 (take u (T .strings)) ≡ true) wher
     abbrev t : List ℕ
     t = T .segments
 
-    abbrev r : List ℤ
-    r = T .reveal
-
-    abbrev f : List Float
-    f = T .sizes
-
     siblings-utf8 : (kids : ℕ → ℕ → Bool) (ks : ℕ → ℕ → Segments Span) → ((m j : ℕ) → kids m j ≡ true → Good (ks m j)) → (n k i : ℕ)
-        → areSiblings t f (take u s) (take v x) kids n k i ≡ true → Good (siblingsAt t r f ks n k i)
+        → areSiblings t (take u s) (take v x) kids n k i ≡ true → Good (siblingsAt t ks n k i)
     unfolding areSiblings siblingsAt shownSegments
     siblings-utf8 kids ks w zero k i e = tt
     siblings-utf8 kids ks w (suc n) (suc k) i e = siblings-utf8 kids ks w n k (i + 1) e
     siblings-utf8 kids ks w (suc n) zero i e =
-        let m = cell 8 t i 1 in
-        let a = both {a = isSegment t f (take u s) (take v x) i && ltb 0 m && leb m (suc n) && kids (m - 1) (i + 1)}
-        {b = areSiblings t f (take u s) (take v x) kids n (m - 1) (i + 1)} e in
-        let b = four (isSegment t f (take u s) (take v x) i) (ltb 0 m) (leb m (suc n)) (kids (m - 1) (i + 1)) (a .0) in
-        followed-utf8 (segmentAt t r f i) m (segment-holds t r f (take u s) (take v x) i (b .0)) (ks (m - 1) (i + 1))
-        (siblingsAt t r f ks n (m - 1) (i + 1))
+        let m = cell 6 t i 1 in
+        let a = both {a = isSegment t (take u s) (take v x) i && ltb 0 m && leb m (suc n) && kids (m - 1) (i + 1)}
+        {b = areSiblings t (take u s) (take v x) kids n (m - 1) (i + 1)} e in
+        let b = four (isSegment t (take u s) (take v x) i) (ltb 0 m) (leb m (suc n)) (kids (m - 1) (i + 1)) (a .0) in
+        followed-utf8 (segmentAt t i) m (segment-holds t (take u s) (take v x) i (b .0)) (ks (m - 1) (i + 1)) (siblingsAt t ks n (m - 1) (i + 1))
         (w (m - 1) (i + 1) (b .3)) (siblings-utf8 kids ks w n (m - 1) (i + 1) (a .1))
 
-    pub segments-utf8 : (d n i : ℕ) → areSegments t f (take u s) (take v x) d n i ≡ true → Good (segmentsAt t r f d n i)
+    pub segments-utf8 : (d n i : ℕ) → areSegments t (take u s) (take v x) d n i ≡ true → Good (segmentsAt t d n i)
     unfolding areSegments segmentsAt shownSegments
     segments-utf8 zero n i e = tt
-    segments-utf8 (suc d) n i e = siblings-utf8 (areSegments t f (take u s) (take v x) d) (segmentsAt t r f d) (segments-utf8 d) n 0 i e
+    segments-utf8 (suc d) n i e = siblings-utf8 (areSegments t (take u s) (take v x) d) (segmentsAt t d) (segments-utf8 d) n 0 i e
 
-    pub cue-utf8 : (most i : ℕ) → isCue (T .cues) (T .extras) t f (take u s) (take v x) most (cell 11 (T .cues) i 7) i ≡ true → OfCue Utf8 (cueIn T i)
+    pub cue-utf8 : (most i : ℕ) → isCue (T .cues) (T .extras) t (take u s) (take v x) most (cell 11 (T .cues) i 7) i ≡ true → OfCue Utf8 (cueIn T i)
     unfolding cueAt cueIn
     cue-utf8 most i e =
         let c : ℕ → ℕ = cell 11 (T .cues) i in
-        let a = cue-parts (T .cues) (T .extras) t f (take u s) (take v x) most (c 7) i e in (
+        let a = cue-parts (T .cues) (T .extras) t (take u s) (take v x) most (c 7) i e in (
           optional-ok (c 0) (c 1) (c 2) (a .style),
           optional-ok (c 3) (c 4) (c 5) (a .region),
           extras-ok 47 (c 9) (c 10) (a .extras),

@@ -1,15 +1,16 @@
 -- How a track stands in its tables: every cell. Definitions alone.
 -- A placed track has rows by value, each string by its place and length in `strings` or `texts`.
-use Prim.Native.Nat.{ℕ, _+_, _-_, _*_}
+use Prim.Native.Nat.{ℕ, _+_, _-_, _*_, _/_, _%_}
 use mathlib.Core.Bool.{Bool, true, false, cond}
 use mathlib.Core.List.{List, [], _∷_, _++_}
 use mathlib.Core.Option.{Option, none, some}
 use lib.ListN.{length, replicate}
 use lib.Seq.{sets}
-use lib.IntN.{ℤ, pos}
+use lib.IntN.{ℤ, pos, negsuc}
 use lib.Ieee.{Float}
 use Rattle.colors.specs.declared.read.Rgba.{Rgba}
 use Rattle.decimals.specs.declared.size.Size.{Size}
+use Rattle.decimals.specs.Size.{spelledBits}
 use Rattle.track.specs.declared.strings.Span.{Span}
 use Rattle.track.specs.declared.segments.Font.{Font}
 use Rattle.track.specs.declared.segments.Segment.{Segment}
@@ -85,44 +86,38 @@ cueCells x =
     ++ (flag (x .preserve) ∷ rowsCells (x .segments)) ++ rowsCells (x .extras)
 
 -- ---- cells of a segment that has n rows
+-- the 64 bits of an i64, two's complement; the low half, then the high one
+unfoldable pub timeBits : ℤ → ℕ
+timeBits (pos n) = n
+timeBits (negsuc n) = 18446744073709551615 - n
+
+abbrev pub halves : ℕ → List ℕ
+halves b = b % 4294967296 ∷ b / 4294967296 ∷ []
+
+-- The sign of a size, its scale and its digits as bits. A size has at most six digits and a scale of at most 10, so that none is cut.
+unfoldable pub sizeMarks : Bool → Size → ℕ
+sizeMarks b s = cond b (cond (s .negative) 2 1 * 2 + s .scale % 16 * 8 + s .digits % 33554432 * 128) 0
+
+unfoldable pub sizeBits : Bool → Size → ℕ
+sizeBits b s = cond b (spelledBits (s .negative) (s .digits) (s .scale)) 0
+
 unfoldable pub fontCells : Font → List ℕ
-unfolding sizeCells
-fontCells x = optionalCells (x .«has_family») (x .family) ++ sizeCells (x .«has_size») (x .size)
+unfolding sizeMarks sizeBits
+fontCells x =
+    cond (x .«has_family») (spanCells (x .family)) (0 ∷ 0 ∷ [])
+    ++ ((flag (x .«has_family») + sizeMarks (x .«has_size») (x .size)) ∷ sizeBits (x .«has_size») (x .size) ∷ [])
 
 unfoldable pub segmentCells : Segment → ℕ → List ℕ
-unfolding fontCells
-segmentCells (Segment.Text s) n = 1 ∷ n ∷ s .place ∷ s .len ∷ 0 ∷ 0 ∷ 0 ∷ 0 ∷ []
-segmentCells Segment.Break n = 2 ∷ n ∷ 0 ∷ 0 ∷ 0 ∷ 0 ∷ 0 ∷ 0 ∷ []
-segmentCells (Segment.Timestamp t) n = 3 ∷ n ∷ 0 ∷ 0 ∷ 0 ∷ 0 ∷ 0 ∷ 0 ∷ []
-segmentCells Segment.Bold n = 4 ∷ n ∷ 0 ∷ 0 ∷ 0 ∷ 0 ∷ 0 ∷ 0 ∷ []
-segmentCells Segment.Italic n = 5 ∷ n ∷ 0 ∷ 0 ∷ 0 ∷ 0 ∷ 0 ∷ 0 ∷ []
-segmentCells Segment.Underline n = 6 ∷ n ∷ 0 ∷ 0 ∷ 0 ∷ 0 ∷ 0 ∷ 0 ∷ []
-segmentCells Segment.Strike n = 7 ∷ n ∷ 0 ∷ 0 ∷ 0 ∷ 0 ∷ 0 ∷ 0 ∷ []
-segmentCells (Segment.Color c) n = 8 ∷ n ∷ c .r ∷ c .g ∷ c .b ∷ 0 ∷ 0 ∷ 0 ∷ []
+unfolding timeBits fontCells
+segmentCells (Segment.Text s) n = 1 ∷ n ∷ s .place ∷ s .len ∷ 0 ∷ 0 ∷ []
+segmentCells Segment.Break n = 2 ∷ n ∷ 0 ∷ 0 ∷ 0 ∷ 0 ∷ []
+segmentCells (Segment.Timestamp t) n = 3 ∷ n ∷ (halves (timeBits t) ++ (0 ∷ 0 ∷ []))
+segmentCells Segment.Bold n = 4 ∷ n ∷ 0 ∷ 0 ∷ 0 ∷ 0 ∷ []
+segmentCells Segment.Italic n = 5 ∷ n ∷ 0 ∷ 0 ∷ 0 ∷ 0 ∷ []
+segmentCells Segment.Underline n = 6 ∷ n ∷ 0 ∷ 0 ∷ 0 ∷ 0 ∷ []
+segmentCells Segment.Strike n = 7 ∷ n ∷ 0 ∷ 0 ∷ 0 ∷ 0 ∷ []
+segmentCells (Segment.Color c) n = 8 ∷ n ∷ c .r ∷ c .g ∷ c .b ∷ 0 ∷ []
 segmentCells (Segment.Font x) n = 9 ∷ n ∷ fontCells x
-
--- its cells of `reveal` and `sizes`
-unfoldable pub segmentTime : Segment → ℤ
-segmentTime (Segment.Text s) = pos 0
-segmentTime Segment.Break = pos 0
-segmentTime (Segment.Timestamp t) = t
-segmentTime Segment.Bold = pos 0
-segmentTime Segment.Italic = pos 0
-segmentTime Segment.Underline = pos 0
-segmentTime Segment.Strike = pos 0
-segmentTime (Segment.Color c) = pos 0
-segmentTime (Segment.Font x) = pos 0
-
-unfoldable pub segmentSize : Segment → Float
-segmentSize (Segment.Text s) = zeroFloat
-segmentSize Segment.Break = zeroFloat
-segmentSize (Segment.Timestamp t) = zeroFloat
-segmentSize Segment.Bold = zeroFloat
-segmentSize Segment.Italic = zeroFloat
-segmentSize Segment.Underline = zeroFloat
-segmentSize Segment.Strike = zeroFloat
-segmentSize (Segment.Color c) = zeroFloat
-segmentSize (Segment.Font x) = sizeValue (x .«has_size») (x .size)
 
 -- ---- segments in preorder
 abbrev pub isSome : {A : Type 0} → Option A → Bool
@@ -247,7 +242,7 @@ headCells k u v =
 
 -- the tables, so long each; z and y are the byte tables, of which u and v bytes are used
 unfoldable pub layout : Lengths → Placed → (z y : List ℕ) (u v : ℕ) → Tables
-unfolding joinedCells each allSegments headCells paramCells styleCells regionCells cueCells segmentCells segmentTime segmentSize styleExtras
+unfolding joinedCells each allSegments headCells paramCells styleCells regionCells cueCells segmentCells styleExtras
     regionExtras cueExtras
 layout n k z y u v =
     let g = allSegments (k .cues) in
@@ -259,8 +254,7 @@ layout n k z y u v =
       cues = filled (n .cues) (joinedCells (λ x. cueCells (x .cue)) (k .cues));
       times = filledTimes (n .times) (cueTimes (k .cues));
       segments = filled (n .segments) (joinedCells (λ x. segmentCells (x .segment) (x .rows)) g);
-      reveal = filledTimes (n .reveal) (each (λ x. segmentTime (x .segment)) g);
-      sizes = filledSizes 16384 (each (λ x. segmentSize (x .segment)) g) ++ filledSizes (n .sizes - 16384) (each styleSize (k .styles));
+      sizes = filledSizes (n .sizes) (each styleSize (k .styles));
       extras = cueExtras (regionExtras (styleExtras (replicate (n .extras) 0) (k .styles)) (k .regions)) (k .cues);
       strings = z;
       texts = y;

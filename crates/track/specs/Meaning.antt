@@ -10,11 +10,12 @@ use Rattle.scan.specs.Part.{stringAt}
 use Rattle.scan.specs.Bytes.{attrNameByte}
 use Rattle.scan.specs.Every.{every}
 use Rattle.unicode.specs.Utf8.{boundary, utf8End}
-use Rattle.decimals.specs.Size.{isSize}
+use Rattle.decimals.specs.Size.{isSize, isSpelling, spelledBits}
 use Rattle.track.specs.declared.values.Extra.{Extra}
 use Rattle.track.specs.declared.values.Rows.{Rows}
 use Rattle.track.specs.Track.{Bytes, Style, Region, Cue, Track}
 use Rattle.track.specs.Tables.{Tables, cell, span, rowsFrom, sizeCell, extraAt, paramAt, styleAt, regionAt, segmentsAt, cueAt}
+use Rattle.track.specs.Tables.{familyMark, signMark, scaleMark, digitsMark}
 use Rattle.track.specs.Tables.{paramCount, styleCount, regionCount, cueCount, segmentCount, stringsUsed, textsUsed}
 use Rattle.track.specs.Layout.{Placed, PlacedStyle, PlacedRegion, PlacedCue}
 use Rattle.track.specs.Shown.{shownStyle, shownRegion, shownCue, shown}
@@ -50,6 +51,13 @@ isColor t i = eqb (getD t i 0) 0 || eqb (getD t i 0) 1 && areThree t (i + 1) && 
 unfoldable pub isSizeAt : ℕ → ℕ → ℕ → Float → Bool
 isSizeAt sign digits scale value =
     eqb sign 0 || leb sign 2 && isSize (record { value = value; negative = eqb sign 2; digits = digits; scale = scale })
+
+-- the same of a font's marks, with the bits of the f32
+unfoldable pub isMarked : (marks bits : ℕ) → Bool
+unfolding spelledBits
+isMarked m bits =
+    eqb (signMark m) 0
+    || leb (signMark m) 2 && isSpelling (digitsMark m) (scaleMark m) && eqb bits (spelledBits (eqb (signMark m) 2) (digitsMark m) (scaleMark m))
 
 -- ---- extras: names of a list of `most`, in its order, none twice: each number is at least `least`
 unfoldable pub isExtra : List ℕ → List ℕ → (most least i : ℕ) → Bool
@@ -94,7 +102,7 @@ styleFlags t i =
 unfoldable pub isStyle : (styles : List ℕ) (sizes : List Float) (extras strings : List ℕ) → ℕ → Bool
 unfolding styleStrings styleValues styleFlags hasExtras
 isStyle t f e z i =
-    styleStrings t z (i * 27) && styleValues t (sizeCell f (16384 + i)) (i * 27) && styleFlags t (i * 27)
+    styleStrings t z (i * 27) && styleValues t (sizeCell f i) (i * 27) && styleFlags t (i * 27)
     && hasExtras e z 46 (getD t (i * 27 + 25) 0) (getD t (i * 27 + 26) 0)
 
 unfoldable pub isRegion : (regions extras strings : List ℕ) → ℕ → Bool
@@ -102,22 +110,22 @@ unfolding cell isSpan hasExtras
 isRegion t e z i = isSpan z (cell 4 t i 0) (cell 4 t i 1) && hasExtras e z 53 (cell 4 t i 2) (cell 4 t i 3)
 
 -- ---- segments; z are the used strings, y the used texts
-module _ (t : List ℕ) (f : List Float) (z y : List ℕ) where
+module _ (t z y : List ℕ) where
   unfoldable pub isFont : ℕ → Bool
-  unfolding cell isOptional isSizeAt
+  unfolding cell isOptional isMarked
   isFont i =
-      let c = cell 8 t i in
-      isOptional z (c 2) (c 3) (c 4) && isSizeAt (c 5) (c 6) (c 7) (sizeCell f i)
+      let c = cell 6 t i in
+      isOptional z (familyMark (c 4)) (c 2) (c 3) && isMarked (c 4) (c 5)
 
   -- row i by itself: a known kind with its data; a text, break or timestamp has no rows but its own
   unfoldable pub isSegment : ℕ → Bool
   unfolding cell isSpan areThree isFont
   isSegment i =
-      let c = cell 8 t i in
+      let c = cell 6 t i in
       cond (eqb (c 0) 1) (eqb (c 1) 1 && isSpan y (c 2) (c 3))
       (cond (eqb (c 0) 2) (eqb (c 1) 1)
       (cond (eqb (c 0) 3) (eqb (c 1) 1)
-      (cond (eqb (c 0) 8) (areThree t (i * 8 + 2))
+      (cond (eqb (c 0) 8) (areThree t (i * 6 + 2))
       (cond (eqb (c 0) 9) (isFont i)
       (leb 4 (c 0) && leb (c 0) 7)))))
 
@@ -128,7 +136,7 @@ module _ (t : List ℕ) (f : List Float) (z y : List ℕ) where
   areSiblings kids zero k i = eqb k 0
   areSiblings kids (suc n) (suc k) i = areSiblings kids n k (i + 1)
   areSiblings kids (suc n) zero i =
-      let m = cell 8 t i 1 in
+      let m = cell 6 t i 1 in
       isSegment i && ltb 0 m && leb m (suc n) && kids (m - 1) (i + 1) && areSiblings kids n (m - 1) (i + 1)
 
   -- the same, nested at most d
@@ -145,13 +153,13 @@ cueValues t e z i =
     let c = cell 11 t i in
     isOptional z (c 0) (c 1) (c 2) && isOptional z (c 3) (c 4) (c 5) && isFlag (c 6) && hasExtras e z 47 (c 9) (c 10)
 
-module _ (t e g : List ℕ) (f : List Float) (z y : List ℕ) (most : ℕ) where
+module _ (t e g z y : List ℕ) (most : ℕ) where
   -- a cue whose segments begin at row `from`, where there are `most` in all; t are the cues, e the extras, g the segments
   unfoldable pub isCue : (from i : ℕ) → Bool
   unfolding cell cueValues areSegments
   isCue from i =
       let c = cell 11 t i in
-      cueValues t e z i && eqb (c 7) from && leb (from + c 8) most && areSegments g f z y 512 (c 8) from
+      cueValues t e z i && eqb (c 7) from && leb (from + c 8) most && areSegments g z y 512 (c 8) from
 
   -- n cues from row i on, the segments of each standing after those of the one before, and none after the last
   unfoldable pub areCues : (from n i : ℕ) → Bool
@@ -193,7 +201,7 @@ isTrack T =
     let z = take (stringsUsed t) (T .strings) in
     let y = take (textsUsed t) (T .texts) in
     withinLimits t && bytesMean t z y && rowsMean t (T .params) (T .styles) (T .regions) (T .sizes) (T .extras) z
-    && areCues (T .cues) (T .extras) (T .segments) (T .sizes) z y (segmentCount t) 0 (cueCount t) 0
+    && areCues (T .cues) (T .extras) (T .segments) z y (segmentCount t) 0 (cueCount t) 0
 
 -- ---- the track
 -- the placed track: what the rows say
@@ -216,7 +224,7 @@ module _ (T : Tables) where
       record {
         cue = x;
         extras = extrasAt (x .extras);
-        segments = segmentsAt (T .segments) (T .reveal) (T .sizes) 512 (x .segments .count) (x .segments .first);
+        segments = segmentsAt (T .segments) 512 (x .segments .count) (x .segments .first);
       }
 
   unfoldable pub placedIn : Placed

@@ -6,6 +6,7 @@ use mathlib.Core.List.{List, [], _∷_, _++_}
 use mathlib.Core.Logic.{_⊎_}
 use mathlib.Core.Option.{Option, none, some}
 use lib.ListN.{length, take}
+use lib.IntN.{ℤ, pos, negsuc}
 use Rattle.scan.specs.Part.{stringAt}
 use Rattle.scan.specs.Bytes.{attrNameByte}
 use Rattle.scan.specs.Every.{every}
@@ -92,11 +93,16 @@ WrapperFits z track.strike = Unit {0}
 WrapperFits z (track.color c) = (c .r < 256) × (c .g < 256) × (c .b < 256)
 WrapperFits z (track.font a s) = FamilyFits z a × SizeFits s
 
+-- a time is an i64
+abbrev pub TimeFits : ℤ → Type 0
+TimeFits (pos n) = n < 9223372036854775808
+TimeFits (negsuc n) = n < 9223372036854775808
+
 abbrev pub SegmentsFit : (z y : List ℕ) → Segments Span → Type 0
 SegmentsFit z y track.done = Unit {0}
 SegmentsFit z y (track.text s x) = Within y s × SegmentsFit z y x
 SegmentsFit z y (track.break x) = SegmentsFit z y x
-SegmentsFit z y (track.timestamp t x) = SegmentsFit z y x
+SegmentsFit z y (track.timestamp t x) = TimeFits t × SegmentsFit z y x
 SegmentsFit z y (track.wrap w c x) = WrapperFits z w × SegmentsFit z y c × SegmentsFit z y x
 
 pub record CueFits (z y : List ℕ) (x : PlacedCue) : Type 0 where

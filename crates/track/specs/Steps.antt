@@ -13,17 +13,17 @@ refusedAs n = Check.Refused (record { number = n; place = 0 })
 
 -- "1. A lent table is shorter than its fixed length."
 unfoldable pub rowsFull : (head params styles regions cues segments extras : ℕ) → Bool
-rowsFull h p s r c g e = leb 10 h && leb 256 p && leb 6912 s && leb 1024 r && leb 22528 c && leb 131072 g && leb 24576 e
+rowsFull h p s r c g e = leb 10 h && leb 256 p && leb 6912 s && leb 1024 r && leb 22528 c && leb 98304 g && leb 24576 e
 
-unfoldable pub restFull : (times reveal sizes strings texts : ℕ) → Bool
-restFull t r f z y = leb 4096 t && leb 16384 r && leb 16640 f && leb 65536 z && leb 65536 y
+unfoldable pub restFull : (times sizes strings texts : ℕ) → Bool
+restFull t f z y = leb 4096 t && leb 256 f && leb 65536 z && leb 65536 y
 
 unfoldable pub isFull : Tables → Bool
 unfolding rowsFull restFull
 isFull T =
     rowsFull (length (T .head)) (length (T .params)) (length (T .styles)) (length (T .regions)) (length (T .cues)) (length (T .segments))
     (length (T .extras))
-    && restFull (length (T .times)) (length (T .reveal)) (length (T .sizes)) (length (T .strings)) (length (T .texts))
+    && restFull (length (T .times)) (length (T .sizes)) (length (T .strings)) (length (T .texts))
 
 -- 17 comes after 1
 unfoldable pub checkOf : Tables → Check

@@ -1,15 +1,16 @@
 -- The tables that hold a track, and what their cells say (docs/TABLES.md has the same for callers). Whether the cells say anything is
 -- `Meaning`. Definitions alone.
-use Prim.Native.Nat.{ℕ, zero, suc, _+_, _-_, _*_, _≤_}
+use Prim.Native.Nat.{ℕ, zero, suc, _+_, _-_, _*_, _/_, _%_, _≤_}
 use mathlib.Core.Bool.{false, cond, not}
 use mathlib.Core.List.{List, [], _∷_}
 use mathlib.Core.Option.{none, some}
 use lib.ListN.{length, getD}
-use lib.Dec.{eqb}
-use lib.IntN.{ℤ, pos}
+use lib.Dec.{eqb, ltb}
+use lib.IntN.{ℤ, pos, negsuc}
 use lib.Ieee.{Float, fin}
 use Rattle.colors.specs.declared.read.Rgba.{Rgba}
 use Rattle.decimals.specs.declared.size.Size.{Size}
+use Rattle.decimals.specs.Size.{spelledValue}
 use Rattle.track.specs.declared.strings.Span.{Span}
 use Rattle.track.specs.declared.segments.Font.{Font}
 use Rattle.track.specs.declared.segments.Segment.{Segment}
@@ -32,16 +33,15 @@ pub record Tables : Type 0 where
   pub cues : List ℕ
   pub times : List ℤ
   pub segments : List ℕ
-  pub reveal : List ℤ
   pub sizes : List Float
   pub extras : List ℕ
   pub strings : List ℕ
   pub texts : List ℕ
 
 abbrev pub tables :
-    (head params styles regions cues : List ℕ) (times : List ℤ) (segments : List ℕ) (reveal : List ℤ) (sizes : List Float)
+    (head params styles regions cues : List ℕ) (times : List ℤ) (segments : List ℕ) (sizes : List Float)
     (extras strings texts : List ℕ) → Tables
-tables h p s r c m g v f e z y = record {
+tables h p s r c m g f e z y = record {
   head = h;
   params = p;
   styles = s;
@@ -49,7 +49,6 @@ tables h p s r c m g v f e z y = record {
   cues = c;
   times = m;
   segments = g;
-  reveal = v;
   sizes = f;
   extras = e;
   strings = z;
@@ -65,7 +64,6 @@ pub record Lengths : Type 0 where
   pub cues : ℕ
   pub times : ℕ
   pub segments : ℕ
-  pub reveal : ℕ
   pub sizes : ℕ
   pub extras : ℕ
   pub strings : ℕ
@@ -80,7 +78,6 @@ lengths T = record {
   cues = length (T .cues);
   times = length (T .times);
   segments = length (T .segments);
-  reveal = length (T .reveal);
   sizes = length (T .sizes);
   extras = length (T .extras);
   strings = length (T .strings);
@@ -95,9 +92,8 @@ pub record LongEnough (n : Lengths) : Type 0 where
   pub regions : 1024 ≤ n .regions
   pub cues : 22528 ≤ n .cues
   pub times : 4096 ≤ n .times
-  pub segments : 131072 ≤ n .segments
-  pub reveal : 16384 ≤ n .reveal
-  pub sizes : 16640 ≤ n .sizes
+  pub segments : 98304 ≤ n .segments
+  pub sizes : 256 ≤ n .sizes
   pub extras : 24576 ≤ n .extras
   pub strings : 65536 ≤ n .strings
   pub texts : 65536 ≤ n .texts
@@ -156,7 +152,7 @@ unfolding cell
 paramAt t i = record { name = span (cell 4 t i 0) (cell 4 t i 1); value = span (cell 4 t i 2) (cell 4 t i 3) }
 
 -- ---- styles: 0 name, 2 chain, 4 colour (present, red, green, blue, alpha), 9 background, 14 family (present, place, length), 17 size (sign,
--- digits, scale; its f32 is cell 16,384 + i of `sizes`), 20 bold, italic, underline, strike, 24 align, 25 extras (first row, number of rows)
+-- digits, scale; its f32 is cell i of `sizes`), 20 bold, italic, underline, strike, 24 align, 25 extras (first row, number of rows)
 unfoldable pub colorAt : List ℕ → ℕ → Rgba
 colorAt t i =
     cond (eqb (getD t i 0) 1) (record { r = getD t (i + 1) 0; g = getD t (i + 2) 0; b = getD t (i + 3) 0; a = getD t (i + 4) 0 })
@@ -202,7 +198,7 @@ styleAt t f i =
     record {
       name = span (c 0) (c 1);
       chain = span (c 2) (c 3);
-      look = lookAt t (sizeCell f (16384 + i)) (i * 27);
+      look = lookAt t (sizeCell f i) (i * 27);
       extras = rowsOf (c 25) (c 26);
     }
 
@@ -212,29 +208,52 @@ unfolding cell
 regionAt t i = record { id = span (cell 4 t i 0) (cell 4 t i 1); extras = rowsOf (cell 4 t i 2) (cell 4 t i 3) }
 
 -- ---- segments: 0 kind, 1 rows of its subtree, itself included; then, by its kind
---     1 text: 2 place, 3 length, in `texts`     2 break     3 timestamp: its time is cell i of `reveal`
+--     1 text: 2 place, 3 length, in `texts`     2 break     3 timestamp: 2 and 3 its time, the low 32 bits first
 --     4 bold     5 italic     6 underline     7 strike     8 colour: 2 red, 3 green, 4 blue
---     9 font: 2 family (present, place, length), 5 size (sign, digits, scale; its f32 is cell i of `sizes`)
+--     9 font: 2 family's place, 3 its length, 4 marks, 5 the bits of its size's f32
 -- (an unknown kind is no segment: `Meaning`)
-module _ (t : List ℕ) (r : List ℤ) (f : List Float) where
+-- an i64 by its 64 bits, two's complement
+unfoldable pub timeFrom : ℕ → ℤ
+timeFrom b = cond (ltb b 9223372036854775808) (pos b) (negsuc (18446744073709551615 - b))
+
+-- marks of a font: bit 0 has it a family, bits 1 and 2 the sign of its size, 3 to 6 the scale, from 7 on the digits
+abbrev pub familyMark : ℕ → ℕ
+familyMark m = m % 2
+
+abbrev pub signMark : ℕ → ℕ
+signMark m = m / 2 % 4
+
+abbrev pub scaleMark : ℕ → ℕ
+scaleMark m = m / 8 % 16
+
+abbrev pub digitsMark : ℕ → ℕ
+digitsMark m = m / 128
+
+-- The f32 is the one that is spelled; that its bits stand in cell 5 is a part of `Meaning`.
+unfoldable pub markedSize : ℕ → Size
+unfolding sizeAt spelledValue
+markedSize m =
+    sizeAt (signMark m) (digitsMark m) (scaleMark m) (spelledValue (eqb (signMark m) 2) (digitsMark m) (scaleMark m))
+
+module _ (t : List ℕ) where
   unfoldable pub fontAt : ℕ → Font
-  unfolding cell optional sizeAt
+  unfolding cell optional markedSize
   fontAt i =
-      let c = cell 8 t i in
+      let c = cell 6 t i in
       record {
-        «has_family» = eqb (c 2) 1;
-        family = optional (c 2) (c 3) (c 4);
-        «has_size» = not (eqb (c 5) 0);
-        size = sizeAt (c 5) (c 6) (c 7) (sizeCell f i);
+        «has_family» = eqb (familyMark (c 4)) 1;
+        family = optional (familyMark (c 4)) (c 2) (c 3);
+        «has_size» = not (eqb (signMark (c 4)) 0);
+        size = markedSize (c 4);
       }
 
   unfoldable pub segmentAt : ℕ → Segment
-  unfolding cell fontAt
+  unfolding cell timeFrom fontAt
   segmentAt i =
-      let c = cell 8 t i in
+      let c = cell 6 t i in
       cond (eqb (c 0) 1) (Segment.Text (span (c 2) (c 3)))
       (cond (eqb (c 0) 2) Segment.Break
-      (cond (eqb (c 0) 3) (Segment.Timestamp (getD r i (pos 0)))
+      (cond (eqb (c 0) 3) (Segment.Timestamp (timeFrom (c 2 + c 3 * 4294967296)))
       (cond (eqb (c 0) 4) Segment.Bold
       (cond (eqb (c 0) 5) Segment.Italic
       (cond (eqb (c 0) 6) Segment.Underline
@@ -258,16 +277,16 @@ followedBy Segment.Strike c x = track.wrap track.strike c x
 followedBy (Segment.Color y) c x = track.wrap (track.color y) c x
 followedBy (Segment.Font y) c x = track.wrap (fontOf y) c x
 
-module _ (t : List ℕ) (r : List ℤ) (f : List Float) where
+module _ (t : List ℕ) where
   abbrev pub rowsAt : ℕ → ℕ
-  rowsAt i = cell 8 t i 1
+  rowsAt i = cell 6 t i 1
 
   -- the segments in n rows from row i on, of which the first k are passed over; `kids m j` are those in m rows from row j on
   unfoldable pub siblingsAt : (ℕ → ℕ → Segments Span) → (n k i : ℕ) → Segments Span
   unfolding cell segmentAt
   siblingsAt kids zero k i = track.done
   siblingsAt kids (suc n) (suc k) i = siblingsAt kids n k (i + 1)
-  siblingsAt kids (suc n) zero i = followedBy (segmentAt t r f i) (kids (rowsAt i - 1) (i + 1)) (siblingsAt kids n (rowsAt i - 1) (i + 1))
+  siblingsAt kids (suc n) zero i = followedBy (segmentAt t i) (kids (rowsAt i - 1) (i + 1)) (siblingsAt kids n (rowsAt i - 1) (i + 1))
 
   -- the same, nested at most d
   unfoldable pub segmentsAt : (d n i : ℕ) → Segments Span

@@ -101,16 +101,13 @@ fn rows_full(
 }
 
 // The same of the other tables.
-fn rest_full(times: usize, reveal: usize, sizes: usize, strings: usize, texts: usize) -> bool
-    ensures { λ r. ⌜ r ≡ restFull times reveal sizes strings texts ⌝ }
+fn rest_full(times: usize, sizes: usize, strings: usize, texts: usize) -> bool
+    ensures { λ r. ⌜ r ≡ restFull times sizes strings texts ⌝ }
 {
     if times < CUES * 2 {
         return false;
     }
-    if reveal < SEGMENTS {
-        return false;
-    }
-    if sizes < SEGMENTS + STYLES {
+    if sizes < STYLES {
         return false;
     }
     if strings < BYTES {
@@ -145,7 +142,7 @@ fn rows_mean(
     strings: &[u8],
 ) -> bool
     requires { ⌜ (10 ≤ length (now head)) × (getD (now head) 0 0 * 4 ≤ length (now params)) × (getD (now head) 1 0 * 27 ≤ length (now styles))
-        × (getD (now head) 2 0 * 4 ≤ length (now regions)) × (16384 + getD (now head) 1 0 ≤ length (now sizes)) × (24576 ≤ length (now extras)) ⌝ }
+        × (getD (now head) 2 0 * 4 ≤ length (now regions)) × (getD (now head) 1 0 ≤ length (now sizes)) × (24576 ≤ length (now extras)) ⌝ }
     ensures { λ r. ⌜ r ≡ rowsMean (now (head .entry)) (now (params .entry)) (now (styles .entry)) (now (regions .entry)) (now (sizes .entry))
         (now (extras .entry)) (now (strings .entry)) ⌝ }
 {
@@ -167,14 +164,13 @@ pub fn check_track(
     cues: &[u32],
     times: &[i64],
     segments: &[u32],
-    reveal: &[i64],
     sizes: &[f32],
     extras: &[u32],
     strings: &[u8],
     texts: &[u8],
 ) -> Check
     ensures { λ r. ⌜ Checked (tables (now (head .entry)) (now (params .entry)) (now (styles .entry)) (now (regions .entry)) (now (cues .entry))
-        (now (times .entry)) (now (segments .entry)) (now (reveal .entry)) (now (sizes .entry)) (now (extras .entry)) (now (strings .entry))
+        (now (times .entry)) (now (segments .entry)) (now (sizes .entry)) (now (extras .entry)) (now (strings .entry))
         (now (texts .entry))) r ⌝ }
 {
     if !rows_full(
@@ -190,7 +186,6 @@ pub fn check_track(
     }
     if !rest_full(
         times.len(),
-        reveal.len(),
         sizes.len(),
         strings.len(),
         texts.len(),
@@ -222,7 +217,6 @@ pub fn check_track(
         cues,
         extras,
         segments,
-        sizes,
         &strings[..used],
         &texts[..shown],
         most,

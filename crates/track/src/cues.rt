@@ -46,16 +46,14 @@ fn is_cue(
     cues: &[u32],
     extras: &[u32],
     segments: &[u32],
-    sizes: &[f32],
     strings: &[u8],
     texts: &[u8],
     most: usize,
     from: usize,
     i: usize,
 ) -> bool
-    requires { ⌜ (i * 11 + 11 ≤ length (now cues)) × (24576 ≤ length (now extras)) × (most * 8 ≤ length (now segments))
-        × (most ≤ length (now sizes)) × (from ≤ most) ⌝ }
-    ensures { λ r. ⌜ r ≡ isCue (now (cues .entry)) (now (extras .entry)) (now (segments .entry)) (now (sizes .entry)) (now (strings .entry))
+    requires { ⌜ (i * 11 + 11 ≤ length (now cues)) × (24576 ≤ length (now extras)) × (most * 6 ≤ length (now segments)) × (from ≤ most) ⌝ }
+    ensures { λ r. ⌜ r ≡ isCue (now (cues .entry)) (now (extras .entry)) (now (segments .entry)) (now (strings .entry))
         (now (texts .entry)) most from i ⌝ }
 {
     if !cue_values(cues, extras, strings, i) {
@@ -68,7 +66,7 @@ fn is_cue(
     if most - from < n {
         return false;
     }
-    crate::segments::are_segments(segments, sizes, strings, texts, from, n, NESTED)
+    crate::segments::are_segments(segments, strings, texts, from, n, NESTED)
 }
 
 // Are the first n rows cues, with `most` segments in all?
@@ -76,20 +74,19 @@ pub fn are_cues(
     cues: &[u32],
     extras: &[u32],
     segments: &[u32],
-    sizes: &[f32],
     strings: &[u8],
     texts: &[u8],
     most: usize,
     n: usize,
 ) -> bool
-    requires { ⌜ (n * 11 ≤ length (now cues)) × (24576 ≤ length (now extras)) × (most * 8 ≤ length (now segments)) × (most ≤ length (now sizes)) ⌝ }
-    ensures { λ r. ⌜ r ≡ areCues (now (cues .entry)) (now (extras .entry)) (now (segments .entry)) (now (sizes .entry))
+    requires { ⌜ (n * 11 ≤ length (now cues)) × (24576 ≤ length (now extras)) × (most * 6 ≤ length (now segments)) ⌝ }
+    ensures { λ r. ⌜ r ≡ areCues (now (cues .entry)) (now (extras .entry)) (now (segments .entry))
         (now (strings .entry)) (now (texts .entry)) most 0 n 0 ⌝ }
 {
     let mut from = 0;
     let mut i = 0;
     while i < n {
-        if !is_cue(cues, extras, segments, sizes, strings, texts, most, from, i) {
+        if !is_cue(cues, extras, segments, strings, texts, most, from, i) {
             return false;
         }
         from += scan::get(cues, i * CUE_CELLS + 8);

@@ -19,7 +19,7 @@ pub const CUE_CELLS: usize = 11;
 
 pub const SEGMENTS: usize = 16384;
 
-pub const SEGMENT_CELLS: usize = 8;
+pub const SEGMENT_CELLS: usize = 6;
 
 pub const EXTRAS: usize = 8192;
 

@@ -3,7 +3,6 @@ ghost use mathlib.Core.Path.{_≡_};
 ghost use mathlib.Core.Bool.{true};
 ghost use mathlib.Core.List.{List};
 ghost use Prim.Native.Nat.{ℕ, _+_, _*_, _≤_};
-ghost use lib.IntN.{ℤ};
 ghost use lib.ListN.{length, getD};
 ghost use Rattle.track.specs.Tables.{fontAt, segmentAt};
 ghost use Rattle.track.specs.Meaning.{areThree, isFont, isSegment, areSegments};
@@ -48,28 +47,23 @@ pub enum Segment {
 }
 
 // Is the font in row i one?
-fn is_font(segments: &[u32], sizes: &[f32], strings: &[u8], i: usize) -> bool
-    requires { ⌜ (i * 8 + 8 ≤ length (now segments)) × (i + 1 ≤ length (now sizes)) ⌝ }
-    ensures { λ r. ⌜ ((y : List ℕ) → r ≡ isFont (now (segments .entry)) (now (sizes .entry)) (now (strings .entry)) y i) ⌝ }
+fn is_font(segments: &[u32], strings: &[u8], i: usize) -> bool
+    requires { ⌜ i * 6 + 6 ≤ length (now segments) ⌝ }
+    ensures { λ r. ⌜ ((y : List ℕ) → r ≡ isFont (now (segments .entry)) (now (strings .entry)) y i) ⌝ }
 {
     let at = i * SEGMENT_CELLS;
-    let family = scan::get(segments, at + 2);
-    let place = scan::get(segments, at + 3);
-    if !crate::strings::is_optional(strings, family, place, scan::get(segments, at + 4)) {
+    let marks = segments[at + 4];
+    let place = scan::get(segments, at + 2);
+    if !crate::strings::is_optional(strings, (marks % 2) as usize, place, scan::get(segments, at + 3)) {
         return false;
     }
-    crate::cells::is_size_at(
-        segments[at + 5],
-        segments[at + 6],
-        segments[at + 7],
-        sizes[i],
-    )
+    crate::marks::is_marked(marks, segments[at + 5])
 }
 
 // Is row i a segment, whatever stands inside it?
-fn is_segment(segments: &[u32], sizes: &[f32], strings: &[u8], texts: &[u8], i: usize) -> bool
-    requires { ⌜ (i * 8 + 8 ≤ length (now segments)) × (i + 1 ≤ length (now sizes)) ⌝ }
-    ensures { λ r. ⌜ r ≡ isSegment (now (segments .entry)) (now (sizes .entry)) (now (strings .entry)) (now (texts .entry)) i ⌝ }
+fn is_segment(segments: &[u32], strings: &[u8], texts: &[u8], i: usize) -> bool
+    requires { ⌜ i * 6 + 6 ≤ length (now segments) ⌝ }
+    ensures { λ r. ⌜ r ≡ isSegment (now (segments .entry)) (now (strings .entry)) (now (texts .entry)) i ⌝ }
 {
     let at = i * SEGMENT_CELLS;
     match segments[at] {
@@ -81,7 +75,7 @@ fn is_segment(segments: &[u32], sizes: &[f32], strings: &[u8], texts: &[u8], i: 
         BREAK | TIMESTAMP => segments[at + 1] == 1,
         BOLD..=STRIKE => true,
         COLOR => crate::cells::are_three(segments, at + 2),
-        FONT => is_font(segments, sizes, strings, i),
+        FONT => is_font(segments, strings, i),
         _ => false,
     }
 }
@@ -89,15 +83,14 @@ fn is_segment(segments: &[u32], sizes: &[f32], strings: &[u8], texts: &[u8], i: 
 // Are the n rows from row `from` on segments, nested at most `room`?
 pub fn are_segments(
     segments: &[u32],
-    sizes: &[f32],
     strings: &[u8],
     texts: &[u8],
     from: usize,
     n: usize,
     room: usize,
 ) -> bool
-    requires { ⌜ ((from + n) * 8 ≤ length (now segments)) × (from + n ≤ length (now sizes)) ⌝ }
-    ensures { λ r. ⌜ r ≡ areSegments (now (segments .entry)) (now (sizes .entry)) (now (strings .entry)) (now (texts .entry)) room n from ⌝ }
+    requires { ⌜ (from + n) * 6 ≤ length (now segments) ⌝ }
+    ensures { λ r. ⌜ r ≡ areSegments (now (segments .entry)) (now (strings .entry)) (now (texts .entry)) room n from ⌝ }
 {
     if room == 0 {
         return n == 0;
@@ -105,7 +98,7 @@ pub fn are_segments(
     let end = from + n;
     let mut i = from;
     while i < end {
-        if !is_segment(segments, sizes, strings, texts, i) {
+        if !is_segment(segments, strings, texts, i) {
             return false;
         }
         let rows = scan::get(segments, i * SEGMENT_CELLS + 1);
@@ -115,7 +108,7 @@ pub fn are_segments(
         if end - i < rows {
             return false;
         }
-        if 1 < rows && !are_segments(segments, sizes, strings, texts, i + 1, rows - 1, room - 1) {
+        if 1 < rows && !are_segments(segments, strings, texts, i + 1, rows - 1, room - 1) {
             return false;
         }
         i += rows;
@@ -124,27 +117,30 @@ pub fn are_segments(
 }
 
 // The font in row i.
-fn font_at(segments: &[u32], sizes: &[f32], i: usize) -> Font
-    requires { ⌜ (i * 8 + 8 ≤ length (now segments)) × (i + 1 ≤ length (now sizes)) ⌝ }
-    ensures { λ r. ⌜ ((v : List ℤ) → r ≡ fontAt (now (segments .entry)) v (now (sizes .entry)) i) ⌝ }
+fn font_at(segments: &[u32], i: usize) -> Font
+    requires { ⌜ i * 6 + 6 ≤ length (now segments) ⌝ }
+    ensures { λ r. ⌜ r ≡ fontAt (now (segments .entry)) i ⌝ }
 {
     let at = i * SEGMENT_CELLS;
-    let sign = segments[at + 5];
-    let family = crate::parts::optional_at(segments, at + 2);
-    let size = crate::parts::size_at(sign, segments[at + 6], segments[at + 7], sizes[i]);
+    let marks = segments[at + 4];
+    let has = marks % 2 == 1;
+    let family = if has {
+        crate::parts::span_at(segments, at + 2)
+    } else {
+        Span { place: 0, len: 0 }
+    };
     Font {
-        has_family: segments[at + 2] == 1,
+        has_family: has,
         family,
-        has_size: sign != 0,
-        size,
+        has_size: marks / 2 % 4 != 0,
+        size: crate::marks::marked_size(marks),
     }
 }
 
 // The segment in row i, without its children. Its kind is one of those above.
-pub fn segment_at(segments: &[u32], reveal: &[i64], sizes: &[f32], i: usize) -> Segment
-    requires { ⌜ (i * 8 + 8 ≤ length (now segments)) × (i + 1 ≤ length (now reveal)) × (i + 1 ≤ length (now sizes))
-        × (getD (now segments) (i * 8) 0 ≡ 8 → areThree (now segments) (i * 8 + 2) ≡ true) ⌝ }
-    ensures { λ r. ⌜ r ≡ segmentAt (now (segments .entry)) (now (reveal .entry)) (now (sizes .entry)) i ⌝ }
+pub fn segment_at(segments: &[u32], i: usize) -> Segment
+    requires { ⌜ (i * 6 + 6 ≤ length (now segments)) × (getD (now segments) (i * 6) 0 ≡ 8 → areThree (now segments) (i * 6 + 2) ≡ true) ⌝ }
+    ensures { λ r. ⌜ r ≡ segmentAt (now (segments .entry)) i ⌝ }
 {
     let at = i * SEGMENT_CELLS;
     match segments[at] {
@@ -153,7 +149,7 @@ pub fn segment_at(segments: &[u32], reveal: &[i64], sizes: &[f32], i: usize) -> 
             len: scan::get(segments, at + 3),
         }),
         BREAK => Segment::Break,
-        TIMESTAMP => Segment::Timestamp(reveal[i]),
+        TIMESTAMP => Segment::Timestamp(crate::marks::time_from(segments[at + 2], segments[at + 3])),
         BOLD => Segment::Bold,
         ITALIC => Segment::Italic,
         UNDERLINE => Segment::Underline,
@@ -163,6 +159,6 @@ pub fn segment_at(segments: &[u32], reveal: &[i64], sizes: &[f32], i: usize) -> 
             g: segments[at + 3] as u8,
             b: segments[at + 4] as u8,
         }),
-        _ => Segment::Font(font_at(segments, sizes, i)),
+        _ => Segment::Font(font_at(segments, i)),
     }
 }

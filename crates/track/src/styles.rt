@@ -4,7 +4,6 @@ ghost use Prim.Native.Nat.{_+_, _*_, _≤_};
 ghost use lib.ListN.{length};
 ghost use Rattle.track.specs.Meaning.{styleStrings, styleValues, styleFlags, isStyle, isRegion, allRows};
 use crate::limits::REGION_CELLS;
-use crate::limits::SEGMENTS;
 use crate::limits::STYLE_CELLS;
 
 // How many names the lists of extras have: STYLE_EXTRA_ORDER and REGION_ATTR_ORDER.
@@ -70,14 +69,14 @@ fn style_values(styles: &[u32], at: usize, size: f32) -> bool
 
 // Is row i a style?
 fn is_style(styles: &[u32], sizes: &[f32], extras: &[u32], strings: &[u8], i: usize) -> bool
-    requires { ⌜ (i * 27 + 27 ≤ length (now styles)) × (16384 + i + 1 ≤ length (now sizes)) × (24576 ≤ length (now extras)) ⌝ }
+    requires { ⌜ (i * 27 + 27 ≤ length (now styles)) × (i + 1 ≤ length (now sizes)) × (24576 ≤ length (now extras)) ⌝ }
     ensures { λ r. ⌜ r ≡ isStyle (now (styles .entry)) (now (sizes .entry)) (now (extras .entry)) (now (strings .entry)) i ⌝ }
 {
     let at = i * STYLE_CELLS;
     if !style_strings(styles, strings, at) {
         return false;
     }
-    if !style_values(styles, at, sizes[SEGMENTS + i]) {
+    if !style_values(styles, at, sizes[i]) {
         return false;
     }
     if !style_flags(styles, at) {
@@ -90,7 +89,7 @@ fn is_style(styles: &[u32], sizes: &[f32], extras: &[u32], strings: &[u8], i: us
 
 // Are the first n rows styles?
 pub fn are_styles(styles: &[u32], sizes: &[f32], extras: &[u32], strings: &[u8], n: usize) -> bool
-    requires { ⌜ (n * 27 ≤ length (now styles)) × (16384 + n ≤ length (now sizes)) × (24576 ≤ length (now extras)) ⌝ }
+    requires { ⌜ (n * 27 ≤ length (now styles)) × (n ≤ length (now sizes)) × (24576 ≤ length (now extras)) ⌝ }
     ensures { λ r. ⌜ r ≡ allRows (isStyle (now (styles .entry)) (now (sizes .entry)) (now (extras .entry)) (now (strings .entry))) n 0 ⌝ }
 {
     let mut i = 0;

@@ -23,19 +23,18 @@ fn clear_all(
     cues: &mut [u32],
     times: &mut [i64],
     segments: &mut [u32],
-    reveal: &mut [i64],
     sizes: &mut [f32],
     extras: &mut [u32],
     strings: &mut [u8],
     texts: &mut [u8],
 )
     ensures { λ _. ⌜ AllZero
-        (tables (now (nodes .entry)) (now (attrs .entry)) (now (head .entry)) (now (params .entry)) (now (styles .entry))
-        (now (regions .entry)) (now (cues .entry)) (now (times .entry)) (now (segments .entry)) (now (reveal .entry)) (now (sizes .entry))
-        (now (extras .entry)) (now (strings .entry)) (now (texts .entry)))
+        (tables (now (nodes .entry)) (now (attrs .entry)) (now (head .entry)) (now (params .entry)) (now (styles .entry)) (now (regions .entry))
+        (now (cues .entry)) (now (times .entry)) (now (segments .entry)) (now (sizes .entry)) (now (extras .entry)) (now (strings .entry))
+        (now (texts .entry)))
         (tables (now (nodes .exit)) (now (attrs .exit)) (now (head .exit)) (now (params .exit)) (now (styles .exit)) (now (regions .exit))
-        (now (cues .exit)) (now (times .exit)) (now (segments .exit)) (now (reveal .exit)) (now (sizes .exit)) (now (extras .exit))
-        (now (strings .exit)) (now (texts .exit))) ⌝ }
+        (now (cues .exit)) (now (times .exit)) (now (segments .exit)) (now (sizes .exit)) (now (extras .exit)) (now (strings .exit))
+        (now (texts .exit))) ⌝ }
 {
     scan::clear(nodes);
     scan::clear(attrs);
@@ -46,7 +45,6 @@ fn clear_all(
     scan::clear(cues);
     scan::clear_i64(times);
     scan::clear(segments);
-    scan::clear_i64(reveal);
     scan::clear_f32(sizes);
     scan::clear(extras);
     scan::clear_bytes(strings);
@@ -73,7 +71,6 @@ pub fn read_back(
     cues: &[u32],
     times: &[i64],
     segments: &[u32],
-    reveal: &[i64],
     sizes: &[f32],
     extras: &[u32],
     strings: &[u8],
@@ -88,25 +85,22 @@ pub fn read_back(
     back_cues: &mut [u32],
     back_times: &mut [i64],
     back_segments: &mut [u32],
-    back_reveal: &mut [i64],
     back_sizes: &mut [f32],
     back_extras: &mut [u32],
     back_strings: &mut [u8],
     back_texts: &mut [u8],
 ) -> Back
     ensures { λ r. ⌜ Returned
-        (track.tables (now (head .entry)) (now (params .entry)) (now (styles .entry)) (now (regions .entry)) (now (cues .entry))
-        (now (times .entry)) (now (segments .entry)) (now (reveal .entry)) (now (sizes .entry)) (now (extras .entry)) (now (strings .entry))
-        (now (texts .entry)))
+        (track.tables (now (head .entry)) (now (params .entry)) (now (styles .entry)) (now (regions .entry)) (now (cues .entry)) (now (times .entry))
+        (now (segments .entry)) (now (sizes .entry)) (now (extras .entry)) (now (strings .entry)) (now (texts .entry)))
         (now (out .entry))
         (tables (now (nodes .entry)) (now (attrs .entry)) (now («back_head» .entry)) (now («back_params» .entry)) (now («back_styles» .entry))
         (now («back_regions» .entry)) (now («back_cues» .entry)) (now («back_times» .entry)) (now («back_segments» .entry))
-        (now («back_reveal» .entry)) (now («back_sizes» .entry)) (now («back_extras» .entry)) (now («back_strings» .entry))
-        (now («back_texts» .entry)))
+        (now («back_sizes» .entry)) (now («back_extras» .entry)) (now («back_strings» .entry)) (now («back_texts» .entry)))
         r (now (out .exit))
         (tables (now (nodes .exit)) (now (attrs .exit)) (now («back_head» .exit)) (now («back_params» .exit)) (now («back_styles» .exit))
-        (now («back_regions» .exit)) (now («back_cues» .exit)) (now («back_times» .exit)) (now («back_segments» .exit)) (now («back_reveal» .exit))
-        (now («back_sizes» .exit)) (now («back_extras» .exit)) (now («back_strings» .exit)) (now («back_texts» .exit))) ⌝ }
+        (now («back_regions» .exit)) (now («back_cues» .exit)) (now («back_times» .exit)) (now («back_segments» .exit)) (now («back_sizes» .exit))
+        (now («back_extras» .exit)) (now («back_strings» .exit)) (now («back_texts» .exit))) ⌝ }
 {
     all_signed(times);
     match document::write(
@@ -117,7 +111,6 @@ pub fn read_back(
         cues,
         times,
         segments,
-        reveal,
         sizes,
         extras,
         strings,
@@ -135,7 +128,6 @@ pub fn read_back(
                 back_cues,
                 back_times,
                 back_segments,
-                back_reveal,
                 back_sizes,
                 back_extras,
                 back_strings,
@@ -154,7 +146,6 @@ pub fn read_back(
             back_cues,
             back_times,
             back_segments,
-            back_reveal,
             back_sizes,
             back_extras,
             back_strings,

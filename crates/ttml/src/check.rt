@@ -15,16 +15,14 @@ pub extern "C" fn pg_check_track(
     cues: &[u32],
     times: &[i64],
     segments: &[u32],
-    reveal: &[i64],
     sizes: &[f32],
     extras: &[u32],
     strings: &[u8],
     texts: &[u8],
 ) -> u64
     ensures { λ r. ⌜ Tells checkTold (Checked
-        (tables (now (head .entry)) (now (params .entry)) (now (styles .entry)) (now (regions .entry)) (now (cues .entry))
-        (now (times .entry)) (now (segments .entry)) (now (reveal .entry)) (now (sizes .entry)) (now (extras .entry)) (now (strings .entry))
-        (now (texts .entry)))) r ⌝ }
+        (tables (now (head .entry)) (now (params .entry)) (now (styles .entry)) (now (regions .entry)) (now (cues .entry)) (now (times .entry))
+        (now (segments .entry)) (now (sizes .entry)) (now (extras .entry)) (now (strings .entry)) (now (texts .entry)))) r ⌝ }
 {
     match track::check_track(
         head,
@@ -34,7 +32,6 @@ pub extern "C" fn pg_check_track(
         cues,
         times,
         segments,
-        reveal,
         sizes,
         extras,
         strings,

@@ -242,7 +242,6 @@ pub extern "C" fn pg_resolve_referenced_style(
     cues: &[u32],
     times: &[i64],
     segments: &[u32],
-    reveal: &[i64],
     sizes: &[f32],
     extras: &[u32],
     strings: &[u8],
@@ -252,9 +251,8 @@ pub extern "C" fn pg_resolve_referenced_style(
     size: &mut [f32],
 ) -> u64
     ensures { λ r. ⌜ AnswersInC (ReferencedStyle (now (value .entry))
-        (tables (now (head .entry)) (now (params .entry)) (now (styles .entry)) (now (regions .entry)) (now (cues .entry))
-        (now (times .entry)) (now (segments .entry)) (now (reveal .entry)) (now (sizes .entry)) (now (extras .entry)) (now (strings .entry))
-        (now (texts .entry)))
+        (tables (now (head .entry)) (now (params .entry)) (now (styles .entry)) (now (regions .entry)) (now (cues .entry)) (now (times .entry))
+        (now (segments .entry)) (now (sizes .entry)) (now (extras .entry)) (now (strings .entry)) (now (texts .entry)))
         (now (ids .entry)))
         (now (ids .entry)) (now (ids .exit)) (now (out .entry)) (now (out .exit)) (now (size .entry)) (now (size .exit)) r ⌝ }
 {
@@ -271,7 +269,6 @@ pub extern "C" fn pg_resolve_referenced_style(
         cues,
         times,
         segments,
-        reveal,
         sizes,
         extras,
         strings,
@@ -292,7 +289,6 @@ pub extern "C" fn pg_region_style(
     cues: &[u32],
     times: &[i64],
     segments: &[u32],
-    reveal: &[i64],
     sizes: &[f32],
     extras: &[u32],
     strings: &[u8],
@@ -302,9 +298,8 @@ pub extern "C" fn pg_region_style(
     size: &mut [f32],
 ) -> u64
     ensures { λ r. ⌜ AnswersInC (RegionStyle (now (id .entry))
-        (tables (now (head .entry)) (now (params .entry)) (now (styles .entry)) (now (regions .entry)) (now (cues .entry))
-        (now (times .entry)) (now (segments .entry)) (now (reveal .entry)) (now (sizes .entry)) (now (extras .entry)) (now (strings .entry))
-        (now (texts .entry)))
+        (tables (now (head .entry)) (now (params .entry)) (now (styles .entry)) (now (regions .entry)) (now (cues .entry)) (now (times .entry))
+        (now (segments .entry)) (now (sizes .entry)) (now (extras .entry)) (now (strings .entry)) (now (texts .entry)))
         (now (ids .entry)))
         (now (ids .entry)) (now (ids .exit)) (now (out .entry)) (now (out .exit)) (now (size .entry)) (now (size .exit)) r ⌝ }
 {
@@ -321,7 +316,6 @@ pub extern "C" fn pg_region_style(
         cues,
         times,
         segments,
-        reveal,
         sizes,
         extras,
         strings,
@@ -341,7 +335,6 @@ pub extern "C" fn pg_effective_style_for_cue_index(
     cues: &[u32],
     times: &[i64],
     segments: &[u32],
-    reveal: &[i64],
     sizes: &[f32],
     extras: &[u32],
     strings: &[u8],
@@ -352,9 +345,8 @@ pub extern "C" fn pg_effective_style_for_cue_index(
     size: &mut [f32],
 ) -> u64
     ensures { λ r. ⌜ AnswersInC (EffectiveStyle
-        (tables (now (head .entry)) (now (params .entry)) (now (styles .entry)) (now (regions .entry)) (now (cues .entry))
-        (now (times .entry)) (now (segments .entry)) (now (reveal .entry)) (now (sizes .entry)) (now (extras .entry)) (now (strings .entry))
-        (now (texts .entry)))
+        (tables (now (head .entry)) (now (params .entry)) (now (styles .entry)) (now (regions .entry)) (now (cues .entry)) (now (times .entry))
+        (now (segments .entry)) (now (sizes .entry)) (now (extras .entry)) (now (strings .entry)) (now (texts .entry)))
         «cue_index» (now (ids .entry)))
         (now (ids .entry)) (now (ids .exit)) (now (out .entry)) (now (out .exit)) (now (size .entry)) (now (size .exit)) r ⌝ }
 {
@@ -370,7 +362,6 @@ pub extern "C" fn pg_effective_style_for_cue_index(
         cues,
         times,
         segments,
-        reveal,
         sizes,
         extras,
         strings,

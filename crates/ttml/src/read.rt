@@ -27,20 +27,19 @@ pub extern "C" fn pg_parse(
     cues: &mut [u32],
     times: &mut [i64],
     segments: &mut [u32],
-    reveal: &mut [i64],
     sizes: &mut [f32],
     extras: &mut [u32],
     strings: &mut [u8],
     texts: &mut [u8],
 ) -> u64
     ensures { λ r. ⌜ Tells readTold (λ a. Parsed (now (text .entry))
-        (tables (now (nodes .entry)) (now (attrs .entry)) (now (head .entry)) (now (params .entry)) (now (styles .entry))
-        (now (regions .entry)) (now (cues .entry)) (now (times .entry)) (now (segments .entry)) (now (reveal .entry)) (now (sizes .entry))
-        (now (extras .entry)) (now (strings .entry)) (now (texts .entry)))
+        (tables (now (nodes .entry)) (now (attrs .entry)) (now (head .entry)) (now (params .entry)) (now (styles .entry)) (now (regions .entry))
+        (now (cues .entry)) (now (times .entry)) (now (segments .entry)) (now (sizes .entry)) (now (extras .entry)) (now (strings .entry))
+        (now (texts .entry)))
         a
         (tables (now (nodes .exit)) (now (attrs .exit)) (now (head .exit)) (now (params .exit)) (now (styles .exit)) (now (regions .exit))
-        (now (cues .exit)) (now (times .exit)) (now (segments .exit)) (now (reveal .exit)) (now (sizes .exit)) (now (extras .exit))
-        (now (strings .exit)) (now (texts .exit)))) r ⌝ }
+        (now (cues .exit)) (now (times .exit)) (now (segments .exit)) (now (sizes .exit)) (now (extras .exit)) (now (strings .exit))
+        (now (texts .exit)))) r ⌝ }
 {
     tell(reader::parse(
         text,
@@ -53,7 +52,6 @@ pub extern "C" fn pg_parse(
         cues,
         times,
         segments,
-        reveal,
         sizes,
         extras,
         strings,
@@ -74,20 +72,19 @@ pub extern "C" fn pg_bytes_to_cue(
     cues: &mut [u32],
     times: &mut [i64],
     segments: &mut [u32],
-    reveal: &mut [i64],
     sizes: &mut [f32],
     extras: &mut [u32],
     strings: &mut [u8],
     texts: &mut [u8],
 ) -> u64
     ensures { λ r. ⌜ Tells readTold (λ a. CueParsed (now (text .entry))
-        (tables (now (nodes .entry)) (now (attrs .entry)) (now (head .entry)) (now (params .entry)) (now (styles .entry))
-        (now (regions .entry)) (now (cues .entry)) (now (times .entry)) (now (segments .entry)) (now (reveal .entry)) (now (sizes .entry))
-        (now (extras .entry)) (now (strings .entry)) (now (texts .entry)))
+        (tables (now (nodes .entry)) (now (attrs .entry)) (now (head .entry)) (now (params .entry)) (now (styles .entry)) (now (regions .entry))
+        (now (cues .entry)) (now (times .entry)) (now (segments .entry)) (now (sizes .entry)) (now (extras .entry)) (now (strings .entry))
+        (now (texts .entry)))
         a
         (tables (now (nodes .exit)) (now (attrs .exit)) (now (head .exit)) (now (params .exit)) (now (styles .exit)) (now (regions .exit))
-        (now (cues .exit)) (now (times .exit)) (now (segments .exit)) (now (reveal .exit)) (now (sizes .exit)) (now (extras .exit))
-        (now (strings .exit)) (now (texts .exit)))) r ⌝ }
+        (now (cues .exit)) (now (times .exit)) (now (segments .exit)) (now (sizes .exit)) (now (extras .exit)) (now (strings .exit))
+        (now (texts .exit)))) r ⌝ }
 {
     tell(reader::bytes_to_cue(
         text,
@@ -100,7 +97,6 @@ pub extern "C" fn pg_bytes_to_cue(
         cues,
         times,
         segments,
-        reveal,
         sizes,
         extras,
         strings,

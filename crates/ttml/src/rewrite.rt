@@ -15,7 +15,6 @@ pub fn recaption(
     cues: &mut [u32],
     times: &mut [i64],
     segments: &mut [u32],
-    reveal: &mut [i64],
     sizes: &mut [f32],
     extras: &mut [u32],
     strings: &mut [u8],
@@ -23,13 +22,13 @@ pub fn recaption(
     out: &mut [u8],
 ) -> Answer
     ensures { λ r. ⌜ Recaptioned (now (text .entry))
-        (tables (now (nodes .entry)) (now (attrs .entry)) (now (head .entry)) (now (params .entry)) (now (styles .entry))
-        (now (regions .entry)) (now (cues .entry)) (now (times .entry)) (now (segments .entry)) (now (reveal .entry)) (now (sizes .entry))
-        (now (extras .entry)) (now (strings .entry)) (now (texts .entry)))
+        (tables (now (nodes .entry)) (now (attrs .entry)) (now (head .entry)) (now (params .entry)) (now (styles .entry)) (now (regions .entry))
+        (now (cues .entry)) (now (times .entry)) (now (segments .entry)) (now (sizes .entry)) (now (extras .entry)) (now (strings .entry))
+        (now (texts .entry)))
         (now (out .entry)) r
         (tables (now (nodes .exit)) (now (attrs .exit)) (now (head .exit)) (now (params .exit)) (now (styles .exit)) (now (regions .exit))
-        (now (cues .exit)) (now (times .exit)) (now (segments .exit)) (now (reveal .exit)) (now (sizes .exit)) (now (extras .exit))
-        (now (strings .exit)) (now (texts .exit)))
+        (now (cues .exit)) (now (times .exit)) (now (segments .exit)) (now (sizes .exit)) (now (extras .exit)) (now (strings .exit))
+        (now (texts .exit)))
         (now (out .exit)) ⌝ }
 {
     match reader::parse(
@@ -43,7 +42,6 @@ pub fn recaption(
         cues,
         times,
         segments,
-        reveal,
         sizes,
         extras,
         strings,
@@ -61,7 +59,6 @@ pub fn recaption(
             cues,
             times,
             segments,
-            reveal,
             sizes,
             extras,
             strings,

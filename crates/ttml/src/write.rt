@@ -25,7 +25,6 @@ pub extern "C" fn pg_write(
     cues: &[u32],
     times: &[i64],
     segments: &[u32],
-    reveal: &[i64],
     sizes: &[f32],
     extras: &[u32],
     strings: &[u8],
@@ -33,9 +32,8 @@ pub extern "C" fn pg_write(
     out: &mut [u8],
 ) -> u64
     ensures { λ r. ⌜ Tells writtenTold (λ a. Promise wholeText
-        (tables (now (head .entry)) (now (params .entry)) (now (styles .entry)) (now (regions .entry)) (now (cues .entry))
-        (now (times .entry)) (now (segments .entry)) (now (reveal .entry)) (now (sizes .entry)) (now (extras .entry)) (now (strings .entry))
-        (now (texts .entry)))
+        (tables (now (head .entry)) (now (params .entry)) (now (styles .entry)) (now (regions .entry)) (now (cues .entry)) (now (times .entry))
+        (now (segments .entry)) (now (sizes .entry)) (now (extras .entry)) (now (strings .entry)) (now (texts .entry)))
         (now (out .entry)) a (now (out .exit))) r ⌝ }
 {
     tell(document::write(
@@ -46,7 +44,6 @@ pub extern "C" fn pg_write(
         cues,
         times,
         segments,
-        reveal,
         sizes,
         extras,
         strings,
@@ -65,7 +62,6 @@ pub extern "C" fn pg_cue_to_bytes(
     cues: &[u32],
     times: &[i64],
     segments: &[u32],
-    reveal: &[i64],
     sizes: &[f32],
     extras: &[u32],
     strings: &[u8],
@@ -74,9 +70,8 @@ pub extern "C" fn pg_cue_to_bytes(
     out: &mut [u8],
 ) -> u64
     ensures { λ r. ⌜ Tells writtenTold (λ a. Promise (cueNumber index)
-        (tables (now (head .entry)) (now (params .entry)) (now (styles .entry)) (now (regions .entry)) (now (cues .entry))
-        (now (times .entry)) (now (segments .entry)) (now (reveal .entry)) (now (sizes .entry)) (now (extras .entry)) (now (strings .entry))
-        (now (texts .entry)))
+        (tables (now (head .entry)) (now (params .entry)) (now (styles .entry)) (now (regions .entry)) (now (cues .entry)) (now (times .entry))
+        (now (segments .entry)) (now (sizes .entry)) (now (extras .entry)) (now (strings .entry)) (now (texts .entry)))
         (now (out .entry)) a (now (out .exit))) r ⌝ }
 {
     tell(writer::cue_to_bytes(
@@ -87,7 +82,6 @@ pub extern "C" fn pg_cue_to_bytes(
         cues,
         times,
         segments,
-        reveal,
         sizes,
         extras,
         strings,

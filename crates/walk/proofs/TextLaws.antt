@@ -9,8 +9,6 @@ use mathlib.Core.Bool.{true}
 use mathlib.Core.List.{List}
 use native.Mathlib.Omega.{arith}
 use lib.ListN.{length, take}
-use lib.IntN.{ℤ}
-use lib.Ieee.{Float}
 use Rattle.scan.proofs.Every.{both}
 use Rattle.track.specs.declared.strings.Span.{Span}
 use Rattle.track.specs.declared.segments.Segment.{Segment}
@@ -23,7 +21,7 @@ use Rattle.track.specs.Steps.{rowsFull, restFull, isFull}
 use Rattle.track.proofs.Spans.{span-within}
 use Rattle.track.proofs.StringLaws.{string-used}
 use Rattle.track.proofs.SegmentLaws.{walk, Holds, segment-holds}
-use Rattle.track.proofs.Answers.{rows-long, rest-long, limits-low}
+use Rattle.track.proofs.Answers.{rows-long, limits-low}
 use Rattle.track.proofs.Accepted.{usedStrings, usedTexts, limits-ok, cue-ok}
 use Rattle.track.proofs.RowParts.{CueParts, cue-parts}
 use Rattle.walk.specs.Text.{plainText, textOf, ownText, WalkReady}
@@ -50,25 +48,25 @@ own-used z y u m Segment.Strike h = refl
 own-used z y u m (Segment.Color k) h = refl
 own-used z y u m (Segment.Font k) h = refl
 
-module _ (t : List ℕ) (r : List ℤ) (f : List Float) (z y : List ℕ) (u : ℕ) where
+module _ (t z y : List ℕ) (u : ℕ) where
   abbrev Same : (d n i : ℕ) → Type 0
-  Same d n i = areSegments t f z (take u y) d n i ≡ true → plainText (take u y) (segmentsAt t r f d n i) ≡ plainText y (segmentsAt t r f d n i)
+  Same d n i = areSegments t z (take u y) d n i ≡ true → plainText (take u y) (segmentsAt t d n i) ≡ plainText y (segmentsAt t d n i)
 
   none-same : (d i : ℕ) → Same d 0 i
-  none-same d i e = text-none (take u y) t r f d i ∙ sym (text-none y t r f d i)
+  none-same d i e = text-none (take u y) t d i ∙ sym (text-none y t d i)
 
   -- some rows, where it holds of fewer
   some-same : (k : ℕ) → ((d n i : ℕ) → n ≤ k → Same d n i) → (d n i : ℕ) → n ≤ suc k → Same d n i
   some-same k rec d zero i h e = none-same d i e
   some-same k rec d (suc n) i h e =
-      let w = walk t f z (take u y) d (suc n) i e (omega arith) in
-      let m = cell 8 t i 1 in
-      let s = segmentAt t r f i in
-      let o : ownText (take u y) s ≡ ownText y s = own-used z y u m s (segment-holds t r f z (take u y) i (w .is)) in
+      let w = walk t z (take u y) d (suc n) i e (omega arith) in
+      let m = cell 6 t i 1 in
+      let s = segmentAt t i in
+      let o : ownText (take u y) s ≡ ownText y s = own-used z y u m s (segment-holds t z (take u y) i (w .is)) in
       let a = rec (d - 1) (m - 1) (i + 1) (omega (arith, w .most)) (w .inside) in
       let b = rec d (suc n - m) (i + m) (omega (arith, w .least)) (w .after) in
-      text-step t r f z (take u y) d (suc n) i w m refl s refl (take u y)
-      ∙ rw (o, a, b) (sym (text-step t r f z (take u y) d (suc n) i w m refl s refl y))
+      text-step t z (take u y) d (suc n) i w m refl s refl (take u y)
+      ∙ rw (o, a, b) (sym (text-step t z (take u y) d (suc n) i w m refl s refl y))
 
   -- at most k rows
   same : (k d n i : ℕ) → n ≤ k → Same d n i
@@ -76,39 +74,30 @@ module _ (t : List ℕ) (r : List ℤ) (f : List Float) (z y : List ℕ) (u : �
   same zero d (suc n) i h e = absurd (omega arith)
   same (suc k) d n i h e = some-same k (same k) d n i h e
 
-  pub text-used : (d n i : ℕ) → areSegments t f z (take u y) d n i ≡ true
-      → plainText (take u y) (segmentsAt t r f d n i) ≡ plainText y (segmentsAt t r f d n i)
+  pub text-used : (d n i : ℕ) → areSegments t z (take u y) d n i ≡ true
+      → plainText (take u y) (segmentsAt t d n i) ≡ plainText y (segmentsAt t d n i)
   text-used d n i e = same n d n i (omega arith) e
 
 -- ---- an accepted track
 module _ (T : Tables) (h : isTrack T ≡ true) (i : ℕ) (l : i < cueCount (T .head)) where
-  parts : CueParts (T .cues) (T .extras) (T .segments) (T .sizes) (usedStrings T) (usedTexts T) (segmentCount (T .head)) (cell 11 (T .cues) i 7) i
-  parts = cue-parts (T .cues) (T .extras) (T .segments) (T .sizes) (usedStrings T) (usedTexts T) (segmentCount (T .head)) (cell 11 (T .cues) i 7) i
+  parts : CueParts (T .cues) (T .extras) (T .segments) (usedStrings T) (usedTexts T) (segmentCount (T .head)) (cell 11 (T .cues) i 7) i
+  parts = cue-parts (T .cues) (T .extras) (T .segments) (usedStrings T) (usedTexts T) (segmentCount (T .head)) (cell 11 (T .cues) i 7) i
       (cue-ok T h i l .0)
 
-  pub cue-ready : isFull T ≡ true → WalkReady (T .segments) (T .reveal) (T .sizes) (usedTexts T) (cell 11 (T .cues) i 7) (cell 11 (T .cues) i 8) 512
+  pub cue-ready : isFull T ≡ true → WalkReady (T .segments) (usedTexts T) (cell 11 (T .cues) i 7) (cell 11 (T .cues) i 8) 512
   unfolding isFull
   cue-ready g =
       let b = both {a = rowsFull (length (T .head)) (length (T .params)) (length (T .styles)) (length (T .regions)) (length (T .cues))
-      (length (T .segments)) (length (T .extras))} {b = restFull (length (T .times)) (length (T .reveal)) (length (T .sizes)) (length (T .strings))
-      (length (T .texts))} g in
+      (length (T .segments)) (length (T .extras))}
+      {b = restFull (length (T .times)) (length (T .sizes)) (length (T .strings)) (length (T .texts))} g in
       let a = rows-long (length (T .head)) (length (T .params)) (length (T .styles)) (length (T .regions)) (length (T .cues)) (length (T .segments))
       (length (T .extras)) (b .0) in
-      let c = rest-long (length (T .times)) (length (T .reveal)) (length (T .sizes)) (length (T .strings)) (length (T .texts)) (b .1) in
       let m : segmentCount (T .head) ≤ 16384 = limits-low (T .head) (limits-ok T h) .segments in
-      record {
-        strings = usedStrings T;
-        are = parts .segments;
-        cells = omega (arith, a .segments, m, parts .within);
-        times = omega (arith, c .reveal, m, parts .within);
-        floats = omega (arith, c .sizes, m, parts .within);
-      }
+      record { strings = usedStrings T; are = parts .segments; cells = omega (arith, a .segments, m, parts .within) }
 
   pub cue-text :
-      plainText (usedTexts T) (segmentsAt (T .segments) (T .reveal) (T .sizes) 512 (cell 11 (T .cues) i 8) (cell 11 (T .cues) i 7))
-      ≡ textOf (cueIn T i .segments)
+      plainText (usedTexts T) (segmentsAt (T .segments) 512 (cell 11 (T .cues) i 8) (cell 11 (T .cues) i 7)) ≡ textOf (cueIn T i .segments)
   unfolding cueIn cueAt
   cue-text =
-      text-used (T .segments) (T .reveal) (T .sizes) (usedStrings T) (T .texts) (textsUsed (T .head)) 512 (cell 11 (T .cues) i 8)
-      (cell 11 (T .cues) i 7) (parts .segments)
+      text-used (T .segments) (usedStrings T) (T .texts) (textsUsed (T .head)) 512 (cell 11 (T .cues) i 8) (cell 11 (T .cues) i 7) (parts .segments)
       ∙ text-means T _

@@ -13,8 +13,6 @@ use mathlib.Core.List.{List, [], _++_, append-nil, append-assoc}
 use native.Mathlib.Omega.{arith}
 use lib.ListN.{length, length-append}
 use lib.Seq.{sets, length-sets}
-use lib.IntN.{ℤ}
-use lib.Ieee.{Float}
 use Rattle.scan.specs.Posts.{Appended, Wrote, WroteInPart}
 use Rattle.scan.specs.declared.table.Written.the-variants.{Full}
 use Rattle.scan.proofs.Stores.{sets-on, in-part, wrote-on, wrote-full}
@@ -43,9 +41,9 @@ followed z y v m Segment.Strike c x h e = refl
 followed z y v m (Segment.Color k) c x h e = refl
 followed z y v m (Segment.Font k) c x h e = refl
 
-pub text-none : (y : List ℕ) (t : List ℕ) (r : List ℤ) (f : List Float) (d i : ℕ) → plainText y (segmentsAt t r f d 0 i) ≡ []
+pub text-none : (y t : List ℕ) (d i : ℕ) → plainText y (segmentsAt t d 0 i) ≡ []
 unfolding plainText
-text-none y t r f d i = rw (segments-none t r f d i)
+text-none y t d i = rw (segments-none t d i)
 
 within : (z y : List ℕ) (m : ℕ) (s : Segment) → Holds z y m s → TextWithin y s
 within z y m (Segment.Text s) h = span-within y (s .place) (s .len) (h .1)
@@ -79,26 +77,25 @@ own-none y s at o h e g =
     rw k (record { next = omega arith; within = h; laid = refl })
 
 -- the first of n rows from row i on
-module _ (t : List ℕ) (r : List ℤ) (f : List Float) (z y : List ℕ) (d n i : ℕ) (w : Walk t f z y d n i) (m : ℕ) (q : m ≡ cell 8 t i 1) (s : Segment)
-    (p : s ≡ segmentAt t r f i) where
+module _ (t z y : List ℕ) (d n i : ℕ) (w : Walk t z y d n i) (m : ℕ) (q : m ≡ cell 6 t i 1) (s : Segment) (p : s ≡ segmentAt t i) where
   -- in any bytes v
   pub text-step :
-      (v : List ℕ) → plainText v (segmentsAt t r f d n i)
-      ≡ ownText v s ++ (plainText v (segmentsAt t r f (d - 1) (m - 1) (i + 1)) ++ plainText v (segmentsAt t r f d (n - m) (i + m)))
+      (v : List ℕ) → plainText v (segmentsAt t d n i)
+      ≡ ownText v s ++ (plainText v (segmentsAt t (d - 1) (m - 1) (i + 1)) ++ plainText v (segmentsAt t d (n - m) (i + m)))
   text-step v =
-      rw (q, p, segments-more t r f d n i (w .deep) (w .least) (w .most))
-      (followed z y v (cell 8 t i 1) (segmentAt t r f i) _ _ (segment-holds t r f z y i (w .is)) alone)
+      rw (q, p, segments-more t d n i (w .deep) (w .least) (w .most))
+      (followed z y v (cell 6 t i 1) (segmentAt t i) _ _ (segment-holds t z y i (w .is)) alone)
     where
-      alone : cell 8 t i 1 ≡ 1 → segmentsAt t r f (d - 1) (cell 8 t i 1 - 1) (i + 1) ≡ track.done
-      alone e = let k : cell 8 t i 1 - 1 ≡ 0 = omega arith in rw k (segments-none t r f (d - 1) (i + 1))
+      alone : cell 6 t i 1 ≡ 1 → segmentsAt t (d - 1) (cell 6 t i 1 - 1) (i + 1) ≡ track.done
+      alone e = let k : cell 6 t i 1 - 1 ≡ 0 = omega arith in rw k (segments-none t (d - 1) (i + 1))
 
   pub text-within : TextWithin y s
-  text-within = rw p (within z y (cell 8 t i 1) (segmentAt t r f i) (segment-holds t r f z y i (w .is)))
+  text-within = rw p (within z y (cell 6 t i 1) (segmentAt t i) (segment-holds t z y i (w .is)))
 
 -- ---- what is written so far: of the n rows from row `from` on those before row i, from a place of the table o on up to `to`
-pub record Walking (t : List ℕ) (r : List ℤ) (f : List Float) (y : List ℕ) (from n d at : ℕ) (o : List ℕ) (i to : ℕ) (o′ : List ℕ) : Type 0 where
+pub record Walking (t y : List ℕ) (from n d at : ℕ) (o : List ℕ) (i to : ℕ) (o′ : List ℕ) : Type 0 where
   pub strings : List ℕ
-  pub are : areSegments t f strings y d (from + n - i) i ≡ true
+  pub are : areSegments t strings y d (from + n - i) i ≡ true
   pub after : from ≤ i
   pub before : i ≤ from + n
   pub done : List ℕ
@@ -106,15 +103,15 @@ pub record Walking (t : List ℕ) (r : List ℤ) (f : List Float) (y : List ℕ)
   pub fits : to ≤ length o
   pub laid : o′ ≡ sets o at done
   pub kept : length o′ ≡ length o
-  pub rest : plainText y (segmentsAt t r f d n from) ≡ done ++ plainText y (segmentsAt t r f d (from + n - i) i)
+  pub rest : plainText y (segmentsAt t d n from) ≡ done ++ plainText y (segmentsAt t d (from + n - i) i)
 
 written-so-far :
-    {t : List ℕ} {r : List ℤ} {f : List Float} {y : List ℕ} {from n d at : ℕ} {o : List ℕ} {i to : ℕ} {o′ : List ℕ}
-    → (g : Walking t r f y from n d at o i to o′) → Appended (g .done) at o o′ to
+    {t y : List ℕ} {from n d at : ℕ} {o : List ℕ} {i to : ℕ} {o′ : List ℕ}
+    → (g : Walking t y from n d at o i to o′) → Appended (g .done) at o o′ to
 written-so-far g = record { next = g .place; within = g .fits; laid = g .laid }
 
-module _ (t : List ℕ) (r : List ℤ) (f : List Float) (y : List ℕ) (from n d at : ℕ) (o : List ℕ) where
-  pub walking-start : WalkReady t r f y from n d → at ≤ length o → Walking t r f y from n d at o from at o
+module _ (t y : List ℕ) (from n d at : ℕ) (o : List ℕ) where
+  pub walking-start : WalkReady t y from n d → at ≤ length o → Walking t y from n d at o from at o
   walking-start w h =
       let e : from + n - from ≡ n = omega arith in
       record {
@@ -130,28 +127,28 @@ module _ (t : List ℕ) (r : List ℤ) (f : List Float) (y : List ℕ) (from n d
         rest = rw e;
       }
 
-  module _ (i to : ℕ) (o′ : List ℕ) (g : Walking t r f y from n d at o i to o′) where
-    pub walking-done : from + n ≤ i → Appended (plainText y (segmentsAt t r f d n from)) at o o′ to
+  module _ (i to : ℕ) (o′ : List ℕ) (g : Walking t y from n d at o i to o′) where
+    pub walking-done : from + n ≤ i → Appended (plainText y (segmentsAt t d n from)) at o o′ to
     walking-done h =
         let e : from + n - i ≡ 0 = omega arith in
-        let k : plainText y (segmentsAt t r f d n from) ≡ g .done = g .rest ∙ rw (e, text-none y t r f d i, append-nil) in
+        let k : plainText y (segmentsAt t d n from) ≡ g .done = g .rest ∙ rw (e, text-none y t d i, append-nil) in
         rw k (written-so-far g)
 
     module _ (h : i < from + n) where
-      pub first : Walk t f (g .strings) y d (from + n - i) i
-      first = walk t f (g .strings) y d (from + n - i) i (g .are) (omega arith)
+      pub first : Walk t (g .strings) y d (from + n - i) i
+      first = walk t (g .strings) y d (from + n - i) i (g .are) (omega arith)
 
-      module _ (m : ℕ) (q : m ≡ cell 8 t i 1) (s : Segment) (p : s ≡ segmentAt t r f i) where
-        whole : plainText y (segmentsAt t r f d n from)
-            ≡ g .done ++ (ownText y s ++ (plainText y (segmentsAt t r f (d - 1) (m - 1) (i + 1))
-            ++ plainText y (segmentsAt t r f d (from + n - i - m) (i + m))))
-        whole = g .rest ∙ ap (λ (l : List ℕ). g .done ++ l) (text-step t r f (g .strings) y d (from + n - i) i first m q s p y)
+      module _ (m : ℕ) (q : m ≡ cell 6 t i 1) (s : Segment) (p : s ≡ segmentAt t i) where
+        whole : plainText y (segmentsAt t d n from)
+            ≡ g .done ++ (ownText y s ++ (plainText y (segmentsAt t (d - 1) (m - 1) (i + 1))
+            ++ plainText y (segmentsAt t d (from + n - i - m) (i + m))))
+        whole = g .rest ∙ ap (λ (l : List ℕ). g .done ++ l) (text-step t (g .strings) y d (from + n - i) i first m q s p y)
 
         -- its own text does not fit
         pub walking-full :
-            (o″ : List ℕ) → Wrote (ownText y s) to o′ o″ Full → WroteInPart (plainText y (segmentsAt t r f d n from)) at o o″ Full
+            (o″ : List ℕ) → Wrote (ownText y s) to o′ o″ Full → WroteInPart (plainText y (segmentsAt t d n from)) at o o″ Full
         walking-full o″ w =
-            let rest = plainText y (segmentsAt t r f (d - 1) (m - 1) (i + 1)) ++ plainText y (segmentsAt t r f d (from + n - i - m) (i + m)) in
+            let rest = plainText y (segmentsAt t (d - 1) (m - 1) (i + 1)) ++ plainText y (segmentsAt t d (from + n - i - m) (i + m)) in
             let own : WroteInPart (ownText y s) to o′ o″ Full = in-part (ownText y s) to o′ o″ Full (omega (arith, g .fits, g .kept)) w in
             rw whole (wrote-on (g .done) (ownText y s ++ rest) at o o′ to o″ Full (written-so-far g) (wrote-full (ownText y s) rest to o′ o″ own))
 
@@ -164,20 +161,20 @@ module _ (t : List ℕ) (r : List ℤ) (f : List Float) (y : List ℕ) (from n d
 
           -- its children's does not
           pub walking-torn :
-              (u : List ℕ) → WroteInPart (plainText y (segmentsAt t r f (d - 1) (m - 1) (i + 1))) k o″ u Full
-              → WroteInPart (plainText y (segmentsAt t r f d n from)) at o u Full
+              (u : List ℕ) → WroteInPart (plainText y (segmentsAt t (d - 1) (m - 1) (i + 1))) k o″ u Full
+              → WroteInPart (plainText y (segmentsAt t d n from)) at o u Full
           walking-torn u w =
-              let kids = plainText y (segmentsAt t r f (d - 1) (m - 1) (i + 1)) in
-              let rest = plainText y (segmentsAt t r f d (from + n - i - m) (i + m)) in
+              let kids = plainText y (segmentsAt t (d - 1) (m - 1) (i + 1)) in
+              let rest = plainText y (segmentsAt t d (from + n - i - m) (i + m)) in
               let inside : WroteInPart (ownText y s ++ (kids ++ rest)) to o′ u Full =
               wrote-on (ownText y s) (kids ++ rest) to o′ o″ k u Full a (wrote-full kids rest k o″ u w) in
               rw whole (wrote-on (g .done) (ownText y s ++ (kids ++ rest)) at o o′ to u Full (written-so-far g) inside)
 
           pub walking-step :
-              (l : ℕ) (u : List ℕ) → Appended (plainText y (segmentsAt t r f (d - 1) (m - 1) (i + 1))) k o″ u l
-              → Walking t r f y from n d at o (i + m) l u
+              (l : ℕ) (u : List ℕ) → Appended (plainText y (segmentsAt t (d - 1) (m - 1) (i + 1))) k o″ u l
+              → Walking t y from n d at o (i + m) l u
           walking-step l u b =
-              let c = plainText y (segmentsAt t r f (d - 1) (m - 1) (i + 1)) in
+              let c = plainText y (segmentsAt t (d - 1) (m - 1) (i + 1)) in
               let j : length (g .done ++ ownText y s) ≡ length (g .done) + length (ownText y s) = length-append (g .done) (ownText y s) in
               let v : length ((g .done ++ ownText y s) ++ c) ≡ length (g .done ++ ownText y s) + length c =
               length-append (g .done ++ ownText y s) c in
@@ -198,14 +195,7 @@ module _ (t : List ℕ) (r : List ℤ) (f : List Float) (y : List ℕ) (from n d
               }
 
 -- what is inside the first row from row i on is ready too
-module _ (t : List ℕ) (r : List ℤ) (f : List Float) (y : List ℕ) (from n d : ℕ) (p : WalkReady t r f y from n d) where
-  pub walk-inside : (z : List ℕ) (k i : ℕ) → Walk t f z y d k i → i + k ≤ from + n → (m : ℕ) → m ≡ cell 8 t i 1
-      → WalkReady t r f y (i + 1) (m - 1) (d - 1)
+module _ (t y : List ℕ) (from n d : ℕ) (p : WalkReady t y from n d) where
+  pub walk-inside : (z : List ℕ) (k i : ℕ) → Walk t z y d k i → i + k ≤ from + n → (m : ℕ) → m ≡ cell 6 t i 1 → WalkReady t y (i + 1) (m - 1) (d - 1)
   walk-inside z k i w h m q =
-      record {
-        strings = z;
-        are = rw q (w .inside);
-        cells = omega (arith, p .cells, w .least, w .most, q);
-        times = omega (arith, p .times, w .least, w .most, q);
-        floats = omega (arith, p .floats, w .least, w .most, q);
-      }
+      record { strings = z; are = rw q (w .inside); cells = omega (arith, p .cells, w .least, w .most, q) }

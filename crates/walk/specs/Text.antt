@@ -5,8 +5,6 @@ use mathlib.Core.Path.{_≡_}
 use mathlib.Core.Bool.{true}
 use mathlib.Core.List.{List, [], _∷_, _++_}
 use lib.ListN.{length}
-use lib.IntN.{ℤ}
-use lib.Ieee.{Float}
 use Rattle.track.specs.declared.strings.Span.{Span}
 use Rattle.track.specs.declared.segments.Segment.{Segment}
 use Rattle.track.specs.Track.{Segments}
@@ -52,10 +50,8 @@ TextWithin y Segment.Strike = Unit {0}
 TextWithin y (Segment.Color c) = Unit {0}
 TextWithin y (Segment.Font x) = Unit {0}
 
--- the n rows from row i on are segments, nested at most d, within their tables; y are the used texts, and the used strings are some
-pub record WalkReady (t : List ℕ) (r : List ℤ) (f : List Float) (y : List ℕ) (i n d : ℕ) : Type 0 where
+-- the n rows from row i on are segments, nested at most d, within their table; y are the used texts, and the used strings are some
+pub record WalkReady (t y : List ℕ) (i n d : ℕ) : Type 0 where
   pub strings : List ℕ
-  pub are : areSegments t f strings y d n i ≡ true
-  pub cells : (i + n) * 8 ≤ length t
-  pub times : i + n ≤ length r
-  pub floats : i + n ≤ length f
+  pub are : areSegments t strings y d n i ≡ true
+  pub cells : (i + n) * 6 ≤ length t

@@ -31,8 +31,6 @@ fn own_text(s: Segment, texts: &[u8], out: &mut [u8], at: usize) -> Written
 // does not fit.
 pub fn plain_text(
     segments: &[u32],
-    reveal: &[i64],
-    sizes: &[f32],
     texts: &[u8],
     from: usize,
     n: usize,
@@ -40,16 +38,16 @@ pub fn plain_text(
     out: &mut [u8],
     at: usize,
 ) -> Written
-    requires { ⌜ WalkReady (now segments) (now reveal) (now sizes) (now texts) from n room × (at ≤ length (now out)) ⌝ }
-    ensures { λ r. ⌜ WroteInPart (plainText (now (texts .entry)) (segmentsAt (now (segments .entry)) (now (reveal .entry))
-        (now (sizes .entry)) room n from)) at (now (out .entry)) (now (out .exit)) r ⌝ }
+    requires { ⌜ WalkReady (now segments) (now texts) from n room × (at ≤ length (now out)) ⌝ }
+    ensures { λ r. ⌜ WroteInPart (plainText (now (texts .entry)) (segmentsAt (now (segments .entry)) room n from)) at
+        (now (out .entry)) (now (out .exit)) r ⌝ }
 {
     let end = from + n;
     let mut i = from;
     let mut to = at;
     while i < end {
         let rows = scan::get(segments, i * SEGMENT_CELLS + 1);
-        let s = track::segment_at(segments, reveal, sizes, i);
+        let s = track::segment_at(segments, i);
         match own_text(s, texts, out, to) {
             Written::Full => {
                 return Written::Full;
@@ -60,8 +58,6 @@ pub fn plain_text(
         }
         match plain_text(
             segments,
-            reveal,
-            sizes,
             texts,
             i + 1,
             rows - 1,

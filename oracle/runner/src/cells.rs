@@ -1,10 +1,10 @@
-//! The cells of the fourteen tables that `parse` and `bytes_to_cue` must leave: docs/TABLES.md. Of each table the cells up to
+//! The cells of the thirteen tables that `parse` and `bytes_to_cue` must leave: docs/TABLES.md. Of each table the cells up to
 //! the last that is not zero by necessity; all behind them are zero.
 
 use crate::placed::{Cue, Extras, Placed, Segment, Style, Track, Wrapper};
 use crate::rows::{Read, Rows};
 use crate::sum::{Sum, unsigned};
-use crate::tables::{SEGMENTS, align, spelling};
+use crate::tables::{SEGMENTS, align, halves, marks, spelling};
 
 #[derive(Default)]
 pub struct Cells {
@@ -16,10 +16,7 @@ pub struct Cells {
     pub cues: Vec<u32>,
     pub times: Vec<i64>,
     pub segments: Vec<u32>,
-    pub reveal: Vec<i64>,
-    /// Those of segments, and those of styles, which stand from cell 16,384 on.
     pub sizes: Vec<f32>,
-    pub style_sizes: Vec<f32>,
     pub extras: Vec<u32>,
     pub texts: Vec<u8>,
 }
@@ -34,9 +31,7 @@ impl Cells {
             table.clear();
         }
         self.times.clear();
-        self.reveal.clear();
         self.sizes.clear();
-        self.style_sizes.clear();
         self.texts.clear();
     }
 
@@ -63,13 +58,19 @@ impl Cells {
         for cue in &track.cues {
             self.cue(cue);
         }
-        let counts = [track.params.len(), track.styles.len(), track.regions.len(), track.cues.len(), self.reveal.len()];
+        let counts = [track.params.len(), track.styles.len(), track.regions.len(), track.cues.len()];
         self.head.extend(counts.map(|count| count as u32));
+        self.head.push(self.count());
         self.head.extend(optional(&track.lang));
         self.head.extend([strings as u32, texts as u32]);
     }
 
-    /// What a recording has in the place of all cells: `sum.rs`. Sizes are left out: their spelling stands in the rows.
+    /// How many segments there are.
+    fn count(&self) -> u32 {
+        self.segments.len() as u32 / 6
+    }
+
+    /// What a recording has in the place of all cells: `sum.rs`. `sizes` are left out: their spelling stands in the rows of styles.
     pub fn sum(&self) -> u32 {
         let mut sum = Sum::default();
         for table in
@@ -79,7 +80,6 @@ impl Cells {
         }
         sum.table(self.times.iter().map(|&us| unsigned(us)));
         sum.table(self.segments.iter().map(|&cell| cell as u64));
-        sum.table(self.reveal.iter().map(|&us| unsigned(us)));
         sum.table(self.extras.iter().map(|&cell| cell as u64));
         sum.table(self.tree.strings.iter().map(|&byte| byte as u64));
         sum.table(self.texts.iter().map(|&byte| byte as u64));
@@ -100,66 +100,49 @@ impl Cells {
         let extras = self.rows(&style.extras);
         self.styles.extend(extras);
         assert_eq!(self.styles.len(), row + 27);
-        self.style_sizes.push(style.size.unwrap_or(0.0));
+        self.sizes.push(style.size.unwrap_or(0.0));
     }
 
     fn cue(&mut self, cue: &Cue) {
         self.times.extend([cue.start, cue.end]);
-        let first = self.reveal.len();
+        let first = self.count();
         for segment in &cue.segments {
             self.segment(segment);
         }
         self.cues.extend(optional(&cue.style));
         self.cues.extend(optional(&cue.region));
         self.cues.push(cue.preserve as u32);
-        self.cues.extend([first, self.reveal.len() - first].map(|n| n as u32));
+        self.cues.extend([first, self.count() - first]);
         let extras = self.rows(&cue.extras);
         self.cues.extend(extras);
     }
 
     fn segment(&mut self, segment: &Segment) {
-        let row = self.reveal.len();
-        assert!(row < SEGMENTS, "no text has so many segments");
-        self.segments.extend([0; 8]);
-        self.reveal.push(if let Segment::Timestamp(us) = segment { *us } else { 0 });
-        self.sizes.push(0.0);
+        let row = self.count();
+        assert!(row < SEGMENTS as u32, "no text has so many segments");
+        self.segments.extend([0; 6]);
         let (kind, data) = match segment {
             Segment::Text(text) => {
                 self.texts[text.place..text.place + text.string.len()].copy_from_slice(text.string.as_bytes());
                 let [place, length] = span(text);
-                (1, [place, length, 0, 0, 0, 0])
+                (1, [place, length, 0, 0])
             }
-            Segment::Break => (2, [0; 6]),
-            Segment::Timestamp(_) => (3, [0; 6]),
+            Segment::Break => (2, [0; 4]),
+            Segment::Timestamp(us) => {
+                let [low, high] = halves(*us);
+                (3, [low, high, 0, 0])
+            }
             Segment::Wrapper(wrapper, inside) => {
                 for child in inside {
                     self.segment(child);
                 }
-                self.wrapper(row, wrapper)
+                cells_of(wrapper)
             }
         };
-        let cells = &mut self.segments[8 * row..8 * row + 8];
-        cells[0] = kind;
-        cells[1] = (self.reveal.len() - row) as u32;
+        let rows = self.count() - row;
+        let cells = &mut self.segments[6 * row as usize..][..6];
+        cells[..2].copy_from_slice(&[kind, rows]);
         cells[2..].copy_from_slice(&data);
-    }
-
-    fn wrapper(&mut self, row: usize, wrapper: &Wrapper) -> (u32, [u32; 6]) {
-        match wrapper {
-            Wrapper::Bold => (4, [0; 6]),
-            Wrapper::Italic => (5, [0; 6]),
-            Wrapper::Underline => (6, [0; 6]),
-            Wrapper::Strike => (7, [0; 6]),
-            Wrapper::Color(rgb) => {
-                let [r, g, b] = rgb.map(u32::from);
-                (8, [r, g, b, 0, 0, 0])
-            }
-            Wrapper::Font { family, size } => {
-                self.sizes[row] = size.unwrap_or(0.0);
-                let ([flag, place, length], [sign, digits, scale]) = (optional(family), measure(*size));
-                (9, [flag, place, length, sign, digits, scale])
-            }
-        }
     }
 
     /// The first row of these, and how many. "The first row of a list without extras is 0."
@@ -173,6 +156,24 @@ impl Cells {
             self.extras.extend([*number as u32, place, length]);
         }
         [first, extras.len() as u32]
+    }
+}
+
+/// The kind of a wrapper and its data.
+fn cells_of(wrapper: &Wrapper) -> (u32, [u32; 4]) {
+    match wrapper {
+        Wrapper::Bold => (4, [0; 4]),
+        Wrapper::Italic => (5, [0; 4]),
+        Wrapper::Underline => (6, [0; 4]),
+        Wrapper::Strike => (7, [0; 4]),
+        Wrapper::Color(rgb) => {
+            let [r, g, b] = rgb.map(u32::from);
+            (8, [r, g, b, 0])
+        }
+        Wrapper::Font { family, size } => {
+            let [flag, place, length] = optional(family);
+            (9, [place, length, marks(flag, measure(*size)), size.unwrap_or(0.0).to_bits()])
+        }
     }
 }
 

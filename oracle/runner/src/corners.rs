@@ -222,6 +222,13 @@ const TIMES: &[&str] = &[
     "<tt><body><p begin='2562047788:1' end='1e3s'/></body></tt>",
     "<tt><body><p begin='1e3s'><span begin='1e3s'/></p></body></tt>",
     "<tt><body begin='2562047788:1:-60'/></tt>",
+    // Timestamps at the ends of 64 bits, and around a half of them.
+    "<tt><body begin='2562047788:0'><p><span begin='54.775807s'>a</span><span begin='54.775806s'>b</span></p></body></tt>",
+    "<tt><body begin='-2562047788:0'><p><span begin='-54.775807s'>a</span><span begin='-54.775808s'>b</span></p></body></tt>",
+    "<p><span begin='4294.967295s'>a</span><span begin='4294.967296s'>b</span><span begin='4294.967297s'>c</span></p>",
+    "<p><span begin='-4294.967295s'>a</span><span begin='-4294.967296s'>b</span><span begin='-4294.967297s'>c</span></p>",
+    "<p><span begin='0.000001s'>a</span><span begin='0s'>b</span><span begin='-0.000001s'>c</span></p>",
+    "<p><span begin='2147.483647s'>a</span><span begin='2147.483648s'>b</span><span begin='-2147.483649s'>c</span></p>",
 ];
 
 /// The content of a p: white space, breaks, spans.
@@ -283,6 +290,14 @@ const INLINE: &[&str] = &[
     "<span tts:fontFamily=''>a</span>",
     "<span tts:fontSize='x'>a</span>",
     "<span tts:fontSize='-0'>a</span>",
+    "<span tts:fontSize='0'>a</span>",
+    "<span tts:fontSize='0px'>a<br/>b</span>",
+    "<span tts:fontSize='-0.0'>a<br/>b</span>",
+    "<span tts:fontSize='0'><span>a<br/>b</span></span>",
+    "<span><span tts:fontSize='0'>a<br/>b</span></span>",
+    "<span tts:fontSize='0' tts:color='red'>a<br/>b</span>",
+    "<span tts:fontFamily=''>a<br/>b</span>",
+    "<span tts:fontFamily='' tts:fontSize='0'/>",
     "<span tts:fontSize='+5px'>a</span>",
     "<span tts:fontSize=' 5px'>a</span>",
     "<span tts:fontSize='1e5px'>a</span>",
@@ -360,6 +375,19 @@ const READINGS: &[&str] = &[
     "<tt><body><p tts:fontSize='1e9' tts:color='#aé'>a",
     "<tt><body><p tts:color='#aé'><span tts:fontSize='1e9'>a",
     "<tt><body><p tts:color='#gé'>a",
+    // Whether a font stands around all of a p.
+    "<tt><body><p tts:fontSize=\"0\">",
+    "<tt><body><p tts:fontSize=\"0\">a</p></body></tt>",
+    "<tt><body><p tts:fontSize=\"0\">a<br/>b</p></body></tt>",
+    "<tt><body><p tts:fontSize='-0'>a<br/>b</p></body></tt>",
+    "<tt><body><p tts:fontSize='0'><span>a<br/>b</span></p></body></tt>",
+    "<tt><body><p tts:fontSize='0'><span tts:fontSize='0px'>a<br/>b</span></p></body></tt>",
+    "<tt><body><p><span tts:fontSize=\"0px\">a<br/>b</span></p></body></tt>",
+    "<tt><body><p><span tts:fontSize='-0'>a<br/>b</span></p></body></tt>",
+    "<tt><body><p tts:fontFamily=''>a<br/>b</p></body></tt>",
+    "<tt><body><p tts:fontFamily=''><span tts:fontFamily=''>a<br/>b</span></p></body></tt>",
+    "<tt><body><p tts:fontSize='x'><span>a<br/>b</span></p></body></tt>",
+    "<tt><body><p tts:fontSize='x'><span tts:fontSize='0'>a<br/>b</span></p></body></tt>",
 ];
 
 /// At and around each limit of counts, with what else may be met there.

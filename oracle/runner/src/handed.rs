@@ -1,8 +1,8 @@
-//! A track in the port's twelve tables as it is handed over, and read back as the Rust's track.
+//! A track in the port's eleven tables as it is handed over, and read back as the Rust's track.
 
 use crate::extras::{INLINE, Names, REGION, STYLE, join};
 use crate::tables::{
-    ALIGNS, CUES, LENGTHS, MORE, PARAMS, REGIONS, SEGMENT_COUNT, SEGMENTS, STRINGS, STYLE_COUNT, TEXTS, spelling,
+    ALIGNS, CUES, LENGTHS, MORE, PARAMS, REGIONS, SEGMENT_COUNT, STRINGS, STYLE_COUNT, TEXTS, font, spelling,
 };
 use reference::ir::{Segment, SubtitleCue, SubtitleStyle, SubtitleTrack};
 
@@ -16,14 +16,13 @@ pub struct Handed<'a> {
     pub cues: &'a [u32],
     pub times: &'a [i64],
     pub segments: &'a [u32],
-    pub reveal: &'a [i64],
     pub sizes: &'a [f32],
     pub extras: &'a [u32],
     pub strings: &'a [u8],
     pub texts: &'a [u8],
 }
 
-/// How the twelve tables are lent.
+/// How the eleven tables are lent.
 #[derive(Clone, Copy, Debug, PartialEq)]
 pub enum Lending {
     Fixed,
@@ -100,7 +99,7 @@ impl Handed<'_> {
         style.primary_color = color_at(&row[4..]);
         style.back_color = color_at(&row[9..]);
         style.font_family = self.optional_at(&row[14..])?;
-        style.font_size = self.size_at(SEGMENTS + at, &row[17..])?;
+        style.font_size = size_of(&row[17..20], self.sizes[at])?;
         [style.bold, style.italic, style.underline, style.strike] = [20, 21, 22, 23].map(|cell| row[cell] == 1);
         style.align = *ALIGNS.get(row[24] as usize).ok_or(format!("alignment {}", row[24]))?;
         Ok(style)
@@ -111,7 +110,7 @@ impl Handed<'_> {
         let mut segments = Vec::new();
         while *at < end {
             let here = *at;
-            let row = &self.segments[8 * here..8 * here + 8];
+            let row = &self.segments[6 * here..6 * here + 6];
             *at += 1;
             let last = here + row[1] as usize;
             if last <= here || end < last {
@@ -121,17 +120,16 @@ impl Handed<'_> {
             segments.push(match row[0] {
                 1 => Segment::Text(string_in(self.texts, self.head[TEXTS], &row[2..])?),
                 2 => Segment::LineBreak,
-                3 => Segment::Timestamp { offset_us: self.reveal[here] },
+                3 => Segment::Timestamp { offset_us: (row[3] as i32 as i64) << 32 | row[2] as i64 },
                 4 => Segment::Bold(children),
                 5 => Segment::Italic(children),
                 6 => Segment::Underline(children),
                 7 => Segment::Strike(children),
                 8 => Segment::Color { rgb: (row[2] as u8, row[3] as u8, row[4] as u8), children },
-                9 => Segment::Font {
-                    family: self.optional_at(&row[2..])?,
-                    size: self.size_at(here, &row[5..])?,
-                    children,
-                },
+                9 => {
+                    let (family, size, value) = font(&row[2..]);
+                    Segment::Font { family: self.optional_at(&family)?, size: size_of(&size, value)?, children }
+                }
                 kind => return Err(format!("segment {here} has kind {kind}")),
             });
         }
@@ -152,14 +150,14 @@ impl Handed<'_> {
     fn optional_at(&self, cells: &[u32]) -> Back<Option<String>> {
         if cells[0] == 1 { self.string_at(&cells[1..]).map(Some) } else { Ok(None) }
     }
+}
 
-    fn size_at(&self, cell: usize, cells: &[u32]) -> Back<Option<f32>> {
-        let value = self.sizes[cell];
-        match cells[0] {
-            0 => Ok(None),
-            _ if spelling(value).as_ref().map(|spelling| &spelling[..]) == Some(&cells[..3]) => Ok(Some(value)),
-            _ => Err(format!("size {value} is spelled {:?}", &cells[..3])),
-        }
+/// A size of which these are sign, digits and scale.
+fn size_of(cells: &[u32], value: f32) -> Back<Option<f32>> {
+    match cells[0] {
+        0 => Ok(None),
+        _ if spelling(value).as_ref().map(|spelling| &spelling[..]) == Some(cells) => Ok(Some(value)),
+        _ => Err(format!("size {value} is spelled {cells:?}")),
     }
 }
 

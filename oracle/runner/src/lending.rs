@@ -1,25 +1,25 @@
-//! The fourteen tables of `parse` and `bytes_to_cue`, lent to the port, each within a guarded area, and what they hold
+//! The thirteen tables of `parse` and `bytes_to_cue`, lent to the port, each within a guarded area, and what they hold
 //! afterwards.
 
 use crate::cells::Cells;
 use crate::handed::Handed;
 use crate::layers::tree::{ATTRS, NODES};
-use crate::tables::{self, SEGMENTS};
+use crate::tables;
 use std::ops::Range;
 
 /// The lengths of the tables, in the order in which they are passed.
-pub type Lengths = [usize; 14];
+pub type Lengths = [usize; 13];
 
 pub const FIXED: Lengths = {
-    let [head, params, styles, regions, cues, times, segments, reveal, sizes, extras, strings, texts] = tables::LENGTHS;
-    [NODES, ATTRS, head, params, styles, regions, cues, times, segments, reveal, sizes, extras, strings, texts]
+    let [head, params, styles, regions, cues, times, segments, sizes, extras, strings, texts] = tables::LENGTHS;
+    [NODES, ATTRS, head, params, styles, regions, cues, times, segments, sizes, extras, strings, texts]
 };
 
 /// How many cells a row has, and the tables' names.
-const WIDTHS: Lengths = [6, 4, 10, 4, 27, 4, 11, 2, 8, 1, 1, 3, 1, 1];
-const NAMES: [&str; 14] = [
-    "nodes", "attrs", "head", "params", "styles", "regions", "cues", "times", "segments", "reveal", "sizes", "extras",
-    "strings", "texts",
+const WIDTHS: Lengths = [6, 4, 10, 4, 27, 4, 11, 2, 6, 1, 3, 1, 1];
+const NAMES: [&str; 13] = [
+    "nodes", "attrs", "head", "params", "styles", "regions", "cues", "times", "segments", "sizes", "extras", "strings",
+    "texts",
 ];
 
 /// How much of the tables is filled before the call and looked at after it.
@@ -95,20 +95,14 @@ impl<C: Cell> Table<C> {
         &self.cells[GUARD..GUARD + lengths[self.number]]
     }
 
-    /// Where the parts of the table begin: of `sizes` the cells of styles are one.
-    fn parts(&self) -> &'static [usize] {
-        if NAMES[self.number] == "sizes" { &[0, SEGMENTS] } else { &[0] }
-    }
-
     /// Which cells are filled and looked at.
-    fn seen(&self, lengths: &Lengths, care: Care, calls: usize) -> [Range<usize>; 4] {
+    fn seen(&self, lengths: &Lengths, care: Care, calls: usize) -> [Range<usize>; 3] {
         let lent = lengths[self.number];
-        let Care::Near(bytes) = care else { return [0..lent, 0..0, 0..0, 0..0] };
+        let Care::Near(bytes) = care else { return [0..lent, 0..0, 0..0] };
         let near = WIDTHS[self.number] * (bytes + 2);
         let moving = calls * 997 % lent;
-        let part = |at: usize| self.parts().get(at).map_or(0..0, |&start| start..start + near);
         let within = |range: Range<usize>| range.start.min(lent)..range.end.min(lent);
-        [part(0), part(1), moving..moving + SOME, lent.saturating_sub(SOME)..lent].map(within)
+        [0..near, moving..moving + SOME, lent.saturating_sub(SOME)..lent].map(within)
     }
 
     /// The table, filled with other bits than zero where it is seen, and around it.
@@ -122,12 +116,14 @@ impl<C: Cell> Table<C> {
         &mut self.cells[lent]
     }
 
-    /// The first cell seen that is not what it must be: in each part `must` at the start, then zero.
-    fn wrong(&self, lengths: &Lengths, care: Care, calls: usize, must: &[&[C]]) -> Option<Wrong> {
+    /// The first cell seen that is not what it must be: `must` at the start, then zero.
+    fn wrong(&self, lengths: &Lengths, care: Care, calls: usize, must: &[C]) -> Option<Wrong> {
         let lent = self.lent(lengths);
         let table = NAMES[self.number];
         for range in self.seen(lengths, care, calls) {
-            if let Some((at, is, must)) = self.other(lent, range, must) {
+            let named = &must[range.start.min(must.len())..range.end.min(must.len())];
+            if let Some((at, is, must)) = other(&lent[range.clone()], named) {
+                let at = range.start + at;
                 let (row, cell) = (at / WIDTHS[self.number], at % WIDTHS[self.number]);
                 return Some(Wrong::Cell { table, row, cell, is: is.number(), must: must.number() });
             }
@@ -135,21 +131,6 @@ impl<C: Cell> Table<C> {
         let after = GUARD + lent.len();
         let touched = !all(&self.cells[..GUARD], C::FILL) || !all(&self.cells[after..after + GUARD], C::FILL);
         touched.then_some(Wrong::Outside(table))
-    }
-
-    fn other(&self, lent: &[C], range: Range<usize>, must: &[&[C]]) -> Option<(usize, C, C)> {
-        for (part, must) in must.iter().enumerate() {
-            let start = self.parts()[part];
-            let end = self.parts().get(part + 1).copied().unwrap_or(lent.len());
-            let (from, to) = (range.start.max(start), range.end.min(end));
-            if from < to {
-                let named = &must[(from - start).min(must.len())..(to - start).min(must.len())];
-                if let Some((at, is, must)) = other(&lent[from..to], named) {
-                    return Some((from + at, is, must));
-                }
-            }
-        }
-        None
     }
 }
 
@@ -180,7 +161,6 @@ pub struct Lending {
     cues: Table<u32>,
     times: Table<i64>,
     segments: Table<u32>,
-    reveal: Table<i64>,
     sizes: Table<f32>,
     extras: Table<u32>,
     strings: Table<u8>,
@@ -207,11 +187,10 @@ impl Lending {
             cues: Table::new(6),
             times: Table::new(7),
             segments: Table::new(8),
-            reveal: Table::new(9),
-            sizes: Table::new(10),
-            extras: Table::new(11),
-            strings: Table::new(12),
-            texts: Table::new(13),
+            sizes: Table::new(9),
+            extras: Table::new(10),
+            strings: Table::new(11),
+            texts: Table::new(12),
             calls: 0,
         }
     }
@@ -245,7 +224,6 @@ impl Lending {
             self.cues.lend(l, care, n),
             self.times.lend(l, care, n),
             self.segments.lend(l, care, n),
-            self.reveal.lend(l, care, n),
             self.sizes.lend(l, care, n),
             self.extras.lend(l, care, n),
             self.strings.lend(l, care, n),
@@ -257,20 +235,19 @@ impl Lending {
     pub fn wrong(&self, lengths: &Lengths, care: Care, must: &Cells) -> Option<Wrong> {
         let (l, n) = (lengths, self.calls);
         let tables = [
-            self.nodes.wrong(l, care, n, &[&must.tree.nodes]),
-            self.attrs.wrong(l, care, n, &[&must.tree.attrs]),
-            self.head.wrong(l, care, n, &[&must.head]),
-            self.params.wrong(l, care, n, &[&must.params]),
-            self.styles.wrong(l, care, n, &[&must.styles]),
-            self.regions.wrong(l, care, n, &[&must.regions]),
-            self.cues.wrong(l, care, n, &[&must.cues]),
-            self.times.wrong(l, care, n, &[&must.times]),
-            self.segments.wrong(l, care, n, &[&must.segments]),
-            self.reveal.wrong(l, care, n, &[&must.reveal]),
-            self.sizes.wrong(l, care, n, &[&must.sizes, &must.style_sizes]),
-            self.extras.wrong(l, care, n, &[&must.extras]),
-            self.strings.wrong(l, care, n, &[&must.tree.strings]),
-            self.texts.wrong(l, care, n, &[&must.texts]),
+            self.nodes.wrong(l, care, n, &must.tree.nodes),
+            self.attrs.wrong(l, care, n, &must.tree.attrs),
+            self.head.wrong(l, care, n, &must.head),
+            self.params.wrong(l, care, n, &must.params),
+            self.styles.wrong(l, care, n, &must.styles),
+            self.regions.wrong(l, care, n, &must.regions),
+            self.cues.wrong(l, care, n, &must.cues),
+            self.times.wrong(l, care, n, &must.times),
+            self.segments.wrong(l, care, n, &must.segments),
+            self.sizes.wrong(l, care, n, &must.sizes),
+            self.extras.wrong(l, care, n, &must.extras),
+            self.strings.wrong(l, care, n, &must.tree.strings),
+            self.texts.wrong(l, care, n, &must.texts),
         ];
         tables.into_iter().flatten().next()
     }
@@ -286,7 +263,6 @@ impl Lending {
             cues: self.cues.lent(l),
             times: self.times.lent(l),
             segments: self.segments.lent(l),
-            reveal: self.reveal.lent(l),
             sizes: self.sizes.lent(l),
             extras: self.extras.lent(l),
             strings: self.strings.lent(l),

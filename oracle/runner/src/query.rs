@@ -132,20 +132,17 @@ fn call(
     out: &mut [u64],
     size: &mut [f32],
 ) -> u32 {
-    let Handed { head, params, styles, regions, cues, times, segments, reveal, sizes, extras, strings, texts } =
+    let Handed { head, params, styles, regions, cues, times, segments, sizes, extras, strings, texts } =
         tables.handed(lending);
     let told = match question {
         Question::Value(value) => port::pg_resolve_referenced_style(
-            value, head, params, styles, regions, cues, times, segments, reveal, sizes, extras, strings, texts, ids,
-            out, size,
+            value, head, params, styles, regions, cues, times, segments, sizes, extras, strings, texts, ids, out, size,
         ),
         Question::Region(id) => port::pg_region_style(
-            id, head, params, styles, regions, cues, times, segments, reveal, sizes, extras, strings, texts, ids, out,
-            size,
+            id, head, params, styles, regions, cues, times, segments, sizes, extras, strings, texts, ids, out, size,
         ),
         Question::Cue(index) => port::pg_effective_style_for_cue_index(
-            head, params, styles, regions, cues, times, segments, reveal, sizes, extras, strings, texts, *index, ids,
-            out, size,
+            head, params, styles, regions, cues, times, segments, sizes, extras, strings, texts, *index, ids, out, size,
         ),
     };
     told as u32

@@ -1,28 +1,24 @@
 //! Cells that a row's kind or flags do not use, and rows and bytes past those that are used, are not looked at: here they are
 //! filled, and the tables mean the same track.
 
-use crate::tables::{SEGMENTS, Tables};
+use crate::tables::Tables;
 
 const FILL: u32 = 0xBAD0_BAD0;
 
 /// Fills all such cells.
 pub fn soil(t: &mut Tables) {
-    for table in 1..12 {
-        let used = t.used(table);
-        let fill = if table == 10 || table == 11 { 0xFF } else { FILL as i64 };
-        // The cells of styles stand behind those of all segments.
-        for at in used..if table == 8 { SEGMENTS } else { length(t, table) } {
+    for table in 1..11 {
+        let fill = if table > 8 { 0xFF } else { FILL as i64 };
+        for at in t.used(table)..length(t, table) {
             t.set(table, at, fill);
         }
     }
     absent(&mut t.head[5..8]);
-    for at in 0..t.sizes.len() - SEGMENTS {
-        if at >= t.head[1] as usize || t.styles[27 * at + 17] == 0 {
-            t.sizes[SEGMENTS + at] = f32::NAN;
-        }
-    }
     let styles = t.used(2);
-    for row in t.styles[..styles].chunks_mut(27) {
+    for (row, size) in t.styles[..styles].chunks_mut(27).zip(&mut t.sizes) {
+        if row[17] == 0 {
+            *size = f32::NAN;
+        }
         for (from, to) in [(4, 9), (9, 14), (14, 17), (17, 20)] {
             absent(&mut row[from..to]);
         }
@@ -43,24 +39,22 @@ fn absent(cells: &mut [u32]) {
 }
 
 fn segments(t: &mut Tables) {
-    for at in 0..t.head[4] as usize {
-        let row = &mut t.segments[8 * at..8 * at + 8];
+    let used = t.used(6);
+    for row in t.segments[..used].chunks_mut(6) {
         let data = match row[0] {
-            1 => 2,
+            1 | 3 => 2,
             8 => 3,
-            9 => 6,
+            9 => 4,
             _ => 0,
         };
         row[2 + data..].fill(FILL);
-        if row[0] == 9 {
-            absent(&mut row[2..5]);
-            absent(&mut row[5..8]);
+        if row[0] == 9 && row[4] & 1 == 0 {
+            row[2..4].fill(FILL);
         }
-        if row[0] != 9 || row[5] == 0 {
-            t.sizes[at] = f32::NAN;
-        }
-        if row[0] != 3 {
-            t.reveal[at] = i64::MIN;
+        // Scale and digits are of no account without a sign.
+        if row[0] == 9 && row[4] & 6 == 0 {
+            row[4] |= FILL & !7;
+            row[5] = f32::NAN.to_bits();
         }
     }
 }
@@ -73,9 +67,9 @@ fn length(t: &Tables, table: usize) -> usize {
         4 => t.cues.len(),
         5 => t.times.len(),
         6 => t.segments.len(),
-        7 => t.reveal.len(),
-        9 => t.extras.len(),
-        10 => t.strings.len(),
+        7 => t.sizes.len(),
+        8 => t.extras.len(),
+        9 => t.strings.len(),
         _ => t.texts.len(),
     }
 }

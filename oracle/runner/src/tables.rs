@@ -1,4 +1,4 @@
-//! The port's twelve tables of a track (docs/TABLES.md): laid out from the Rust's track, or holding given cells.
+//! The port's eleven tables of a track (docs/TABLES.md): laid out from the Rust's track, or holding given cells.
 
 use crate::cells::Cells;
 use crate::extras::{INLINE, Names, REGION, STYLE, split};
@@ -12,20 +12,8 @@ pub const SEGMENTS: usize = 16_384;
 pub const BYTES: usize = 65_536;
 
 /// The fixed lengths, in the order in which the tables are passed.
-pub const LENGTHS: [usize; 12] = [
-    10,
-    4 * 64,
-    27 * STYLES,
-    4 * 256,
-    11 * 2_048,
-    2 * 2_048,
-    8 * SEGMENTS,
-    SEGMENTS,
-    SEGMENTS + STYLES,
-    3 * 8_192,
-    BYTES,
-    BYTES,
-];
+pub const LENGTHS: [usize; 11] =
+    [10, 4 * 64, 27 * STYLES, 4 * 256, 11 * 2_048, 2 * 2_048, 6 * SEGMENTS, STYLES, 3 * 8_192, BYTES, BYTES];
 
 /// So many cells more stand behind them, to be lent or not.
 pub const MORE: usize = 9;
@@ -39,7 +27,6 @@ pub struct Tables {
     pub cues: Vec<u32>,
     pub times: Vec<i64>,
     pub segments: Vec<u32>,
-    pub reveal: Vec<i64>,
     pub sizes: Vec<f32>,
     pub extras: Vec<u32>,
     pub strings: Vec<u8>,
@@ -68,7 +55,7 @@ const NONE: [u32; 3] = [0; 3];
 
 impl Tables {
     pub fn new() -> Tables {
-        let [head, params, styles, regions, cues, times, segments, reveal, sizes, extras, strings, texts] =
+        let [head, params, styles, regions, cues, times, segments, sizes, extras, strings, texts] =
             LENGTHS.map(|length| length + MORE);
         Tables {
             head: vec![0; head],
@@ -78,7 +65,6 @@ impl Tables {
             cues: vec![0; cues],
             times: vec![0; times],
             segments: vec![0; segments],
-            reveal: vec![0; reveal],
             sizes: vec![0.0; sizes],
             extras: vec![0; extras],
             strings: vec![0; strings],
@@ -96,11 +82,10 @@ impl Tables {
             cues: lent(&self.cues, 4, lending),
             times: lent(&self.times, 5, lending),
             segments: lent(&self.segments, 6, lending),
-            reveal: lent(&self.reveal, 7, lending),
-            sizes: lent(&self.sizes, 8, lending),
-            extras: lent(&self.extras, 9, lending),
-            strings: lent(&self.strings, 10, lending),
-            texts: lent(&self.texts, 11, lending),
+            sizes: lent(&self.sizes, 7, lending),
+            extras: lent(&self.extras, 8, lending),
+            strings: lent(&self.strings, 9, lending),
+            texts: lent(&self.texts, 10, lending),
         }
     }
 
@@ -114,9 +99,7 @@ impl Tables {
         copy(&mut self.cues, &cells.cues);
         copy(&mut self.times, &cells.times);
         copy(&mut self.segments, &cells.segments);
-        copy(&mut self.reveal, &cells.reveal);
         copy(&mut self.sizes, &cells.sizes);
-        copy(&mut self.sizes[SEGMENTS..], &cells.style_sizes);
         copy(&mut self.extras, &cells.extras);
         copy(&mut self.strings, &cells.tree.strings);
         copy(&mut self.texts, &cells.texts);
@@ -127,10 +110,9 @@ impl Tables {
     pub fn cell(&self, table: usize, at: usize) -> i64 {
         match table {
             5 => self.times[at],
-            7 => self.reveal[at],
-            8 => self.sizes[at].to_bits() as i64,
-            10 => self.strings[at] as i64,
-            11 => self.texts[at] as i64,
+            7 => self.sizes[at].to_bits() as i64,
+            9 => self.strings[at] as i64,
+            10 => self.texts[at] as i64,
             _ => self.words(table)[at] as i64,
         }
     }
@@ -138,10 +120,9 @@ impl Tables {
     pub fn set(&mut self, table: usize, at: usize, value: i64) {
         match table {
             5 => self.times[at] = value,
-            7 => self.reveal[at] = value,
-            8 => self.sizes[at] = f32::from_bits(value as u32),
-            10 => self.strings[at] = value as u8,
-            11 => self.texts[at] = value as u8,
+            7 => self.sizes[at] = f32::from_bits(value as u32),
+            9 => self.strings[at] = value as u8,
+            10 => self.texts[at] = value as u8,
             0 => self.head[at] = value as u32,
             1 => self.params[at] = value as u32,
             2 => self.styles[at] = value as u32,
@@ -174,10 +155,10 @@ impl Tables {
             3 => 4 * count(REGIONS),
             4 => 11 * count(CUES),
             5 => 2 * count(CUES),
-            6 => 8 * count(SEGMENT_COUNT),
-            7 | 8 => count(SEGMENT_COUNT),
-            9 => 3 * self.rows,
-            10 => count(STRINGS),
+            6 => 6 * count(SEGMENT_COUNT),
+            7 => count(STYLE_COUNT),
+            8 => 3 * self.rows,
+            9 => count(STRINGS),
             _ => count(TEXTS),
         }
     }
@@ -224,7 +205,8 @@ impl Tables {
             cells.extend(color(style.primary_color));
             cells.extend(color(style.back_color));
             cells.extend(self.optional(style.font_family.as_deref())?);
-            cells.extend(self.size(SEGMENTS + row, style.font_size)?);
+            cells.extend(measure(style.font_size)?);
+            self.sizes[row] = style.font_size.unwrap_or(0.0);
             cells.extend([style.bold, style.italic, style.underline, style.strike].map(u32::from));
             cells.push(align(style.align));
             cells.extend(self.lay_extras(extras.map_or("", |(_, extras)| extras), STYLE)?);
@@ -265,25 +247,23 @@ impl Tables {
         let (kind, data, children): (u32, Vec<u32>, &[Segment]) = match segment {
             Segment::Text(text) => (1, self.text(text)?.to_vec(), &[]),
             Segment::LineBreak => (2, vec![], &[]),
-            Segment::Timestamp { offset_us } => {
-                self.reveal[row] = *offset_us;
-                (3, vec![], &[])
-            }
+            Segment::Timestamp { offset_us } => (3, halves(*offset_us).to_vec(), &[]),
             Segment::Bold(children) => (4, vec![], children),
             Segment::Italic(children) => (5, vec![], children),
             Segment::Underline(children) => (6, vec![], children),
             Segment::Strike(children) => (7, vec![], children),
             Segment::Color { rgb: (r, g, b), children } => (8, [*r, *g, *b].map(u32::from).to_vec(), children),
             Segment::Font { family, size, children } => {
-                let cells = [self.optional(family.as_deref())?, self.size(row, *size)?];
-                (9, cells.concat(), children)
+                let [flag, place, length] = self.optional(family.as_deref())?;
+                let bits = size.unwrap_or(0.0).to_bits();
+                (9, vec![place, length, marks(flag, measure(*size)?), bits], children)
             }
             _ => return Err(Unfit("a segment that the reader never makes")),
         };
         for child in children {
             self.lay_segment(child)?;
         }
-        let cells = &mut self.segments[8 * row..8 * row + 8];
+        let cells = &mut self.segments[6 * row..6 * row + 6];
         cells[0] = kind;
         cells[1] = self.head[SEGMENT_COUNT] - row as u32;
         cells[2..2 + data.len()].copy_from_slice(&data);
@@ -327,12 +307,6 @@ impl Tables {
         Ok([1, place, length])
     }
 
-    fn size(&mut self, cell: usize, size: Option<f32>) -> Laid<[u32; 3]> {
-        let Some(value) = size else { return Ok(NONE) };
-        self.sizes[cell] = value;
-        spelling(value).ok_or(Unfit("a size"))
-    }
-
     /// As lines of a recording: a letter and the cells of a table, `f` for a size, `z` for the strings.
     pub fn lines(&self, mut line: impl FnMut(&str)) {
         let mut table = |letter: char, cells: &[u32]| {
@@ -349,7 +323,7 @@ impl Tables {
         table('c', &self.cues[..11 * used(CUES)]);
         table('e', &self.extras[..3 * self.rows]);
         for row in (0..used(STYLE_COUNT)).filter(|row| self.styles[27 * row + 17] > 0) {
-            line(&format!("f {} {}", SEGMENTS + row, self.sizes[SEGMENTS + row].to_bits()));
+            line(&format!("f {row} {}", self.sizes[row].to_bits()));
         }
         line(&format!("z {}", hex(&self.strings[..used(STRINGS)])));
     }
@@ -358,18 +332,15 @@ impl Tables {
     fn clear(&mut self) {
         let used = |count: usize, width: usize| 0..self.head[count] as usize * width;
         let (params, styles, regions) = (used(PARAMS, 4), used(STYLE_COUNT, 27), used(REGIONS, 4));
-        let (cues, times, segments) = (used(CUES, 11), used(CUES, 2), used(SEGMENT_COUNT, 8));
-        let (rows, sizes, strings, texts) =
-            (used(SEGMENT_COUNT, 1), used(STYLE_COUNT, 1), used(STRINGS, 1), used(TEXTS, 1));
+        let (cues, times, segments) = (used(CUES, 11), used(CUES, 2), used(SEGMENT_COUNT, 6));
+        let (sizes, strings, texts) = (used(STYLE_COUNT, 1), used(STRINGS, 1), used(TEXTS, 1));
         self.params[params].fill(0);
         self.styles[styles].fill(0);
         self.regions[regions].fill(0);
         self.cues[cues].fill(0);
         self.times[times].fill(0);
         self.segments[segments].fill(0);
-        self.reveal[rows.clone()].fill(0);
-        self.sizes[rows].fill(0.0);
-        self.sizes[SEGMENTS + sizes.start..SEGMENTS + sizes.end].fill(0.0);
+        self.sizes[sizes].fill(0.0);
         self.strings[strings].fill(0);
         self.texts[texts].fill(0);
         self.extras[..3 * self.rows].fill(0);
@@ -403,6 +374,27 @@ pub fn spelling(value: f32) -> Option<[u32; 3]> {
     let digits: u32 = format!("{whole}{behind}").parse().ok()?;
     let sign = 1 + (number.len() < printed.len()) as u32;
     (digits <= 999_999 && behind.len() <= 10).then_some([sign, digits, behind.len() as u32])
+}
+
+fn measure(size: Option<f32>) -> Laid<[u32; 3]> {
+    size.map_or(Ok(NONE), |value| spelling(value).ok_or(Unfit("a size")))
+}
+
+/// A timestamp's two cells: the low and the high half of its bits.
+pub fn halves(us: i64) -> [u32; 2] {
+    [us as u32, (us >> 32) as u32]
+}
+
+/// A font's cell 4: whether it has a family, and the sign, the digits and the scale of its size.
+pub fn marks(family: u32, [sign, digits, scale]: [u32; 3]) -> u32 {
+    family | sign << 1 | scale << 3 | digits << 7
+}
+
+/// The cells of a font after its kind and its rows, as others have them: the family's flag, place and length; sign, digits and scale; the
+/// size's f32.
+pub fn font(cells: &[u32]) -> ([u32; 3], [u32; 3], f32) {
+    let marks = cells[2];
+    ([marks & 1, cells[0], cells[1]], [marks >> 1 & 3, marks >> 7, marks >> 3 & 15], f32::from_bits(cells[3]))
 }
 
 fn color(color: Option<(u8, u8, u8, u8)>) -> [u32; 5] {

@@ -89,6 +89,9 @@ pub const FAMILIES: &[Family] = &[
     Family { before: "<tt><body><p xml:space='preserve'>", tokens: INLINES, longest: 5, after: "" },
     Family { before: "<tt><body><p tts:color='zz'>", tokens: INLINES, longest: 5, after: "" },
     Family { before: "<tt><body><p begin='2s' tts:fontSize='9px'>", tokens: INLINES, longest: 5, after: "</></>" },
+    // A font of size 0 is not bare.
+    Family { before: "<tt><body><p tts:fontSize='0'>", tokens: INLINES, longest: 4, after: "" },
+    Family { before: "<tt><body><p><span tts:fontSize='0px'>", tokens: INLINES, longest: 4, after: "</></>" },
     Family { before: "<tt><body>", tokens: CONTAINERS, longest: 5, after: "" },
     Family { before: "<tt><body timeContainer='seq' begin='1s'>", tokens: CONTAINERS, longest: 5, after: "" },
     Family { before: "", tokens: PARTS, longest: 5, after: "" },

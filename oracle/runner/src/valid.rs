@@ -2,7 +2,7 @@
 
 use crate::extras::{INLINE, Names, REGION, STYLE};
 use crate::handed::Handed;
-use crate::tables::{SEGMENTS, spelling};
+use crate::tables::{SEGMENTS, font, spelling};
 
 /// "Segments 16,384, nested 512 (a cue's own segments are nested 1)."
 const NESTED: usize = 512;
@@ -56,7 +56,7 @@ fn is_style(t: &Handed, at: usize, row: &[u32], strings: &Used) -> bool {
         && color(&row[4..])
         && color(&row[9..])
         && strings.optional(&row[14..])
-        && is_size(&row[17..], t.sizes[SEGMENTS + at])
+        && is_size(&row[17..], t.sizes[at])
         && row[20..24].iter().all(|&flag| flag < 2)
         && row[24] < 5
         && has_extras(t, &row[25..], STYLE, strings)
@@ -107,12 +107,12 @@ fn are_segments(t: &Handed, rows: std::ops::Range<usize>, strings: &Used, texts:
         while open.last() == Some(&at) {
             open.pop();
         }
-        let row = &t.segments[8 * at..8 * at + 8];
+        let row = &t.segments[6 * at..6 * at + 6];
         let end = at.saturating_add(row[1] as usize);
         if open.len() > NESTED
             || end <= at
             || open.last().is_none_or(|&last| end > last)
-            || !is_segment(t, at, row, strings, texts)
+            || !is_segment(row, strings, texts)
         {
             return false;
         }
@@ -121,13 +121,16 @@ fn are_segments(t: &Handed, rows: std::ops::Range<usize>, strings: &Used, texts:
     true
 }
 
-fn is_segment(t: &Handed, at: usize, row: &[u32], strings: &Used, texts: &Used) -> bool {
+fn is_segment(row: &[u32], strings: &Used, texts: &Used) -> bool {
     match row[0] {
         1 => row[1] == 1 && texts.span(&row[2..]),
         2 | 3 => row[1] == 1,
         4..=7 => true,
         8 => row[2..5].iter().all(|&channel| channel < 256),
-        9 => strings.optional(&row[2..]) && is_size(&row[5..], t.sizes[at]),
+        9 => {
+            let (family, size, value) = font(&row[2..]);
+            strings.optional(&family) && is_size(&size, value)
+        }
         _ => false,
     }
 }

@@ -85,21 +85,19 @@ impl Out {
 
 pub fn write(t: &Handed, out: &mut [u8]) -> u64 {
     port::pg_write(
-        t.head, t.params, t.styles, t.regions, t.cues, t.times, t.segments, t.reveal, t.sizes, t.extras, t.strings,
-        t.texts, out,
+        t.head, t.params, t.styles, t.regions, t.cues, t.times, t.segments, t.sizes, t.extras, t.strings, t.texts, out,
     )
 }
 
 pub fn cue_to_bytes(t: &Handed, index: usize, out: &mut [u8]) -> u64 {
     port::pg_cue_to_bytes(
-        t.head, t.params, t.styles, t.regions, t.cues, t.times, t.segments, t.reveal, t.sizes, t.extras, t.strings,
-        t.texts, index, out,
+        t.head, t.params, t.styles, t.regions, t.cues, t.times, t.segments, t.sizes, t.extras, t.strings, t.texts,
+        index, out,
     )
 }
 
 pub fn check_track(t: &Handed) -> u64 {
     port::pg_check_track(
-        t.head, t.params, t.styles, t.regions, t.cues, t.times, t.segments, t.reveal, t.sizes, t.extras, t.strings,
-        t.texts,
+        t.head, t.params, t.styles, t.regions, t.cues, t.times, t.segments, t.sizes, t.extras, t.strings, t.texts,
     )
 }

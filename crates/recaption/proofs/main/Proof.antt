@@ -58,9 +58,6 @@ slice-aggregate-recaption-14 c = search needs
 slice-aggregate-recaption-15 : tie.Need-slice-aggregate-recaption-15
 slice-aggregate-recaption-15 c = search needs
 
-slice-aggregate-recaption-16 : tie.Need-slice-aggregate-recaption-16
-slice-aggregate-recaption-16 c = search needs
-
 recaption-requires : tie.Need-recaption-requires
 recaption-requires c κs = search needs
 
@@ -95,7 +92,6 @@ main-spec =
     slice-aggregate-recaption-13
     slice-aggregate-recaption-14
     slice-aggregate-recaption-15
-    slice-aggregate-recaption-16
     recaption-requires
     slice-aggregate-say
     say-requires

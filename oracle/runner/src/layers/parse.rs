@@ -1,4 +1,4 @@
-//! `parse` and `bytes_to_cue`: the answer and every cell of the fourteen tables against `judge.rs`, which is itself held to the
+//! `parse` and `bytes_to_cue`: the answer and every cell of the thirteen tables against `judge.rs`, which is itself held to the
 //! Rust on each text; and the track that the tables mean, read back, against the Rust's own.
 
 use super::Layer;
@@ -117,7 +117,7 @@ impl Side {
             let mut longer = FIXED;
             longer.iter_mut().enumerate().for_each(|(table, length)| *length += (31 * turn + 17 * table) % MORE);
             let mut short = longer;
-            short[turn % 14] = [FIXED[turn % 14] - 1, 0, FIXED[turn % 14] / 2][turn / 14 % 3];
+            short[turn % 13] = [FIXED[turn % 13] - 1, 0, FIXED[turn % 13] / 2][turn / 13 % 3];
             for lengths in [FIXED, longer, short] {
                 self.check_with(run, call, text, &lengths, Care::All);
             }

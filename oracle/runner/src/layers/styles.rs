@@ -11,7 +11,7 @@ use crate::record::{Lines, Recording};
 use crate::reach::{Question, Reach, text};
 use crate::sheets::{Sheet, any_sheet, any_value, attr};
 use crate::handed::Lending;
-use crate::tables::{BYTES, SEGMENTS, Tables, shown, with};
+use crate::tables::{BYTES, Tables, marks, shown, with};
 use reference::ir::SubtitleTrack;
 use reference::ttml;
 use std::fmt::{self, Debug, Formatter};
@@ -211,14 +211,14 @@ impl Side {
         let whole = self.tables.clone();
         ask(run, &whole, Lending::Fixed, "all well", &|own| own);
         ask(run, &whole, Lending::Longer, "longer tables", &|own| own);
-        for table in 0..12 {
+        for table in 0..11 {
             ask(run, &whole, Lending::Short(table), &format!("table {table} short"), &|_| 1);
         }
         for (what, break_it) in BREAKS {
             let mut tables = whole.clone();
             break_it(&mut tables);
             ask(run, &tables, Lending::Fixed, what, &|own| if own > 0 { own } else { 17 });
-            ask(run, &tables, Lending::Short(11), what, &|_| 1);
+            ask(run, &tables, Lending::Short(10), what, &|_| 1);
         }
     }
 }
@@ -280,7 +280,7 @@ pub const BREAKS: &[Break] = &[
     ("a style's name past the strings", |t| t.styles[0] = 60_000),
     ("a chain past the strings", |t| t.styles[3] = 60_000),
     ("a colour of 256", |t| t.styles[5] = 256),
-    ("a size of another f32", |t| t.sizes[SEGMENTS] = 1.25),
+    ("a size of another f32", |t| t.sizes[0] = 1.25),
     ("a size with a zero at its end", |t| (t.styles[18], t.styles[19]) = (150, 2)),
     ("an alignment 5", |t| t.styles[24] = 5),
     ("extras past their table", |t| t.styles[26] = 8_193),
@@ -293,7 +293,19 @@ pub const BREAKS: &[Break] = &[
     ("a segment of kind 10", |t| t.segments[0] = 10),
     ("a text with a child", |t| t.segments[1] = 2),
     ("a text past the texts", |t| t.segments[3] = 60_000),
+    ("a font's size of sign 3", |t| font(t)[4..].copy_from_slice(&[marks(0, [3, 3, 0]), 3_f32.to_bits()])),
+    ("a font's size of another f32", |t| font(t)[5] ^= 1),
+    ("a font's size without its minus", |t| font(t)[5] ^= 1 << 31),
+    ("a font's size with a zero at its end", |t| font(t)[4] = marks(0, [2, 30, 1])),
+    ("a font's size of scale 11", |t| font(t)[4..].copy_from_slice(&[marks(0, [1, 3, 11]), 3e-11_f32.to_bits()])),
+    ("a font's size of 7 digits", |t| font(t)[4..].copy_from_slice(&[marks(0, [1, 1_000_000, 0]), 1e6_f32.to_bits()])),
+    ("a font's family past the strings", |t| font(t)[3..5].copy_from_slice(&[60_000, 1])),
 ];
+
+/// The row of the first font.
+fn font(t: &mut Tables) -> &mut [u32] {
+    t.segments.chunks_mut(6).find(|row| row[0] == 9).expect("there is a font")
+}
 
 /// Small documents at the corners of the rules.
 fn corners() -> Vec<String> {

@@ -13,7 +13,7 @@ use crate::hostile::hostile;
 use crate::lending::{Call, Care, FIXED, Lending as Reading};
 use crate::placed::{Cue, Placed, Segment, Track, Wrapper};
 use crate::soil::soil;
-use crate::tables::{SEGMENTS, Tables, shown};
+use crate::tables::{Tables, marks, shown};
 use crate::texts::any_document;
 use crate::tracks::{Made, Wish, any_track};
 use crate::valid::is_track;
@@ -31,6 +31,7 @@ fn compare(run: &mut Run) {
             side.made(run, &made, true);
         }
         side.numbers(run);
+        side.fonts(run);
         for text in corners().iter().chain(&documents()).chain(&[film(30_000), film(65_000)]) {
             side.parsed(run, text);
         }
@@ -100,7 +101,7 @@ impl Asker {
 
     /// Each table without its last cell: 1, whatever else is wrong.
     fn short(&mut self, run: &mut Run, what: &str, tables: &Tables) {
-        for table in 0..12 {
+        for table in 0..11 {
             let t = tables.handed(Lending::Short(table));
             let input = format_args!("{what}, table {table} short");
             run.same("check_track", input, 1, check_track(&t));
@@ -131,22 +132,20 @@ impl Side {
     fn changed(&mut self, run: &mut Run) {
         let Side { tables, asker, .. } = self;
         let rng = &mut run.rng;
-        let table = rng.pick(&[0, 0, 1, 2, 2, 3, 4, 4, 6, 6, 6, 8, 9, 9, 10, 11]);
+        let table = rng.pick(&[0, 0, 1, 2, 2, 3, 4, 4, 6, 6, 6, 7, 8, 8, 9, 10]);
         let used = tables.used(table);
         if used > 0 {
-            let mut at = rng.below(used);
-            if table == 8 && rng.below(2) == 0 && tables.head[1] > 0 {
-                at = SEGMENTS + rng.below(tables.head[1] as usize);
-            }
+            let at = rng.below(used);
             let is = tables.cell(table, at);
             let value = match rng.below(8) {
                 0 => is + 1,
                 1 => is - 1,
-                2 if table >= 10 => rng.pick(&[b' ', b'=', b'>', b'/', b'\t', b'\n', b'\r', b'a']) as i64,
+                2 if table >= 9 => rng.pick(&[b' ', b'=', b'>', b'/', b'\t', b'\n', b'\r', b'a']) as i64,
                 2 => {
                     rng.pick(&[64, 65, 256, 257, 2_048, 8_192, 8_193, 16_384, 16_385, 65_536, 65_537, u32::MAX as i64])
                 }
                 3 => (rng.next() >> rng.below(64)) as i64,
+                4 => is ^ 1 << rng.below(32),
                 _ => rng.below(12) as i64,
             };
             tables.set(table, at, value);
@@ -185,7 +184,35 @@ impl Side {
         }
         self.asker.short(run, "whole", &whole);
     }
+
+    /// The cells of a font, with each part of its marks at and past its limits.
+    fn fonts(&mut self, run: &mut Run) {
+        let inside = vec![Segment::Text(Placed { place: 0, string: "a".into() })];
+        let track = font(None, None, inside);
+        let Side { tables, asker, .. } = self;
+        tables.hold(&Made { track, strings: "é".into(), texts: "a".into() }.cells());
+        let spelled = (0..4).flat_map(|sign| (0..16).flat_map(move |scale| DIGITS.map(|digits| [sign, digits, scale])));
+        for [sign, digits, scale] in spelled {
+            let value: f32 = format!("{digits}e-{scale}").parse().unwrap();
+            let bits = if sign == 2 { -value } else { value }.to_bits();
+            for bits in [bits, bits ^ 1, bits ^ 1 << 31, 0, f32::NAN.to_bits()] {
+                for [flag, place, length] in FAMILIES {
+                    let marks = marks(flag, [sign, digits, scale]);
+                    tables.segments[2..6].copy_from_slice(&[place, length, marks, bits]);
+                    let handed = tables.handed(Lending::Fixed);
+                    let track = is_track(&handed).then(|| handed.track().unwrap());
+                    let what = format!("a font of {place} {length}, marks {marks}, bits {bits:#x},");
+                    asker.questions(run, &what, &handed, track.as_ref());
+                }
+            }
+        }
+    }
 }
+
+/// Whole numbers at which the rules of a size's digits change, and the most that its marks have room for.
+const DIGITS: [u32; 12] = [0, 1, 5, 10, 99, 100, 123_456, 999_990, 999_999, 1_000_000, 1_000_001, (1 << 25) - 1];
+/// Families in the string `é`: flag, place and length.
+const FAMILIES: [[u32; 3]; 7] = [[0, 0, 0], [0, 60_000, 9], [1, 0, 0], [1, 0, 2], [1, 2, 0], [1, 0, 1], [1, 3, 0]];
 
 /// Tracks at the limits of nesting, counts and bytes, and empty ones.
 fn listed() -> Vec<Made> {
@@ -194,6 +221,16 @@ fn listed() -> Vec<Made> {
     for depth in [1, 2, 100, 511, 512] {
         for last in [0, 1, 2] {
             tracks.push(made(nested(depth, last), "é".into(), "a".into()));
+        }
+    }
+    // Times whose halves are at their ends, and sizes that are zero or as long as they may be.
+    let times = [i64::MIN, -1 << 32, -1, 0, 1, (1 << 31) - 1, 1 << 31, (1 << 32) - 1, 1 << 32, 1 << 62, i64::MAX];
+    let timestamps = times.map(Segment::Timestamp).into();
+    tracks.push(made(Track { cues: vec![cue(1, timestamps)], ..Track::default() }, String::new(), String::new()));
+    for size in [None, Some(0.0), Some(-0.0), Some(-0.5), Some(999_999.0), Some(1e-10), Some(-9.99999e-5)] {
+        for family in [None, Some(""), Some("é")] {
+            let family = family.map(|family| Placed { place: 0, string: family.into() });
+            tracks.push(made(font(family, size, vec![Segment::Break, Segment::Break]), "é".into(), String::new()));
         }
     }
     // The written text has about 65,536 bytes.
@@ -226,6 +263,11 @@ fn lang(string: &str, many: usize) -> (Track, String) {
 
 fn cue(at: i64, segments: Vec<Segment>) -> Cue {
     Cue { start: at, end: -at, style: None, region: None, preserve: false, segments, extras: Vec::new() }
+}
+
+/// A font as all that a cue has.
+fn font(family: Option<Placed>, size: Option<f32>, inside: Vec<Segment>) -> Track {
+    Track { cues: vec![cue(1, vec![Segment::Wrapper(Wrapper::Font { family, size }, inside)])], ..Track::default() }
 }
 
 /// Wrappers in one another, so many in all with what is innermost.

@@ -1,7 +1,6 @@
 -- `collect_text` meets its contract: what is left is nothing, or a row. Assumes nothing.
 use Prim.Native.Nat.{_+_, _*_}
 use native.Mathlib.Omega.{arith}
-use Rattle.inline.specs.Wraps.{three}
 use Rattle.xml.proofs.PassForests.{string-long}
 use Rattle.styling.specs.Posts.{spaceIn}
 use Rattle.content.proofs.Giving.{some-before, text-none, text-some}
@@ -41,34 +40,32 @@ returns c =
     let c4 = c .before .before .before .before in
     let c6 = c4 .before .before in
     let c7 = c6 .before in
-    let c13 = c7 .before .before .before .before .before .before in
+    let c12 = c7 .before .before .before .before .before in
     λ first hi before low e.
-    let a = c13 .args in
-    let p = c13 .pre in
+    let a = c12 .args in
+    let p = c12 .pre in
     let z = a .strings .now in
     let at = getD (a .nodes .now) (a .k * 6 + 2) 0 in
     let len = getD (a .nodes .now) (a .k * 6 + 3) 0 in
     let l = string-long z at len (p .3) in
     text-none (spaceIn (a .ws)) before at len (stringAt z at len) (nodePlace (a .nodes .now) (a .k)) first (a .run .rows) hi
-    (three (a .segments .now) (a .reveal .now) (a .sizes .now)) (a .texts .now) (c4 .write-text .last .1 .0) (c4 .write-text .result) low
+    (a .segments .now) (a .texts .now) (c4 .write-text .last .1 .0) (c4 .write-text .result) low
     (omega (arith, p .3, p .0 .texts)) (omega (arith, l)) (rw (c7 .get .ensures, c6 .get2 .ensures) at (c4 .write-text .ensures before e))
     (p .1) (c .if1 .taken)
 
 add-text-requires : tie.Need-add-text-requires
 add-text-requires c κs =
-    let c7 = c .before .before .before .before .before .before .before in
-    let c9 = c7 .before .before in
-    let c10 = c9 .before in
-    let c16 = c10 .before .before .before .before .before .before in
-    let a = c16 .args in
-    let p = c16 .pre in
+    let c5 = c .before .before .before .before .before in
+    let c7 = c5 .before .before in
+    let c8 = c7 .before in
+    let c13 = c8 .before .before .before .before .before in
+    let a = c13 .args in
+    let p = c13 .pre in
     let b = some-before (a .run .boundary) in
-    let w = c7 .write-text .ensures (b .0) (b .1) .within in
-    let l = string-long (a .strings .now) (c10 .get .result) (c9 .get2 .result) (omega (arith, c10 .get .ensures, c9 .get2 .ensures, p .3)) in (
-      p .0 .wide .in-cells,
-      p .0 .wide .in-times,
-      p .0 .wide .in-floats,
-      (omega (arith, c10 .get .ensures, p .3, p .0 .small), omega (arith, w, l, c9 .get2 .ensures, p .3, p .0 .small)),
+    let w = c5 .write-text .ensures (b .0) (b .1) .within in
+    let l = string-long (a .strings .now) (c8 .get .result) (c7 .get2 .result) (omega (arith, c8 .get .ensures, c7 .get2 .ensures, p .3)) in (
+      p .0 .wide,
+      (omega (arith, c8 .get .ensures, p .3, p .0 .small), omega (arith, w, l, c7 .get2 .ensures, p .3, p .0 .small)),
     )
 
 node-place-requires : tie.Need-node-place-requires
@@ -83,35 +80,27 @@ same-length-2 c = search needs
 same-length-3 : tie.Need-same-length-3
 same-length-3 c = search needs
 
-same-length-4 : tie.Need-same-length-4
-same-length-4 c = search needs
-
-same-length-5 : tie.Need-same-length-5
-same-length-5 c = search needs
-
 returns-2 : tie.Need-returns-2
 returns-2 c =
-    let c7 = c .before .before .before .before .before .before .before in
-    let c11 = c7 .before .before .before .before in
-    let c15 = c11 .before .before .before .before in
-    let c17 = c15 .before .before in
-    let c18 = c17 .before in
-    let c24 = c18 .before .before .before .before .before .before in
+    let c4 = c .before .before .before .before in
+    let c6 = c4 .before .before in
+    let c10 = c6 .before .before .before .before in
+    let c12 = c10 .before .before in
+    let c13 = c12 .before in
+    let c18 = c13 .before .before .before .before .before in
     λ first hi before low e.
-    let a = c24 .args in
-    let p = c24 .pre in
+    let a = c18 .args in
+    let p = c18 .pre in
     let z = a .strings .now in
     let at = getD (a .nodes .now) (a .k * 6 + 2) 0 in
     let len = getD (a .nodes .now) (a .k * 6 + 3) 0 in
     let l = string-long z at len (p .3) in
-    let v = c7 .add-text .last in
-    let g = rw (c18 .get .ensures) at (c7 .add-text .ensures) in
     rw (c .added .ensures, c .before .node-place .ensures)
     (text-some (spaceIn (a .ws)) before at len (stringAt z at len) (nodePlace (a .nodes .now) (a .k)) first (a .run .rows) hi
-    (three (a .segments .now) (a .reveal .now) (a .sizes .now)) (a .texts .now) (c15 .write-text .last .1 .0) (c15 .write-text .result) low
-    (omega (arith, p .3, p .0 .texts)) (omega (arith, l)) (rw (c18 .get .ensures, c17 .get2 .ensures) at (c15 .write-text .ensures before e))
-    (c11 .if1 .left)
-    (three (v .0) (v .1 .0) (v .1 .1 .0)) (p .0 .wide) (c7 .add-text .result) (g .0) (g .1 .0) (g .1 .1))
+    (a .segments .now) (a .texts .now) (c10 .write-text .last .1 .0) (c10 .write-text .result) low
+    (omega (arith, p .3, p .0 .texts)) (omega (arith, l)) (rw (c13 .get .ensures, c12 .get2 .ensures) at (c10 .write-text .ensures before e))
+    (c6 .if1 .left)
+    (c4 .add-text .last .0) (p .0 .wide) (c4 .add-text .result) (rw (c13 .get .ensures) at (c4 .add-text .ensures)))
 
 pub collect-text-spec : {M : Type 1} → statement M
 collect-text-spec =
@@ -131,6 +120,4 @@ collect-text-spec =
     added-requires
     same-length-2
     same-length-3
-    same-length-4
-    same-length-5
     returns-2)

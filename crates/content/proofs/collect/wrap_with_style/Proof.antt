@@ -2,7 +2,6 @@
 use native.Mathlib.Omega.{arith}
 use mir.Facts.{toZ-ofZ}
 use Rattle.styling.specs.Posts.{wrappersIn}
-use Rattle.inline.specs.Wraps.{three}
 use Rattle.content.proofs.Giving.{span-given}
 use borrow.Author.Needs.{needs}
 use Rattle.content.proofs.collect.wrap_with_style.Statement.{statement}
@@ -22,13 +21,13 @@ around-requires c κs = search needs
 
 put-span-requires : tie.Need-put-span-requires
 put-span-requires c κs =
-    let c5 = c .before .before .before .before .before in
-    let c7 = c5 .before .before in
-    let c12 = c7 .before .before .before .before .before in
-    let p = c12 .pre in
-    let w = rw (c5 .w .given .1) at (c7 .wrappers-of .ensures .0) in
+    let c3 = c .before .before .before in
+    let c5 = c3 .before .before in
+    let c9 = c5 .before .before .before .before in
+    let p = c9 .pre in
+    let w = rw (c3 .w .given .1) at (c5 .wrappers-of .ensures .0) in
     let f = c .around .ensures .0 in
-    (p .1, p .2, p .3 .in-cells, p .3 .in-times, p .3 .in-floats, rw f (omega (arith, w, p .4), omega (arith, w, p .4)))
+    (p .1, p .2, p .3, rw f (omega (arith, w, p .4), omega (arith, w, p .4)))
 
 added-requires : tie.Need-added-requires
 added-requires c κs = search needs
@@ -42,31 +41,24 @@ returns c =
 same-length : tie.Need-same-length
 same-length c = search needs
 
-same-length-2 : tie.Need-same-length-2
-same-length-2 c = search needs
-
-same-length-3 : tie.Need-same-length-3
-same-length-3 c = search needs
-
 returns-2 : tie.Need-returns-2
 returns-2 c =
-    let c6 = c .before .before .before .before .before .before in
-    let c7 = c6 .before in
-    let c12 = c7 .before .before .before .before .before in
-    let c14 = c12 .before .before in
-    let c19 = c14 .before .before .before .before .before in
+    let c3 = c .before .before .before in
+    let c4 = c3 .before in
+    let c7 = c4 .before .before .before in
+    let c9 = c7 .before .before in
     λ l o y.
-    let s = c19 in
+    let s = c9 .before .before .before .before in
     let a = s .args in
     let z = a .strings .now in
-    let w = c12 .w .given .0 .0 in
-    let e = rw (c12 .w .given .1) at (c14 .wrappers-of .ensures .1 l o) in
-    let fits = rw (c12 .w .given .1) at (c14 .wrappers-of .ensures .0) in
-    let v = c6 .put-span .last in
+    let w = c7 .w .given .0 .0 in
+    let e = rw (c7 .w .given .1) at (c9 .wrappers-of .ensures .1 l o) in
+    let fits = rw (c7 .w .given .1) at (c9 .wrappers-of .ensures .0) in
+    let v = c3 .put-span .last in
     rw (← e, c .added .ensures)
     (λ hi. span-given (wrappersIn z w) (a .e .place) (a .first) (a .inner .rows) hi (a .inner .boundary) (a .stamp) (a .time)
-    (three (a .segments .now) (a .reveal .now) (a .sizes .now)) (three (v .0) (v .1 .0) (v .1 .1 .0)) y (c6 .put-span .result)
-    (rw (toZ-ofZ (s .fits .time), c7 .around .ensures .1 z fits) at (c6 .put-span .ensures)))
+    (a .segments .now) (v .0) y (c3 .put-span .result)
+    (rw (toZ-ofZ (s .fits .time), c4 .around .ensures .1 z fits) at (c3 .put-span .ensures)))
 
 pub wrap-with-style-spec : {M : Type 1} → statement M
 wrap-with-style-spec =
@@ -80,6 +72,4 @@ wrap-with-style-spec =
     added-requires
     returns
     same-length
-    same-length-2
-    same-length-3
     returns-2)

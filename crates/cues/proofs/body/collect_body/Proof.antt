@@ -2,7 +2,7 @@
 use mir.Syntax.{w64}
 use mir.ValLaws as laws
 use borrow.Author.Needs.{needs}
-use Rattle.cues.specs.Steps.{seven}
+use Rattle.cues.specs.Steps.{five}
 use Rattle.cues.proofs.Walking.{child-room, child-attrs, body-asks, body-none, body-refused, body-came}
 use Rattle.cues.proofs.body.collect_body.Statement.{statement}
 use Rattle.cues.proofs.body.collect_body.Tie as tie
@@ -27,15 +27,16 @@ enum-known-k c = search needs
 
 element-at-requires : tie.Need-element-at-requires
 element-at-requires c κs =
+    let c12 = c .before .before .before .before .before .before .before .before .before .before .before .before in
     let h = rw (c .before .k .given .1) at (c .before .before .before .find-element .ensures) in
-    child-room (body-asks (c .before .before .before .before .before .before .before .before .before .before .before .before .before .pre) h .child)
+    child-room (body-asks (c12 .pre) h .child)
 
 begin-of-requires : tie.Need-begin-of-requires
 begin-of-requires c κs =
     let c4 = c .before .before .before .before in
-    let c14 = c4 .before .before .before .before .before .before .before .before .before .before in
+    let c13 = c4 .before .before .before .before .before .before .before .before .before in
     let h = rw (c .before .before .k .given .1) at (c4 .find-element .ensures) in
-    child-attrs (body-asks (c14 .pre) h .child) (c .element-at .result) (c .element-at .ensures)
+    child-attrs (body-asks (c13 .pre) h .child) (c .element-at .result) (c .element-at .ensures)
 
 enum-known-r : tie.Need-enum-known-r
 enum-known-r c = search needs
@@ -45,17 +46,18 @@ enum-known-begin c = search needs
 
 collect-container-requires : tie.Need-collect-container-requires
 collect-container-requires c κs =
-    let c13 = c .before .before .before .before .before .before .before .before .before .before .before .before .before in
-    let c15 = c13 .before .before in
-    let c25 = c15 .before .before .before .before .before .before .before .before .before .before in
-    let h = rw (c13 .k .given .1) at (c15 .find-element .ensures) in
-    body-asks (c25 .pre) h
+    let c11 = c .before .before .before .before .before .before .before .before .before .before .before in
+    let c13 = c11 .before .before in
+    let c22 = c13 .before .before .before .before .before .before .before .before .before in
+    let h = rw (c11 .k .given .1) at (c13 .find-element .ensures) in
+    body-asks (c22 .pre) h
 
 returns : tie.Need-returns
 returns c =
-    let a = c .before .before .before .before .before .before .before .before .before .before .before .before .args in
+    let c11 = c .before .before .before .before .before .before .before .before .before .before .before in
+    let a = c11 .args in
     let h = rw (c .enum-told .given .1) at (c .before .before .find-element .ensures) in
-    let w = seven (a .cues .now) (a .times .now) (a .segments .now) (a .reveal .now) (a .sizes .now) (a .extras .now) (a .texts .now) in
+    let w = five (a .cues .now) (a .times .now) (a .segments .now) (a .extras .now) (a .texts .now) in
     body-none (a .nodes .now) (a .attrs .now) (a .strings .now) (a .from) (a .end) (a .ctx) (a .ws) (a .rows) w h
 
 returns-2 : tie.Need-returns-2
@@ -63,14 +65,14 @@ returns-2 c =
     let c4 = c .before .before .before .before in
     let c6 = c4 .before .before in
     let c8 = c6 .before .before in
-    let c18 = c8 .before .before .before .before .before .before .before .before .before .before in
-    let a = c18 .args in
+    let c17 = c8 .before .before .before .before .before .before .before .before .before in
+    let a = c17 .args in
     let e = c4 .element-at in
     let h = rw (c6 .k .given .1) at (c8 .find-element .ensures) in
-    let w = seven (a .cues .now) (a .times .now) (a .segments .now) (a .reveal .now) (a .sizes .now) (a .extras .now) (a .texts .now) in
+    let w = five (a .cues .now) (a .times .now) (a .segments .now) (a .extras .now) (a .texts .now) in
     body-refused (a .nodes .now) (a .attrs .now) (a .strings .now) (a .from) (a .end) (a .ctx) (a .ws) (a .rows) w
-    (c6 .k .given .0 .0) h (e .result) (e .ensures) w (c .before .r .given .0 .0) (λ l o. rw (c .before .r .given .1) at (c .before .before .before
-    .begin-of .ensures l o))
+    (c6 .k .given .0 .0) h (e .result) (e .ensures) w (c .before .r .given .0 .0) (λ l o. rw (c .before .r .given .1) at (c .before .before
+        .before .begin-of .ensures l o))
 
 same-length : tie.Need-same-length
 same-length c = search needs
@@ -87,33 +89,27 @@ same-length-4 c = search needs
 same-length-5 : tie.Need-same-length-5
 same-length-5 c = search needs
 
-same-length-6 : tie.Need-same-length-6
-same-length-6 c = search needs
-
-same-length-7 : tie.Need-same-length-7
-same-length-7 c = search needs
-
 returns-3 : tie.Need-returns-3
 returns-3 c =
-    let c12 = c .before .before .before .before .before .before .before .before .before .before .before .before in
-    let c20 = c12 .before .before .before .before .before .before .before .before in
-    let c21 = c20 .before in
+    let c9 = c .before .before .before .before .before .before .before .before .before in
+    let c15 = c9 .before .before .before .before .before .before in
+    let c16 = c15 .before in
+    let c18 = c16 .before .before in
+    let c19 = c18 .before in
+    let c21 = c19 .before .before in
     let c23 = c21 .before .before in
-    let c24 = c23 .before in
-    let c26 = c24 .before .before in
-    let c28 = c26 .before .before in
-    let c38 = c28 .before .before .before .before .before .before .before .before .before .before in
-    let a = c38 .args in
-    let d = c12 .collect-container in
+    let c32 = c23 .before .before .before .before .before .before .before .before .before in
+    let a = c32 .args in
+    let d = c9 .collect-container in
     let v = d .last .1 .1 .1 in
-    let e = c24 .element-at in
-    let x = c21 .begin .given .0 .0 in
-    let at = laws.toZ-ofZ w64 x (record { sfits = c20 .known-told3 .given .0 .1 }) in
-    let h = rw (c26 .k .given .1) at (c28 .find-element .ensures) in
-    let w = seven (a .cues .now) (a .times .now) (a .segments .now) (a .reveal .now) (a .sizes .now) (a .extras .now) (a .texts .now) in
-    let w′ = seven (v .0) (v .1 .0) (v .1 .1 .0) (v .1 .1 .1 .0) (v .1 .1 .1 .1 .0) (v .1 .1 .1 .1 .1 .0) (v .1 .1 .1 .1 .1 .1 .0) in
+    let e = c19 .element-at in
+    let x = c16 .begin .given .0 .0 in
+    let at = laws.toZ-ofZ w64 x (record { sfits = c15 .known-told3 .given .0 .1 }) in
+    let h = rw (c21 .k .given .1) at (c23 .find-element .ensures) in
+    let w = five (a .cues .now) (a .times .now) (a .segments .now) (a .extras .now) (a .texts .now) in
+    let w′ = five (v .0) (v .1 .0) (v .1 .1 .0) (v .1 .1 .1 .0) (v .1 .1 .1 .1 .0) in
     body-came (a .nodes .now) (a .attrs .now) (a .strings .now) (a .from) (a .end) (a .ctx) (a .ws) (a .rows) w
-    (c26 .k .given .0 .0) h (e .result) (e .ensures) w′ x (λ l o. rw (c21 .begin .given .1) at (c23 .begin-of .ensures l o)) (d .result)
+    (c21 .k .given .0 .0) h (e .result) (e .ensures) w′ x (λ l o. rw (c16 .begin .given .1) at (c18 .begin-of .ensures l o)) (d .result)
     (rw at at (d .ensures))
 
 pub collect-body-spec : {M : Type 1} → statement M
@@ -136,6 +132,4 @@ collect-body-spec =
     same-length-3
     same-length-4
     same-length-5
-    same-length-6
-    same-length-7
     returns-3)

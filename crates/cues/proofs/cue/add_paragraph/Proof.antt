@@ -72,8 +72,8 @@ enum-known-n c = search needs
 -- src/cue.rt:121:21
 add-t37 : tie.Need-add-t37
 add-t37 c =
-    let c12 = c .before .before .before .before .before .before .before .before .before .before .before .before in
-    let c21 = c12 .before .before .before .before .before .before .before .before .before in
+    let c21 = c .before .before .before .before .before .before .before .before .before .before .before .before .before .before .before
+        .before .before .before .before .before .before in
     let c27 = c21 .before .before .before .before .before .before in
     omega (arith, c21 .collect-p-inline-extras .ensures .0, c27 .pre)
 
@@ -91,7 +91,9 @@ same-length-3 c = search needs
 
 -- src/cue.rt:69:1
 returns : tie.Need-returns
-returns c = λ l o. ((rw (c .enum-told .given .1) at (c .before .before .before .before .before .add-cue .ensures .0)) .0, refl)
+returns c =
+    let c5 = c .before .before .before .before .before in
+    λ l o. ((rw (c .enum-told .given .1) at (c5 .add-cue .ensures .0)) .0, refl)
 
 -- src/cue.rt:69:1
 same-length-4 : tie.Need-same-length-4

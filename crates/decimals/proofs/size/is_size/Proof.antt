@@ -1,46 +1,34 @@
--- `is_size` meets its contract: a law for each test.
+-- `is_size` meets its contract: its spelling first, then its f32.
 use mathlib.Core.Path.{sym, ap, _∙_}
-use mathlib.Core.Logic.{⊎-elim}
-use native.Mathlib.Omega.{arith}
-use lib.Ieee.{binary32}
+use borrow.Author.Tests.{not-true, not-false}
 use Rattle.decimals.specs.Floats.{sameFloat}
-use Rattle.decimals.proofs.Sizes.{size-long, size-far, size-zero, size-is, round-finite}
+use Rattle.decimals.proofs.Sizes.{size-not, size-spelled, spelled-finite}
 use borrow.Author.Needs.{needs}
 use Rattle.decimals.proofs.size.is_size.Statement.{statement}
 use Rattle.decimals.proofs.size.is_size.Tie as tie
 
+is-spelling-requires : tie.Need-is-spelling-requires
+is-spelling-requires c κs = search needs
+
 returns : tie.Need-returns
-returns c = sym (size-long (c .before .before .args .s) (c .if1 .taken))
+returns c =
+    sym (size-not (c .before .before .args .s) (sym (c .before .is-spelling .ensures) ∙ not-true _ (c .if1 .taken)))
 
-returns-2 : tie.Need-returns-2
-returns-2 c = sym (size-far (c .before .before .before .before .args .s) (c .if2 .taken))
-
-returns-3 : tie.Need-returns-3
-returns-3 c =
-    let c8 = c .before .before .before .before .before .before .before .before in
-    sym (size-zero (c8 .args .s) (c .before .before .if3 .taken) (c .if4 .taken))
-
-cast-t6 : tie.Need-cast-t6
-cast-t6 c = search needs
-
-to-f32-requires : tie.Need-to-f32-requires
-to-f32-requires c κs = search needs
+spelled-value-requires : tie.Need-spelled-value-requires
+spelled-value-requires c κs = search needs
 
 same-bits-requires : tie.Need-same-bits-requires
-same-bits-requires c κs = rw (c .to-f32 .ensures) (round-finite binary32 _ _ _)
+same-bits-requires c κs = rw (c .spelled-value .ensures) (spelled-finite _ _ _)
 
-returns-4 : tie.Need-returns-4
-returns-4 c =
-    let c3 = c .before .before .before in
-    let c5 = c3 .before .before in
-    let c7 = c5 .before .before in
-    let c9 = c7 .before .before in
-    let s = c9 .args .s in
+returns-2 : tie.Need-returns-2
+returns-2 c =
+    let c4 = c .before .before .before .before in
+    let s = c4 .args .s in
     c .same-bits .ensures
-    ∙ ap (sameFloat (s .value)) (c .before .to-f32 .ensures)
-    ∙ sym (size-is s (c7 .if1 .left) (c5 .if2 .left) (λ h e. ⊎-elim (λ w. w .2 .left e) (λ w. omega arith) (c3 .if3 .came)))
+    ∙ ap (sameFloat (s .value)) (c .before .spelled-value .ensures)
+    ∙ sym (size-spelled s (sym (c .before .before .before .is-spelling .ensures) ∙ not-false _ (c .before .before .if1 .left)))
 
 pub is-size-spec : {M : Type 1} → statement M
 is-size-spec =
     tie.close
-    (tie.spec returns returns-2 returns-3 cast-t6 to-f32-requires same-bits-requires returns-4)
+    (tie.spec is-spelling-requires returns spelled-value-requires same-bits-requires returns-2)

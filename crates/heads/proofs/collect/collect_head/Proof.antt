@@ -42,9 +42,7 @@ collect-inside-requires c κs =
     head-inside (c17 .pre) _ (c4 .element-at .result) (c4 .element-at .ensures) w
 
 returns : tie.Need-returns
-returns c =
-    let c11 = c .before .before .before .before .before .before .before .before .before .before .before in
-    head-nothing (c11 .pre) (rw (c .enum-told .given .1) at (c .before .before .find-element .ensures))
+returns c = head-nothing (rw (c .enum-told .given .1) at (c .before .before .find-element .ensures))
 
 same-length : tie.Need-same-length
 same-length c = search needs

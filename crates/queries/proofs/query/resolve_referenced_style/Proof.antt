@@ -23,8 +23,8 @@ enum-told c = search needs
 trim-requires : tie.Need-trim-requires
 trim-requires c κs = search needs
 
-sub-t29 : tie.Need-sub-t29
-sub-t29 c = search needs
+sub-t28 : tie.Need-sub-t28
+sub-t28 c = search needs
 
 blank-requires : tie.Need-blank-requires
 blank-requires c κs = search needs
@@ -83,7 +83,7 @@ resolve-referenced-style-spec =
     enum-known-r
     enum-told
     trim-requires
-    sub-t29
+    sub-t28
     blank-requires
     get-requires
     resolve-over-requires

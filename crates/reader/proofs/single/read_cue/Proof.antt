@@ -20,16 +20,18 @@ enum-known-k c = search needs
 
 read-p-requires : tie.Need-read-p-requires
 read-p-requires c κs =
-    let c8 = c .before .before .before .before .before .before .before .before in
-    let c10 = c8 .before .before in
-    let c20 = c10 .before .before .before .before .before .before .before .before .before .before in
+    let c6 = c .before .before .before .before .before .before in
+    let c8 = c6 .before .before in
+    let c17 = c8 .before .before .before .before .before .before .before .before .before in
     record {
-      ready = c20 .pre .ready;
-      element = elem-found (c20 .pre .tree) (ascii "p") (c10 .find-element .ensures) (c8 .k .given .1) .element;
+      ready = c17 .pre .ready;
+      element = elem-found (c17 .pre .tree) (ascii "p") (c8 .find-element .ensures) (c6 .k .given .1) .element;
     }
 
 returns : tie.Need-returns
-returns c = λ x. first-no x (c .before .before .find-element .ensures) (c .enum-told .given .1)
+returns c =
+    let c11 = c .before .before .before .before .before .before .before .before .before .before .before in
+    λ x. (first-no x (c .before .before .find-element .ensures) (c .enum-told .given .1), c11 .pre .ready .zero)
 
 same-length : tie.Need-same-length
 same-length c = search needs
@@ -46,21 +48,15 @@ same-length-4 c = search needs
 same-length-5 : tie.Need-same-length-5
 same-length-5 c = search needs
 
-same-length-6 : tie.Need-same-length-6
-same-length-6 c = search needs
-
-same-length-7 : tie.Need-same-length-7
-same-length-7 c = search needs
-
 returns-2 : tie.Need-returns-2
 returns-2 c =
-    let c12 = c .before .before .before .before .before .before .before .before .before .before .before .before in
-    let c21 = c12 .before .before .before .before .before .before .before .before .before in
-    let c23 = c21 .before .before in
+    let c9 = c .before .before .before .before .before .before .before .before .before in
+    let c16 = c9 .before .before .before .before .before .before .before in
+    let c18 = c16 .before .before in
     λ x.
-    let o = c23 .find-element .ensures in
-    let e = c21 .k .given .1 in
-    cue-as _ _ _ (c12 .read-p .result) (first-is x o e) (c12 .read-p .ensures (elem-found x (ascii "p") o e .element))
+    let o = c18 .find-element .ensures in
+    let e = c16 .k .given .1 in
+    cue-as _ _ _ (c9 .read-p .result) (first-is x o e) (c9 .read-p .ensures (elem-found x (ascii "p") o e .element))
 
 pub read-cue-spec : {M : Type 1} → statement M
 read-cue-spec =
@@ -77,6 +73,4 @@ read-cue-spec =
     same-length-3
     same-length-4
     same-length-5
-    same-length-6
-    same-length-7
     returns-2)

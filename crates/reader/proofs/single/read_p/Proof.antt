@@ -6,15 +6,15 @@ use Rattle.reader.proofs.single.read_p.Statement.{statement}
 use Rattle.reader.proofs.single.read_p.Tie as tie
 
 element-at-requires : tie.Need-element-at-requires
-element-at-requires c κs = elem-room (c .before .before .before .before .before .before .before .before .pre .element)
+element-at-requires c κs = elem-room (c .before .before .before .before .before .before .before .pre .element)
 
 no-rates-requires : tie.Need-no-rates-requires
 no-rates-requires c κs = search needs
 
 single-interval-requires : tie.Need-single-interval-requires
 single-interval-requires c κs =
-    let c10 = c .before .before .before .before .before .before .before .before .before .before in
-    elem-rows (c10 .pre .element) (c .before .element-at .ensures)
+    let c9 = c .before .before .before .before .before .before .before .before .before in
+    elem-rows (c9 .pre .element) (c .before .element-at .ensures)
 
 enum-known-r : tie.Need-enum-known-r
 enum-known-r c = search needs
@@ -30,7 +30,11 @@ returns c =
     let c3 = c .before .before .before in
     let c4 = c3 .before in
     let c5 = c4 .before in
-    λ x. times-no x (c5 .element-at .ensures) (c4 .no-rates .ensures) _ (rw (c .before .r .given .1) at (c3 .single-interval .ensures))
+    let c13 = c5 .before .before .before .before .before .before .before .before in
+    λ x. (
+      times-no x (c5 .element-at .ensures) (c4 .no-rates .ensures) _ (rw (c .before .r .given .1) at (c3 .single-interval .ensures)),
+      c13 .pre .ready .zero,
+    )
 
 same-length : tie.Need-same-length
 same-length c = search needs
@@ -47,22 +51,16 @@ same-length-4 c = search needs
 same-length-5 : tie.Need-same-length-5
 same-length-5 c = search needs
 
-same-length-6 : tie.Need-same-length-6
-same-length-6 c = search needs
-
-same-length-7 : tie.Need-same-length-7
-same-length-7 c = search needs
-
 returns-2 : tie.Need-returns-2
 returns-2 c =
-    let c12 = c .before .before .before .before .before .before .before .before .before .before .before .before in
-    let c21 = c12 .before .before .before .before .before .before .before .before .before in
-    let c23 = c21 .before .before in
-    let c24 = c23 .before in
-    let c25 = c24 .before in
+    let c9 = c .before .before .before .before .before .before .before .before .before in
+    let c16 = c9 .before .before .before .before .before .before .before in
+    let c18 = c16 .before .before in
+    let c19 = c18 .before in
+    let c20 = c19 .before in
     λ x.
-    let e = times-are x (c25 .element-at .ensures) (c24 .no-rates .ensures) _ (rw (c21 .when .given .1) at (c23 .single-interval .ensures)) in
-    cue-as _ _ _ (c12 .read-timed .result) e (c12 .read-timed .ensures x)
+    let e = times-are x (c20 .element-at .ensures) (c19 .no-rates .ensures) _ (rw (c16 .when .given .1) at (c18 .single-interval .ensures)) in
+    cue-as _ _ _ (c9 .read-timed .result) e (c9 .read-timed .ensures x)
 
 pub read-p-spec : {M : Type 1} → statement M
 read-p-spec =
@@ -80,6 +78,4 @@ read-p-spec =
     same-length-3
     same-length-4
     same-length-5
-    same-length-6
-    same-length-7
     returns-2)

@@ -2,37 +2,40 @@
 use mathlib.Core.List.{[]}
 use native.Mathlib.Omega.{arith}
 use borrow.Author.Needs.{needs}
-use Rattle.inline.specs.Wraps.{three}
+use Rattle.reader.proofs.Laying.{blank-as}
 use Rattle.reader.proofs.Elements.{elem-room, elem-owned, elem-rows}
 use Rattle.reader.proofs.Alone.{content-asks, content-no, alone-asks, alone-laid}
 use Rattle.reader.proofs.single.read_timed.Statement.{statement}
 use Rattle.reader.proofs.single.read_timed.Tie as tie
 
 element-at-requires : tie.Need-element-at-requires
-element-at-requires c κs = elem-room (c .before .before .before .before .before .before .before .before .pre .element)
+element-at-requires c κs = elem-room (c .before .before .before .before .before .before .before .pre .element)
 
 resolve-ws-requires : tie.Need-resolve-ws-requires
-resolve-ws-requires c κs =
-    let c9 = c .before .before .before .before .before .before .before .before .before in
-    elem-rows (c9 .pre .element) (c .element-at .ensures)
+resolve-ws-requires c κs = elem-rows (c .before .before .before .before .before .before .before .before .pre .element) (c .element-at .ensures)
 
 add-collect-segments-timed : tie.Need-add-collect-segments-timed
 add-collect-segments-timed c =
-    let c13 = c .before .before .before .before .before .before .before .before .before .before .before .before .before in
-    let c14 = c13 .before in
-    record { fits = omega (arith, elem-room (c14 .pre .element)) }
+    let c11 = c .before .before .before .before .before .before .before .before .before .before .before in
+    record { fits = omega (arith, elem-room (c11 .pre .element)) }
 
 no-rates-requires : tie.Need-no-rates-requires
 no-rates-requires c κs = search needs
 
 collect-segments-timed-requires : tie.Need-collect-segments-timed-requires
 collect-segments-timed-requires c κs =
-    let c6 = c .before .before .before .before .before .before in
-    let c15 = c6 .before .before .before .before .before .before .before .before .before in
-    content-asks _ _ _ _ _ _ _ (c15 .pre .ready) (c15 .pre .element) (c6 .element-at .ensures)
+    let c4 = c .before .before .before .before in
+    let c12 = c4 .before .before .before .before .before .before .before .before in
+    content-asks _ _ _ _ _ (c12 .pre .ready) (c12 .pre .element) (c4 .element-at .ensures)
 
 enum-known-r : tie.Need-enum-known-r
 enum-known-r c = search needs
+
+clear-requires : tie.Need-clear-requires
+clear-requires c κs = search needs
+
+clear-bytes-requires : tie.Need-clear-bytes-requires
+clear-bytes-requires c κs = search needs
 
 enum-known-run : tie.Need-enum-known-run
 enum-known-run c = search needs
@@ -40,17 +43,16 @@ enum-known-run c = search needs
 put-alone-requires : tie.Need-put-alone-requires
 put-alone-requires c κs =
     let c4 = c .before .before .before .before in
-    let c13 = c4 .before .before .before .before .before .before .before .before .before in
-    let c14 = c13 .before in
-    let c19 = c14 .before .before .before .before .before in
-    let c20 = c19 .before in
-    let c29 = c20 .before .before .before .before .before .before .before .before .before in
-    let x = c29 .pre .element in
-    let row = c20 .element-at .ensures in
-    let mode = c19 .resolve-ws .ensures (x .attrs) (elem-owned x row) in
-    let content = rw (c4 .run .given .1) at (c13 .collect-segments-timed .ensures) in
-    alone-asks _ _ _ _ _ _ _ (c29 .pre .ready) x row (c14 .no-rates .result) (c19 .resolve-ws .result) (c14 .no-rates .ensures)
-    mode _ _ _ content
+    let c10 = c4 .before .before .before .before .before .before in
+    let c11 = c10 .before in
+    let c14 = c11 .before .before .before in
+    let c15 = c14 .before in
+    let c23 = c15 .before .before .before .before .before .before .before .before in
+    let x = c23 .pre .element in
+    let row = c15 .element-at .ensures in
+    let mode = c14 .resolve-ws .ensures (x .attrs) (elem-owned x row) in
+    let content = rw (c4 .run .given .1) at (c10 .collect-segments-timed .ensures) in
+    alone-asks _ _ _ _ _ (c23 .pre .ready) x row (c11 .no-rates .result) (c14 .resolve-ws .result) (c11 .no-rates .ensures) mode _ _ _ content
 
 same-length : tie.Need-same-length
 same-length c = search needs
@@ -58,25 +60,30 @@ same-length c = search needs
 same-length-2 : tie.Need-same-length-2
 same-length-2 c = search needs
 
+returns : tie.Need-returns
+returns c =
+    let c6 = c .before .before .before .before .before .before in
+    let c9 = c6 .before .before .before in
+    let c12 = c9 .before .before .before in
+    let c14 = c12 .before .before in
+    let c15 = c14 .before in
+    let c16 = c15 .before in
+    let c19 = c16 .before .before .before in
+    let c20 = c19 .before in
+    let c28 = c20 .before .before .before .before .before .before .before .before in
+    λ x.
+    let row = c20 .element-at .ensures in
+    let mode = c19 .resolve-ws .ensures (x .attrs) (elem-owned x row) in
+    let content = rw (c9 .r .given .1) at (c15 .collect-segments-timed .ensures) in
+    content-no _ _ _ _ _ (c28 .pre .ready) x row (c16 .no-rates .result) (c19 .resolve-ws .result) (c16 .no-rates .ensures) mode [] [] _ content
+    (c28 .args .when) (blank-as (c14 .segments .given) 0 (c6 .clear .ensures)) (blank-as (c12 .texts .given) 0
+    (c .before .before .clear-bytes .ensures))
+
 same-length-3 : tie.Need-same-length-3
 same-length-3 c = search needs
 
 same-length-4 : tie.Need-same-length-4
 same-length-4 c = search needs
-
-returns : tie.Need-returns
-returns c =
-    let c10 = c .before .before .before .before .before .before .before .before .before .before in
-    let c11 = c10 .before in
-    let c16 = c11 .before .before .before .before .before in
-    let c17 = c16 .before in
-    let c26 = c17 .before .before .before .before .before .before .before .before .before in
-    λ x.
-    let row = c17 .element-at .ensures in
-    let mode = c16 .resolve-ws .ensures (x .attrs) (elem-owned x row) in
-    let content = rw (c .before .r .given .1) at (c10 .collect-segments-timed .ensures) in
-    content-no _ _ _ _ _ _ _ (c26 .pre .ready) x row (c11 .no-rates .result) (c16 .resolve-ws .result) (c11 .no-rates .ensures)
-    mode (three [] [] []) [] _ content (c26 .args .when)
 
 same-length-5 : tie.Need-same-length-5
 same-length-5 c = search needs
@@ -87,34 +94,21 @@ same-length-6 c = search needs
 same-length-7 : tie.Need-same-length-7
 same-length-7 c = search needs
 
-same-length-8 : tie.Need-same-length-8
-same-length-8 c = search needs
-
-same-length-9 : tie.Need-same-length-9
-same-length-9 c = search needs
-
-same-length-10 : tie.Need-same-length-10
-same-length-10 c = search needs
-
-same-length-11 : tie.Need-same-length-11
-same-length-11 c = search needs
-
 returns-2 : tie.Need-returns-2
 returns-2 c =
     let c5 = c .before .before .before .before .before in
     let c10 = c5 .before .before .before .before .before in
-    let c19 = c10 .before .before .before .before .before .before .before .before .before in
-    let c20 = c19 .before in
-    let c25 = c20 .before .before .before .before .before in
-    let c26 = c25 .before in
-    let c35 = c26 .before .before .before .before .before .before .before .before .before in
+    let c16 = c10 .before .before .before .before .before .before in
+    let c17 = c16 .before in
+    let c20 = c17 .before .before .before in
+    let c21 = c20 .before in
+    let c29 = c21 .before .before .before .before .before .before .before .before in
     λ x.
-    let row = c26 .element-at .ensures in
-    let mode = c25 .resolve-ws .ensures (x .attrs) (elem-owned x row) in
-    let content = rw (c10 .run .given .1) at (c19 .collect-segments-timed .ensures) in
-    alone-laid _ _ _ _ _ _ _ (c35 .pre .ready) x row (c20 .no-rates .result) (c25 .resolve-ws .result) (c20 .no-rates .ensures)
-    mode _ _ _ content (c35 .args .when) _ _ _
-    (c5 .put-alone .ensures (x .attrs) (elem-owned x row))
+    let row = c21 .element-at .ensures in
+    let mode = c20 .resolve-ws .ensures (x .attrs) (elem-owned x row) in
+    let content = rw (c10 .run .given .1) at (c16 .collect-segments-timed .ensures) in
+    alone-laid _ _ _ _ _ (c29 .pre .ready) x row (c17 .no-rates .result) (c20 .resolve-ws .result) (c17 .no-rates .ensures) mode _ _ _ content
+    (c29 .args .when) _ _ _ (c5 .put-alone .ensures (x .attrs) (elem-owned x row))
 
 pub read-timed-spec : {M : Type 1} → statement M
 read-timed-spec =
@@ -126,18 +120,16 @@ read-timed-spec =
     no-rates-requires
     collect-segments-timed-requires
     enum-known-r
+    clear-requires
+    clear-bytes-requires
     enum-known-run
     put-alone-requires
     same-length
     same-length-2
+    returns
     same-length-3
     same-length-4
-    returns
     same-length-5
     same-length-6
     same-length-7
-    same-length-8
-    same-length-9
-    same-length-10
-    same-length-11
     returns-2)

@@ -20,70 +20,61 @@ enum-known-k c = search needs
 
 read-tt-requires : tie.Need-read-tt-requires
 read-tt-requires c κs =
-    let c12 = c .before .before .before .before .before .before .before .before .before .before .before .before in
-    let c14 = c12 .before .before in
-    let c27 = c14 .before .before .before .before .before .before .before .before .before .before .before .before .before in
-    let c28 = c27 .before in
+    let c11 = c .before .before .before .before .before .before .before .before .before .before .before in
+    let c13 = c11 .before .before in
+    let c26 = c13 .before .before .before .before .before .before .before .before .before .before .before .before .before in
+    let c27 = c26 .before in
     record {
-      ready = c28 .pre .ready;
-      element = elem-found (c28 .pre .tree) (ascii "tt") (c14 .find-element .ensures) (c12 .k .given .1) .element;
+      ready = c27 .pre .ready;
+      element = elem-found (c27 .pre .tree) (ascii "tt") (c13 .find-element .ensures) (c11 .k .given .1) .element;
     }
 
 returns : tie.Need-returns
-returns c = λ x. root-no x (c .before .before .find-element .ensures) (c .enum-told .given .1)
+returns c =
+    let c13 = c .before .before .before .before .before .before .before .before .before .before .before .before .before in
+    let c16 = c13 .before .before .before in
+    λ x. (root-no x (c .before .before .find-element .ensures) (c .enum-told .given .1), c16 .pre .ready .zero)
 
 same-length : tie.Need-same-length
-same-length c =
-    let c13 = c .before .before .before .before .before .before .before .before .before .before .before .before .before in
-    let c19 = c13 .before .before .before .before .before .before in
-    c19 .head .given
+same-length c = search needs
 
 same-length-2 : tie.Need-same-length-2
-same-length-2 c =
-    let c13 = c .before .before .before .before .before .before .before .before .before .before .before .before .before in
-    let c17 = c13 .before .before .before .before in
-    c17 .params .given
+same-length-2 c = search needs
 
 same-length-3 : tie.Need-same-length-3
-same-length-3 c =
-    let c13 = c .before .before .before .before .before .before .before .before .before .before .before .before .before in
-    let c15 = c13 .before .before in
-    c15 .styles .given
+same-length-3 c = search needs
 
 same-length-4 : tie.Need-same-length-4
-same-length-4 c = c .before .before .before .before .before .before .before .before .before .before .before .before .before .regions .given
+same-length-4 c = search needs
 
 same-length-5 : tie.Need-same-length-5
-same-length-5 c = c .before .before .before .before .before .before .before .before .before .before .before .cues .given
+same-length-5 c = search needs
 
 same-length-6 : tie.Need-same-length-6
-same-length-6 c = c .before .before .before .before .before .before .before .before .before .times .given
+same-length-6 c = search needs
 
 same-length-7 : tie.Need-same-length-7
-same-length-7 c = c .before .before .before .before .before .before .before .before .segments .given
+same-length-7 c = search needs
 
 same-length-8 : tie.Need-same-length-8
-same-length-8 c = c .before .before .before .before .before .before .reveal .given
+same-length-8 c = search needs
 
 same-length-9 : tie.Need-same-length-9
-same-length-9 c = c .before .before .before .before .before .sizes .given
+same-length-9 c = search needs
 
 same-length-10 : tie.Need-same-length-10
-same-length-10 c = c .before .before .before .extras .given
-
-same-length-11 : tie.Need-same-length-11
-same-length-11 c = c .before .texts .given
+same-length-10 c = search needs
 
 returns-2 : tie.Need-returns-2
 returns-2 c =
     let c13 = c .before .before .before .before .before .before .before .before .before .before .before .before .before in
-    let c20 = c13 .before .before .before .before .before .before .before in
-    let c33 = c20 .before .before .before .before .before .before .before .before .before .before .before .before .before in
-    let c35 = c33 .before .before in
+    let c19 = c13 .before .before .before .before .before .before in
+    let c31 = c19 .before .before .before .before .before .before .before .before .before .before .before .before in
+    let c33 = c31 .before .before in
     λ x.
-    let o = c35 .find-element .ensures in
-    let e = c33 .k .given .1 in
-    track-as _ _ _ (c20 .read-tt .result) (root-is x o e) (c20 .read-tt .ensures (elem-found x (ascii "tt") o e .element))
+    let o = c33 .find-element .ensures in
+    let e = c31 .k .given .1 in
+    track-as _ _ _ (c19 .read-tt .result) (root-is x o e) (c19 .read-tt .ensures (elem-found x (ascii "tt") o e .element))
 
 pub read-track-spec : {M : Type 1} → statement M
 read-track-spec =
@@ -105,5 +96,4 @@ read-track-spec =
     same-length-8
     same-length-9
     same-length-10
-    same-length-11
     returns-2)

@@ -1,11 +1,10 @@
--- `add_text` meets its contract: a row in each of three tables, if there is room; the span over the zeros of the kind's row.
+-- `add_text` meets its contract: a row, if there is room; the span over the zeros of the kind's row.
 use Prim.Native.Nat.{_*_}
 use mathlib.Core.Path.{refl}
 use mathlib.Core.List.{[], _∷_}
 use native.Mathlib.Omega.{arith}
-use lib.Ieee.{ofBits}
 use borrow.Author.Needs.{needs}
-use Rattle.track.specs.Layout.{spanCells, segmentCells, segmentTime, segmentSize}
+use Rattle.track.specs.Layout.{spanCells, segmentCells}
 use Rattle.records.proofs.Overwrites.{kind-over}
 use Rattle.records.proofs.segments.add_text.Statement.{statement}
 use Rattle.records.proofs.segments.add_text.Tie as tie
@@ -28,55 +27,22 @@ add-put-span c = search needs
 put-span-requires : tie.Need-put-span-requires
 put-span-requires c κs = search needs
 
-mul-reveal : tie.Need-mul-reveal
-mul-reveal c = search needs
-
-slice-set-of-reveal : tie.Need-slice-set-of-reveal
-slice-set-of-reveal c = search needs
-
-mul-sizes : tie.Need-mul-sizes
-mul-sizes c = search needs
-
-slice-write-sizes : tie.Need-slice-write-sizes
-slice-write-sizes c = search needs
-
-add-t10 : tie.Need-add-t10
-add-t10 c = search needs
+add-t8 : tie.Need-add-t8
+add-t8 c = search needs
 
 same-length : tie.Need-same-length
 same-length c = search needs
 
-same-length-2 : tie.Need-same-length-2
-same-length-2 c = search needs
-
-same-length-3 : tie.Need-same-length-3
-same-length-3 c = search needs
-
 returns-2 : tie.Need-returns-2
-unfolding segmentCells segmentTime segmentSize ofBits
+unfolding segmentCells
 returns-2 c =
     let c6 = c .before .before .before .before .before .before in
-    let a = c6 .before .before .before .before .before .args in
-    let row = kind-over (0 ∷ 0 ∷ []) (spanCells (a .x)) (0 ∷ 0 ∷ 0 ∷ 0 ∷ []) (a .segments .now) _ _ (a .n * 8) 1 1
+    let a = c6 .before .before .before .before .args in
+    let row = kind-over (0 ∷ 0 ∷ []) (spanCells (a .x)) (0 ∷ 0 ∷ []) (a .segments .now) _ _ (a .n * 6) 1 1
     (c6 .put-kind .ensures) (c .before .before .put-span .ensures) refl in
-    ((omega (arith, c6 .before .before .if1 .left), refl, row), (refl, refl))
+    (omega (arith, c6 .before .before .if1 .left), refl, row)
 
 pub add-text-spec : {M : Type 1} → statement M
 add-text-spec =
     tie.close
-    (tie.spec
-    returns
-    mul-put-kind
-    put-kind-requires
-    mul-put-span
-    add-put-span
-    put-span-requires
-    mul-reveal
-    slice-set-of-reveal
-    mul-sizes
-    slice-write-sizes
-    add-t10
-    same-length
-    same-length-2
-    same-length-3
-    returns-2)
+    (tie.spec returns mul-put-kind put-kind-requires mul-put-span add-put-span put-span-requires add-t8 same-length returns-2)

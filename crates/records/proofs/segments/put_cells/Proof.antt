@@ -1,12 +1,15 @@
 -- `put_cells` meets its contract: by cases of the segment, the kind's row and the cells over it. Assumes nothing.
-use mathlib.Core.Path.{refl, sym}
+use Prim.Native.Nat.{ℕ, _/_, _%_}
+use mathlib.Core.Path.{refl, sym, ap, _∙_}
 use mathlib.Core.List.{[], _∷_, append-nil}
 use native.Mathlib.Omega.{arith}
 use native.Mathlib.Numerals.{add-two, add-three, add-four}
 use lib.ListN.{length-set}
 use borrow.Author.Needs.{needs}
-use Rattle.track.specs.Layout.{spanCells, fontCells, segmentCells}
-use Rattle.records.proofs.Overwrites.{kind-over, font-wide}
+use Rattle.track.specs.Layout.{spanCells, halves, timeBits, fontCells, segmentCells}
+use Rattle.records.proofs.Parts.{same-time}
+use Rattle.records.proofs.Storing.{font-wide}
+use Rattle.records.proofs.Overwrites.{two-stored, kind-over}
 use Rattle.records.proofs.segments.put_cells.Statement.{statement}
 use Rattle.records.proofs.segments.put_cells.Tie as tie
 
@@ -38,6 +41,33 @@ enum-known-s-2 c = search needs
 put-kind-requires-3 : tie.Need-put-kind-requires-3
 put-kind-requires-3 c κs = search needs
 
+time-bits-requires : tie.Need-time-bits-requires
+time-bits-requires c κs = search needs
+
+cast-segments : tie.Need-cast-segments
+cast-segments c = search needs
+
+add-segments : tie.Need-add-segments
+add-segments c = search needs
+
+mul-segments : tie.Need-mul-segments
+mul-segments c = search needs
+
+slice-write-segments : tie.Need-slice-write-segments
+slice-write-segments c = search needs
+
+cast-segments-2 : tie.Need-cast-segments-2
+cast-segments-2 c = search needs
+
+add-segments-2 : tie.Need-add-segments-2
+add-segments-2 c = search needs
+
+mul-segments-2 : tie.Need-mul-segments-2
+mul-segments-2 c = search needs
+
+slice-write-segments-2 : tie.Need-slice-write-segments-2
+slice-write-segments-2 c = simp length-set (omega arith)
+
 enum-told-2 : tie.Need-enum-told-2
 enum-told-2 c = search needs
 
@@ -68,30 +98,6 @@ enum-known-s-3 c = search needs
 put-kind-requires-8 : tie.Need-put-kind-requires-8
 put-kind-requires-8 c κs = search needs
 
-cast-segments : tie.Need-cast-segments
-cast-segments c = search needs
-
-add-segments : tie.Need-add-segments
-add-segments c = search needs
-
-mul-segments : tie.Need-mul-segments
-mul-segments c = search needs
-
-slice-write-segments : tie.Need-slice-write-segments
-slice-write-segments c = search needs
-
-cast-segments-2 : tie.Need-cast-segments-2
-cast-segments-2 c = search needs
-
-add-segments-2 : tie.Need-add-segments-2
-add-segments-2 c = search needs
-
-mul-segments-2 : tie.Need-mul-segments-2
-mul-segments-2 c = search needs
-
-slice-write-segments-2 : tie.Need-slice-write-segments-2
-slice-write-segments-2 c = simp length-set (omega arith)
-
 cast-segments-3 : tie.Need-cast-segments-3
 cast-segments-3 c = search needs
 
@@ -102,7 +108,31 @@ mul-segments-3 : tie.Need-mul-segments-3
 mul-segments-3 c = search needs
 
 slice-write-segments-3 : tie.Need-slice-write-segments-3
-slice-write-segments-3 c = simp length-set (omega arith)
+slice-write-segments-3 c = search needs
+
+cast-segments-4 : tie.Need-cast-segments-4
+cast-segments-4 c = search needs
+
+add-segments-4 : tie.Need-add-segments-4
+add-segments-4 c = search needs
+
+mul-segments-4 : tie.Need-mul-segments-4
+mul-segments-4 c = search needs
+
+slice-write-segments-4 : tie.Need-slice-write-segments-4
+slice-write-segments-4 c = simp length-set (omega arith)
+
+cast-segments-5 : tie.Need-cast-segments-5
+cast-segments-5 c = search needs
+
+add-segments-5 : tie.Need-add-segments-5
+add-segments-5 c = search needs
+
+mul-segments-5 : tie.Need-mul-segments-5
+mul-segments-5 c = search needs
+
+slice-write-segments-5 : tie.Need-slice-write-segments-5
+slice-write-segments-5 c = simp length-set (omega arith)
 
 enum-known-s-4 : tie.Need-enum-known-s-4
 enum-known-s-4 c = search needs
@@ -129,7 +159,7 @@ returns c =
     let a = c .before .before .before .before .before .before .before .before .before .before .before .before .args in
     let g = c .before .before .before .before .before .before .before .before .before .s .given in
     rw (g .1)
-    (kind-over (0 ∷ 0 ∷ []) (spanCells (g .0 .0)) (0 ∷ 0 ∷ 0 ∷ 0 ∷ []) (a .segments .now) _ _ (a .at) 1 (a .rows)
+    (kind-over (0 ∷ 0 ∷ []) (spanCells (g .0 .0)) (0 ∷ 0 ∷ []) (a .segments .now) _ _ (a .at) 1 (a .rows)
     (c .before .before .before .before .before .before .put-kind .ensures) (c .before .before .put-span .ensures) refl)
 
 same-length-2 : tie.Need-same-length-2
@@ -146,7 +176,14 @@ same-length-3 c = search needs
 returns-3 : tie.Need-returns-3
 unfolding segmentCells
 returns-3 c =
-    rw (c .before .before .before .before .before .s2 .given .1) (c .before .before .put-kind3 .ensures)
+    let a = c .before .before .before .before .before .before .before .before .before .args in
+    let g = c .before .before .before .before .before .before .s2 .given in
+    let bits = c .time-bits .ensures ∙ ap timeBits (same-time (g .0 .0) (c .before .before .before .before .before .known-told2 .given .0 .1)) in
+    rw (g .1)
+    (kind-over (0 ∷ 0 ∷ []) (halves (timeBits (g .0 .0))) (0 ∷ 0 ∷ []) (a .segments .now) _ _ (a .at) 3 (a .rows)
+    (c .before .before .before .put-kind3 .ensures)
+    (two-stored (c .before .before .before .put-kind3 .last .0) (a .at) (ap (λ (b : ℕ). b % 4294967296) bits)
+    (ap (λ (b : ℕ). b / 4294967296) bits)) refl)
 
 same-length-4 : tie.Need-same-length-4
 same-length-4 c = search needs
@@ -189,7 +226,7 @@ returns-8 c =
     let a = c .before .before .before .before .before .before .before .before .before .before .before .args in
     let g = c .before .before .before .before .before .before .before .before .s3 .given in
     rw (g .1)
-    (kind-over (0 ∷ 0 ∷ 0 ∷ []) (g .0 .0 .r ∷ g .0 .0 .g ∷ g .0 .0 .b ∷ []) (0 ∷ 0 ∷ 0 ∷ []) (a .segments .now) _ _ (a .at) 8 (a .rows)
+    (kind-over (0 ∷ 0 ∷ 0 ∷ []) (g .0 .0 .r ∷ g .0 .0 .g ∷ g .0 .0 .b ∷ []) (0 ∷ []) (a .segments .now) _ _ (a .at) 8 (a .rows)
     (c .before .before .before .before .before .put-kind8 .ensures)
     (simp (add-two, add-three, add-four)) refl)
 
@@ -202,7 +239,7 @@ returns-9 c =
     let a = c .before .before .before .before .before .before .before .before .before .before .before .before .args in
     let g = c .before .before .before .before .before .before .before .before .before .s4 .given in
     rw (g .1, ← (append-nil (fontCells (g .0 .0))))
-    (kind-over (0 ∷ 0 ∷ 0 ∷ 0 ∷ 0 ∷ 0 ∷ []) (fontCells (g .0 .0)) [] (a .segments .now) _ _ (a .at) 9 (a .rows)
+    (kind-over (0 ∷ 0 ∷ 0 ∷ 0 ∷ []) (fontCells (g .0 .0)) [] (a .segments .now) _ _ (a .at) 9 (a .rows)
     (c .before .before .before .before .before .before .put-kind9 .ensures) (c .before .before .put-font .ensures)
     (sym (font-wide (g .0 .0))))
 
@@ -218,6 +255,15 @@ put-cells-spec =
     put-kind-requires-2
     enum-known-s-2
     put-kind-requires-3
+    time-bits-requires
+    cast-segments
+    add-segments
+    mul-segments
+    slice-write-segments
+    cast-segments-2
+    add-segments-2
+    mul-segments-2
+    slice-write-segments-2
     enum-told-2
     put-kind-requires-4
     enum-told-3
@@ -228,18 +274,18 @@ put-cells-spec =
     put-kind-requires-7
     enum-known-s-3
     put-kind-requires-8
-    cast-segments
-    add-segments
-    mul-segments
-    slice-write-segments
-    cast-segments-2
-    add-segments-2
-    mul-segments-2
-    slice-write-segments-2
     cast-segments-3
     add-segments-3
     mul-segments-3
     slice-write-segments-3
+    cast-segments-4
+    add-segments-4
+    mul-segments-4
+    slice-write-segments-4
+    cast-segments-5
+    add-segments-5
+    mul-segments-5
+    slice-write-segments-5
     enum-known-s-4
     put-kind-requires-9
     add-put-font

@@ -9,10 +9,10 @@ use Rattle.records.proofs.segments.put_kind.Statement.{statement}
 use Rattle.records.proofs.segments.put_kind.Tie as tie
 
 abbrev Inv-loop : tie.InvT-loop
-Inv-loop segments₀ at kind rows i₀ segments i = Zeroed segments₀ at 2 8 i segments
+Inv-loop segments₀ at kind rows i₀ segments i = Zeroed segments₀ at 2 6 i segments
 
 abbrev μ-loop : tie.MeasureT-loop
-μ-loop segments₀ at kind rows i₀ segments i = 8 - i
+μ-loop segments₀ at kind rows i₀ segments i = 6 - i
 
 mul-segments : tie.Need-mul-segments Inv-loop μ-loop
 mul-segments c = omega arith

@@ -1,58 +1,55 @@
--- `shift_segments` meets its contract: three tables, each shifted. Assumes nothing.
-use Prim.Native.Nat.{_+_, _*_}
-use mathlib.Core.Path.{_≡_}
+-- `shift_segments` meets its contract. The loop's invariant: the rows from `i` on are moved. The measure is `i`. Assumes nothing.
+use Prim.Native.Nat.{_-_, _≤_}
+use mathlib.Core.Path.{_≡_, refl}
 use native.Mathlib.Omega.{arith}
-use borrow.Author.Needs.{needs}
+use lib.ListN.{length}
+use Rattle.records.proofs.RowMoves.{RowsMoved, rows-none, row-moved}
 use Rattle.records.proofs.segments.shift_segments.Statement.{statement}
 use Rattle.records.proofs.segments.shift_segments.Tie as tie
 
-mul-shift-cells : tie.Need-mul-shift-cells
-mul-shift-cells c = search needs
+abbrev Inv-loop : tie.InvT-loop
+Inv-loop segments₀ at end by i₀ segments i = (at ≤ i) × (length segments ≡ length segments₀) × RowsMoved segments₀ end by i segments
 
-mul-shift-cells-2 : tie.Need-mul-shift-cells-2
-mul-shift-cells-2 c = search needs
+abbrev μ-loop : tie.MeasureT-loop
+μ-loop segments₀ at end by i₀ segments i = i
 
-mul-shift-cells-3 : tie.Need-mul-shift-cells-3
-mul-shift-cells-3 c = search needs
+loop-holds : tie.Need-loop-holds Inv-loop μ-loop
+loop-holds c = (omega arith, refl, rows-none (c .before .args .segments .now) _ _ (omega arith))
 
-shift-cells-requires : tie.Need-shift-cells-requires
-shift-cells-requires c κs = search needs
+sub-i : tie.Need-sub-i Inv-loop μ-loop
+sub-i c = omega arith
 
-shift-times-requires : tie.Need-shift-times-requires
-shift-times-requires c κs = search needs
+mul-move-row : tie.Need-mul-move-row Inv-loop μ-loop
+mul-move-row c = omega arith
 
-shift-sizes-requires : tie.Need-shift-sizes-requires
-shift-sizes-requires c κs = search needs
+add-move-row : tie.Need-add-move-row Inv-loop μ-loop
+add-move-row c = omega arith
 
-same-length : tie.Need-same-length
-same-length c = search needs
+mul-move-row-2 : tie.Need-mul-move-row-2 Inv-loop μ-loop
+mul-move-row-2 c = omega arith
 
-same-length-2 : tie.Need-same-length-2
-same-length-2 c = search needs
+move-row-requires : tie.Need-move-row-requires Inv-loop μ-loop
+move-row-requires c κs = (omega arith, omega arith)
 
-same-length-3 : tie.Need-same-length-3
-same-length-3 c = search needs
+loop-less : tie.Need-loop-less Inv-loop μ-loop
+loop-less c = omega arith
 
-returns : tie.Need-returns
+loop-again : tie.Need-loop-again Inv-loop μ-loop
+loop-again c =
+    let l = c .before .before .before .before .before .loop in
+    let a = c .before .before .before .before .before .before .before .args in
+    (omega arith, omega arith, row-moved (a .segments .now) (l .segments) _ (a .end) (a .by) (l .i) (l .i - 1) (l .inv .2) (omega arith)
+    (l .inv .1) (c .before .before .move-row .ensures))
+
+same-length : tie.Need-same-length Inv-loop μ-loop
+same-length c = omega arith
+
+returns : tie.Need-returns Inv-loop μ-loop
 returns c =
-    let a = c .before .before .before .before .before .before .before .before .before .before .before .before .before .args in
-    let e : (a .at + a .by) * 8 ≡ a .at * 8 + a .by * 8 = omega arith in
-    rw e (
-      c .before .before .before .before .before .before .before .before .before .shift-cells .ensures,
-      (c .before .before .before .before .before .shift-times .ensures, c .before .before .shift-sizes .ensures),
-    )
+    let e : c .before .loop .i ≡ c .before .before .before .args .at = omega arith in
+    rw e at (c .before .loop .inv .2 .is)
 
 pub shift-segments-spec : {M : Type 1} → statement M
 shift-segments-spec =
-    tie.close
-    (tie.spec
-    mul-shift-cells
-    mul-shift-cells-2
-    mul-shift-cells-3
-    shift-cells-requires
-    shift-times-requires
-    shift-sizes-requires
-    same-length
-    same-length-2
-    same-length-3
-    returns)
+    tie.close (tie.spec Inv-loop μ-loop loop-holds sub-i mul-move-row add-move-row mul-move-row-2 move-row-requires loop-less loop-again
+    same-length returns)

@@ -17,9 +17,6 @@ put-style-requires c κs = search needs
 size-value-requires : tie.Need-size-value-requires
 size-value-requires c κs = search needs
 
-add-sizes : tie.Need-add-sizes
-add-sizes c = search needs
-
 mul-sizes : tie.Need-mul-sizes
 mul-sizes c = search needs
 
@@ -46,7 +43,6 @@ add-style-spec =
     mul-put-style
     put-style-requires
     size-value-requires
-    add-sizes
     mul-sizes
     slice-write-sizes
     add-t10

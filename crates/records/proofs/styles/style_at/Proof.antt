@@ -1,4 +1,3 @@
-use Prim.Native.Nat.{_+_}
 use native.Mathlib.Omega.{arith}
 use native.Mathlib.Nat.{add-assoc, add-zero}
 use lib.Ieee.{nan}
@@ -16,10 +15,6 @@ use Rattle.track.proofs.span_at.Reads as span-at-reads
 -- src/styles.rt:77:14
 mul-at : tie.Need-mul-at
 mul-at c = search needs
-
--- src/styles.rt:78:42
-add-look-at : tie.Need-add-look-at
-add-look-at c = search needs
 
 -- src/styles.rt:78:36
 mul-look-at : tie.Need-mul-look-at
@@ -58,7 +53,7 @@ returns : tie.Need-returns
 unfolding cell styleAt
 returns c =
     let s = c .before .before .before .before .before .before .before .args in
-    let v = within-any nan zeroFloat (s .sizes .now) (16384 + s .i) (omega arith) in
+    let v = within-any nan zeroFloat (s .sizes .now) (s .i) (omega arith) in
     rw (c .before .before .span-at .ensures, c .before .span-at2 .ensures, c .before .before .before .look-at .ensures, v, c .rows-at .ensures)
     (simp (add-assoc, add-zero))
 
@@ -67,7 +62,6 @@ style-at-spec =
     tie.close
     (tie.spec
     mul-at
-    add-look-at
     mul-look-at
     shared-slice-read-look-at
     look-at-requires

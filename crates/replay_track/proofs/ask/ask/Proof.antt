@@ -51,9 +51,6 @@ end-requires-10 c κs = search needs
 end-requires-11 : tie.Need-end-requires-11
 end-requires-11 c κs = search needs
 
-end-requires-12 : tie.Need-end-requires-12
-end-requires-12 c κs = search needs
-
 slice-aggregate-check-track : tie.Need-slice-aggregate-check-track
 slice-aggregate-check-track c = sym (length-take-le _ _ (omega arith))
 
@@ -98,9 +95,8 @@ slice-aggregate-check-track-2 c = sym (length-take-le _ _
     (omega (
       arith,
       c .before .before .before .before .before .before .before .before .before .before .before .before .before .before .before .before
-          .before .before .before .before .if2 .left,
-      c .before .before .before .before .before .before .before .before .before .before .before .before
-          .end6 .ensures .1,
+          .before .before .before .if2 .left,
+      c .before .before .before .before .before .before .before .before .before .before .before .end6 .ensures .1,
     )))
 
 sub-check-track-5 : tie.Need-sub-check-track-5
@@ -112,10 +108,19 @@ part-check-track-start-5 c = search needs
 part-check-track-end-5 : tie.Need-part-check-track-end-5
 part-check-track-end-5 c = omega (
   arith,
-  c .before .before .before .before .before .before .before .before .before .before .before .before .before
-      .before .before .before .before .before .before .before .before .if1 .left,
-  c .before .before .before .before .before .before .before .before .before .before .before .end7 .ensures .1,
+  c .before .before .before .before .before .before .before .before .before .before .before .before .before .before .before .before
+      .before .before .before .before .if1 .left,
+  c .before .before .before .before .before .before .before .before .before .before .end7 .ensures .1,
 )
+
+slice-aggregate-check-track-3 : tie.Need-slice-aggregate-check-track-3
+slice-aggregate-check-track-3 c = sym (length-take-le _ _
+    (omega (
+      arith,
+      c .before .before .before .before .before .before .before .before .before .before .before .before .before .before .before .before
+          .before .before .before .before .if3 .left,
+      c .before .before .before .before .before .before .before .before .before .before .before .end8 .ensures .1,
+    )))
 
 sub-check-track-6 : tie.Need-sub-check-track-6
 sub-check-track-6 c = search needs
@@ -126,18 +131,18 @@ part-check-track-start-6 c = search needs
 part-check-track-end-6 : tie.Need-part-check-track-end-6
 part-check-track-end-6 c = omega (
   arith,
-  c .before .before .before .before .before .before .before .before .before .before .before .before .before
-      .before .before .before .before .before .before .before .before .if2 .left,
-  c .before .before .before .before .before .before .before .before .before .before .before .end8 .ensures .1,
+  c .before .before .before .before .before .before .before .before .before .before .before .before .before .before .before .before
+      .before .before .before .before .before .before .if1 .left,
+  c .before .before .before .before .before .before .before .before .before .before .end9 .ensures .1,
 )
 
-slice-aggregate-check-track-3 : tie.Need-slice-aggregate-check-track-3
-slice-aggregate-check-track-3 c = sym (length-take-le _ _
+slice-aggregate-check-track-4 : tie.Need-slice-aggregate-check-track-4
+slice-aggregate-check-track-4 c = sym (length-take-le _ _
     (omega (
       arith,
       c .before .before .before .before .before .before .before .before .before .before .before .before .before .before .before .before
-          .before .before .before .before .before .before .if3 .left,
-      c .before .before .before .before .before .before .before .before .before .before .before .before .end9 .ensures .1,
+          .before .before .before .before .before .if4 .left,
+      c .before .before .before .before .before .before .before .before .before .before .before .end10 .ensures .1,
     )))
 
 sub-check-track-7 : tie.Need-sub-check-track-7
@@ -147,30 +152,7 @@ part-check-track-start-7 : tie.Need-part-check-track-start-7
 part-check-track-start-7 c = search needs
 
 part-check-track-end-7 : tie.Need-part-check-track-end-7
-part-check-track-end-7 c = omega (
-  arith,
-  c .before .before .before .before .before .before .before .before .before .before .before .before .before
-      .before .before .before .before .before .before .before .before .before .before .before .if1 .left,
-  c .before .before .before .before .before .before .before .before .before .before .before .end10 .ensures .1,
-)
-
-slice-aggregate-check-track-4 : tie.Need-slice-aggregate-check-track-4
-slice-aggregate-check-track-4 c = sym (length-take-le _ _
-    (omega (
-      arith,
-      c .before .before .before .before .before .before .before .before .before .before .before .before .before .before .before .before
-          .before .before .before .before .before .before .before .if4 .left,
-      c .before .before .before .before .before .before .before .before .before .before .before .before .end11 .ensures .1,
-    )))
-
-sub-check-track-8 : tie.Need-sub-check-track-8
-sub-check-track-8 c = search needs
-
-part-check-track-start-8 : tie.Need-part-check-track-start-8
-part-check-track-start-8 c = search needs
-
-part-check-track-end-8 : tie.Need-part-check-track-end-8
-part-check-track-end-8 c = search needs
+part-check-track-end-7 c = search needs
 
 check-track-requires : tie.Need-check-track-requires
 check-track-requires c κs = search needs
@@ -200,7 +182,6 @@ ask-spec =
     end-requires-9
     end-requires-10
     end-requires-11
-    end-requires-12
     slice-aggregate-check-track
     sub-check-track
     part-check-track-start
@@ -218,17 +199,14 @@ ask-spec =
     sub-check-track-5
     part-check-track-start-5
     part-check-track-end-5
+    slice-aggregate-check-track-3
     sub-check-track-6
     part-check-track-start-6
     part-check-track-end-6
-    slice-aggregate-check-track-3
+    slice-aggregate-check-track-4
     sub-check-track-7
     part-check-track-start-7
     part-check-track-end-7
-    slice-aggregate-check-track-4
-    sub-check-track-8
-    part-check-track-start-8
-    part-check-track-end-8
     check-track-requires
     number-of-requires
     returns-5)

@@ -22,7 +22,8 @@ returns-3 c =
 returns-4 : tie.Need-returns-4
 returns-4 c =
     let a = c .before .before .before .before .args in
-    past-millis (a .h) (a .m) (a .s) (a .ms) (c .before .before .before .if1 .left) (c .before .before .if2 .left) (c .before .if3 .left) (c .if4 .taken)
+    past-millis (a .h) (a .m) (a .s) (a .ms) (c .before .before .before .if1 .left) (c .before .before .if2 .left) (c .before .if3 .left)
+    (c .if4 .taken)
 
 mul-result : tie.Need-mul-result
 mul-result c = search needs

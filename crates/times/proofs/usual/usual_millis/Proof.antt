@@ -20,7 +20,9 @@ shared-slice-read-if3 : tie.Need-shared-slice-read-if3
 shared-slice-read-if3 c = search needs
 
 returns-3 : tie.Need-returns-3
-returns-3 c = no-point (c .before .before .before .before .before .before .before .args .text .now) (c .before .before .before .before .if1 .left) (c .before .before .if2 .left) (c .if3 .taken)
+returns-3 c =
+    let c4 = c .before .before .before .before in
+    no-point (c4 .before .before .before .args .text .now) (c4 .if1 .left) (c .before .before .if2 .left) (c .if3 .taken)
 
 shared-slice-read-two-digits : tie.Need-shared-slice-read-two-digits
 shared-slice-read-two-digits c = search needs

@@ -71,7 +71,7 @@ slice-aggregate-bytes-mean : tie.Need-slice-aggregate-bytes-mean
 slice-aggregate-bytes-mean c =
     let d = c .before .before in
     let e = d .before .before .before .before .before .before in
-    let m = rest-long _ _ _ _ _ (holds (d .before .before .before .before .rest-full .ensures) (d .before .before .before .if2 .left)) in
+    let m = rest-long _ _ _ _ (holds (d .before .before .before .before .rest-full .ensures) (d .before .before .before .if2 .left)) in
     let k = limits-low _ (holds (d .before .before .within-limits .ensures) (d .before .if3 .left)) in
     sym (length-take-le _ (e .before .before .before .before .before .before .before .before .before .before .before .args .strings .now) (omega
     (arith, m .strings, k .strings, d .get .ensures)))
@@ -80,7 +80,7 @@ slice-aggregate-bytes-mean-2 : tie.Need-slice-aggregate-bytes-mean-2
 slice-aggregate-bytes-mean-2 c =
     let d = c .before .before in
     let e = d .before .before .before .before .before .before .before in
-    let m = rest-long _ _ _ _ _ (holds (d .before .before .before .before .before .rest-full .ensures)
+    let m = rest-long _ _ _ _ (holds (d .before .before .before .before .before .rest-full .ensures)
     (d .before .before .before .before .if2 .left)) in
     let k = limits-low _ (holds (d .before .before .before .within-limits .ensures) (d .before .before .if3 .left)) in
     sym (length-take-le _ (e .before .before .before .before .before .before .before .before .before .before .before .args .texts .now) (omega
@@ -109,7 +109,7 @@ slice-aggregate-rows-mean : tie.Need-slice-aggregate-rows-mean
 slice-aggregate-rows-mean c =
     let d = c .before .before .before .before .before .before in
     let e = d .before .before .before .before .before .before in
-    let m = rest-long _ _ _ _ _ (holds (d .before .before .before .before .rest-full .ensures) (d .before .before .before .if2 .left)) in
+    let m = rest-long _ _ _ _ (holds (d .before .before .before .before .rest-full .ensures) (d .before .before .before .if2 .left)) in
     let k = limits-low _ (holds (d .before .before .within-limits .ensures) (d .before .if3 .left)) in
     sym (length-take-le _ (e .before .before .before .before .before .before .before .before .before .before .before .args .strings .now) (omega
     (arith, m .strings, k .strings, d .get .ensures)))
@@ -119,14 +119,13 @@ rows-mean-requires c κs =
     let d = c .before .before .before .before .before .before .before in
     let l = rows-long _ _ _ _ _ _ _ (holds (d .before .before .before .before .before .rows-full .ensures)
     (d .before .before .before .before .if1 .left)) in
-    let m = rest-long _ _ _ _ _ (holds (d .before .before .before .rest-full .ensures) (d .before .before .if2 .left)) in
+    let m = rest-long _ _ _ _ (holds (d .before .before .before .rest-full .ensures) (d .before .before .if2 .left)) in
     let k = limits-low _ (holds (d .before .within-limits .ensures) (d .if3 .left)) in (
       l .head,
       omega (arith, l .params, k .params),
       omega (arith, l .styles, k .styles),
       omega (arith, l .regions, k .regions),
-      omega
-          (arith, m .sizes, k .styles),
+      omega (arith, m .sizes, k .styles),
       l .extras,
     )
 
@@ -167,7 +166,7 @@ slice-aggregate-are-cues : tie.Need-slice-aggregate-are-cues
 slice-aggregate-are-cues c =
     let d = c .before .before .before .before .before .before .before .before .before .before .before in
     let e = d .before .before .before .before .before .before in
-    let m = rest-long _ _ _ _ _ (holds (d .before .before .before .before .rest-full .ensures) (d .before .before .before .if2 .left)) in
+    let m = rest-long _ _ _ _ (holds (d .before .before .before .before .rest-full .ensures) (d .before .before .before .if2 .left)) in
     let k = limits-low _ (holds (d .before .before .within-limits .ensures) (d .before .if3 .left)) in
     sym (length-take-le _ (e .before .before .before .before .before .before .before .before .before .before .before .args .strings .now) (omega
     (arith, m .strings, k .strings, d .get .ensures)))
@@ -176,7 +175,7 @@ slice-aggregate-are-cues-2 : tie.Need-slice-aggregate-are-cues-2
 slice-aggregate-are-cues-2 c =
     let d = c .before .before .before .before .before .before .before .before .before .before .before in
     let e = d .before .before .before .before .before .before .before in
-    let m = rest-long _ _ _ _ _ (holds (d .before .before .before .before .before .rest-full .ensures)
+    let m = rest-long _ _ _ _ (holds (d .before .before .before .before .before .rest-full .ensures)
     (d .before .before .before .before .if2 .left)) in
     let k = limits-low _ (holds (d .before .before .before .within-limits .ensures) (d .before .before .if3 .left)) in
     sym (length-take-le _ (e .before .before .before .before .before .before .before .before .before .before .before .args .texts .now) (omega
@@ -188,13 +187,8 @@ are-cues-requires c κs =
     let e = d .before .before .before .before .before .before .before .before .before .before in
     let l = rows-long _ _ _ _ _ _ _ (holds (e .before .before .before .before .before .rows-full .ensures)
     (e .before .before .before .before .if1 .left)) in
-    let m = rest-long _ _ _ _ _ (holds (e .before .before .before .rest-full .ensures) (e .before .before .if2 .left)) in
-    let k = limits-low _ (holds (e .before .within-limits .ensures) (e .if3 .left)) in (
-      omega (arith, l .cues, k .cues, d .get3 .ensures),
-      l .extras,
-      omega (arith, l .segments, k .segments, c .before .before .get4 .ensures),
-      omega (arith, m .sizes, k .segments, c .before .before .get4 .ensures),
-    )
+    let k = limits-low _ (holds (e .before .within-limits .ensures) (e .if3 .left)) in
+    (omega (arith, l .cues, k .cues, d .get3 .ensures), l .extras, omega (arith, l .segments, k .segments, c .before .before .get4 .ensures))
 
 refused-requires-6 : tie.Need-refused-requires-6
 refused-requires-6 c κs = search needs

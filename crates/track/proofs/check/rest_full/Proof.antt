@@ -19,43 +19,20 @@ returns-2 : tie.Need-returns-2
 unfolding restFull
 returns-2 c =
     let a = c .before .before .args in
-    rw (le-leb 4096 (a .times) (omega arith), lt-leb 16384 (a .reveal) (omega arith))
-
-add-if3 : tie.Need-add-if3
-add-if3 c = search needs
+    rw (le-leb 4096 (a .times) (omega arith), lt-leb 256 (a .sizes) (omega arith))
 
 returns-3 : tie.Need-returns-3
 unfolding restFull
 returns-3 c =
     let a = c .before .before .before .args in
-    rw (le-leb 4096 (a .times) (omega arith), le-leb 16384 (a .reveal) (omega arith), lt-leb 16640 (a .sizes) (omega arith))
+    rw (le-leb 4096 (a .times) (omega arith), le-leb 256 (a .sizes) (omega arith), lt-leb 65536 (a .strings) (omega arith))
 
 returns-4 : tie.Need-returns-4
 unfolding restFull
 returns-4 c =
-    let c4 = c .before .before .before .before in
-    let a = c4 .args in
-    rw (
-      le-leb 4096 (a .times) (omega arith),
-      le-leb 16384 (a .reveal) (omega arith),
-      le-leb 16640 (a .sizes) (omega arith),
-      lt-leb 65536
-          (a .strings) (omega arith),
-    )
-
-returns-5 : tie.Need-returns-5
-unfolding restFull
-returns-5 c =
-    let c4 = c .before .before .before .before in
-    let a = c4 .args in
-    rw (
-      le-leb 4096 (a .times) (omega arith),
-      le-leb 16384 (a .reveal) (omega arith),
-      le-leb 16640 (a .sizes) (omega arith),
-      le-leb 65536
-          (a .strings) (omega arith),
-    )
+    let a = c .before .before .before .args in
+    rw (le-leb 4096 (a .times) (omega arith), le-leb 256 (a .sizes) (omega arith), le-leb 65536 (a .strings) (omega arith))
 
 pub rest-full-spec : {M : Type 1} → statement M
 rest-full-spec =
-    tie.close (tie.spec mul-if1 returns returns-2 add-if3 returns-3 returns-4 returns-5)
+    tie.close (tie.spec mul-if1 returns returns-2 returns-3 returns-4)

@@ -74,7 +74,7 @@ returns-6 c =
       le-leb 6912 (a .styles) (omega arith),
       le-leb 1024 (a .regions) (omega arith),
       le-leb 22528 (a .cues) (omega arith),
-      lt-leb 131072 (a .segments) (omega arith),
+      lt-leb 98304 (a .segments) (omega arith),
     )
 
 mul-result : tie.Need-mul-result
@@ -90,7 +90,7 @@ returns-7 c =
       le-leb 6912 (a .styles) (omega arith),
       le-leb 1024 (a .regions) (omega arith),
       le-leb 22528 (a .cues) (omega arith),
-      le-leb 131072 (a .segments) (omega arith),
+      le-leb 98304 (a .segments) (omega arith),
     )
 
 pub rows-full-spec : {M : Type 1} → statement M

@@ -12,24 +12,24 @@ use Rattle.track.proofs.cues.are_cues.Statement.{statement}
 use Rattle.track.proofs.cues.are_cues.Tie as tie
 
 abbrev Inv-loop : tie.InvT-loop
-Inv-loop cues extras segments sizes strings texts most n from₀ i₀ from i =
+Inv-loop cues extras segments strings texts most n from₀ i₀ from i =
     (i ≤ n)
     × (from ≤ most)
-    × (areCues cues extras segments sizes strings texts most 0 n 0 ≡ areCues cues extras segments sizes strings texts most from (n - i) i)
+    × (areCues cues extras segments strings texts most 0 n 0 ≡ areCues cues extras segments strings texts most from (n - i) i)
 
 abbrev μ-loop : tie.MeasureT-loop
-μ-loop cues extras segments sizes strings texts most n from₀ i₀ from i = n - i
+μ-loop cues extras segments strings texts most n from₀ i₀ from i = n - i
 
 loop-holds : tie.Need-loop-holds Inv-loop μ-loop
 loop-holds c = (omega arith, omega arith, rw (sub-zero _))
 
 is-cue-requires : tie.Need-is-cue-requires Inv-loop μ-loop
-is-cue-requires c κs = (omega arith, omega arith, omega arith, omega arith, omega arith)
+is-cue-requires c κs = (omega arith, omega arith, omega arith, omega arith)
 
 returns : tie.Need-returns Inv-loop μ-loop
 returns c =
     let c3 = c .before .before .before in
-    sym (c3 .loop .inv .2 ∙ cues-stop _ _ _ _ _ _ _ _ _ _ (c .before .before .loop-test .taken) (fails (c .before .is-cue .ensures) (c .if1 .taken)))
+    sym (c3 .loop .inv .2 ∙ cues-stop _ _ _ _ _ _ _ _ _ (c .before .before .loop-test .taken) (fails (c .before .is-cue .ensures) (c .if1 .taken)))
 
 mul-get : tie.Need-mul-get Inv-loop μ-loop
 mul-get c = omega arith
@@ -42,7 +42,7 @@ get-requires c κs = omega arith
 
 add-from : tie.Need-add-from Inv-loop μ-loop
 unfolding cell
-add-from c = omega (arith, c .get .ensures, cue-within _ _ _ _ _ _ _ _ _ (holds (c .before .before .is-cue .ensures) (c .before .if1 .left)))
+add-from c = omega (arith, c .get .ensures, cue-within _ _ _ _ _ _ _ _ (holds (c .before .before .is-cue .ensures) (c .before .if1 .left)))
 
 add-i : tie.Need-add-i Inv-loop μ-loop
 add-i c = omega arith
@@ -56,13 +56,12 @@ loop-again c =
     let d = c .before .before .before in
     let h = holds (c .before .before .is-cue .ensures) (c .before .if1 .left) in (
       omega arith,
-      omega (arith, c .get .ensures, cue-within _ _ _ _ _ _ _ _ _ h),
-      rw (c .get .ensures) (d .before .loop .inv .2
-          ∙ cues-next _ _ _ _ _ _ _ _ _ _ (d .loop-test .taken) h),
+      omega (arith, c .get .ensures, cue-within _ _ _ _ _ _ _ _ h),
+      rw (c .get .ensures) (d .before .loop .inv .2 ∙ cues-next _ _ _ _ _ _ _ _ _ (d .loop-test .taken) h),
     )
 
 returns-2 : tie.Need-returns-2 Inv-loop μ-loop
-returns-2 c = sym (c .before .loop .inv .2 ∙ cues-done _ _ _ _ _ _ _ _ _ _ (c .loop-test .left))
+returns-2 c = sym (c .before .loop .inv .2 ∙ cues-done _ _ _ _ _ _ _ _ _ (c .loop-test .left))
 
 pub are-cues-spec : {M : Type 1} → statement M
 are-cues-spec =

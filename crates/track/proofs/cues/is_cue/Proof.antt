@@ -12,7 +12,7 @@ cue-values-requires : tie.Need-cue-values-requires
 cue-values-requires c κs = search needs
 
 returns : tie.Need-returns
-returns c = sym (cue-values-not _ _ _ _ _ _ _ _ _ (fails (c .before .cue-values .ensures) (c .if1 .taken)))
+returns c = sym (cue-values-not _ _ _ _ _ _ _ _ (fails (c .before .cue-values .ensures) (c .if1 .taken)))
 
 mul-get : tie.Need-mul-get
 mul-get c = search needs
@@ -25,7 +25,7 @@ get-requires c κs = search needs
 
 returns-2 : tie.Need-returns-2
 unfolding cell
-returns-2 c = sym (cue-from-not _ _ _ _ _ _ _ _ _ (λ e. c .if2 .taken (c .before .get .ensures ∙ e)))
+returns-2 c = sym (cue-from-not _ _ _ _ _ _ _ _ (λ e. c .if2 .taken (c .before .get .ensures ∙ e)))
 
 mul-get-2 : tie.Need-mul-get-2
 mul-get-2 c = search needs
@@ -41,7 +41,7 @@ sub-if3 c = search needs
 
 returns-3 : tie.Need-returns-3
 unfolding cell
-returns-3 c = sym (cue-room-not _ _ _ _ _ _ _ _ _ (omega (arith, c .before .get2 .ensures)))
+returns-3 c = sym (cue-room-not _ _ _ _ _ _ _ _ (omega (arith, c .before .get2 .ensures)))
 
 are-segments-requires : tie.Need-are-segments-requires
 are-segments-requires c κs = search needs
@@ -51,7 +51,7 @@ unfolding cell
 returns-4 c =
     let d = c .before .before .before in
     (rw (c .before .before .get2 .ensures) at (c .are-segments .ensures))
-    ∙ sym (cue-is _ _ _ _ _ _ _ _ _ (holds (d .before .before .before .cue-values .ensures) (d .before .before .if1 .left))
+    ∙ sym (cue-is _ _ _ _ _ _ _ _ (holds (d .before .before .before .cue-values .ensures) (d .before .before .if1 .left))
     (sym (d .before .get .ensures) ∙ d .if2 .left) (omega (arith, c .before .before .get2 .ensures)))
 
 pub is-cue-spec : {M : Type 1} → statement M

@@ -20,34 +20,34 @@ use Rattle.track.proofs.segments.is_segment.Reads as is-segment-reads
 use Rattle.track.proofs.segments.+are_segments.{statement}
 use Rattle.track.proofs.segments.+are_segments.Tie.{close}
 
-abbrev μ-are-segments : Measures 4 are-segments-kinds.ps ℕ
-μ-are-segments κs a = a .1 .1 .1 .1 .1 .1 .0
+abbrev μ-are-segments : Measures 3 are-segments-kinds.ps ℕ
+μ-are-segments κs a = a .1 .1 .1 .1 .1 .0
 
-abbrev are-segments-at : ℕ → In 4 are-segments-kinds.ps
+abbrev are-segments-at : ℕ → In 3 are-segments-kinds.ps
 are-segments-at t =
-    and 4 are-segments-kinds.ps (is 4 are-segments-kinds.ps μ-are-segments t) are-segments.Pre
+    and 3 are-segments-kinds.ps (is 3 are-segments-kinds.ps μ-are-segments t) are-segments.Pre
 
-abbrev are-segments-below : ℕ → In 4 are-segments-kinds.ps
+abbrev are-segments-below : ℕ → In 3 are-segments-kinds.ps
 are-segments-below t =
     and
-    4
+    3
     are-segments-kinds.ps
-    (falls 4 are-segments-kinds.ps _<_ μ-are-segments t)
+    (falls 3 are-segments-kinds.ps _<_ μ-are-segments t)
     are-segments.Pre
 
 abbrev claims : ℕ → are-segments-lts.Claims
 claims t = (is-segment-reads.Asked, is-segment-reads.Learnt, get-reads.Asked, get-reads.Learnt, are-segments-below t, are-segments.Post)
 
 abbrev are-segments-Inv-loop : are-segments-lts.InvT-loop
-are-segments-Inv-loop segments sizes strings texts from n room end i₀ i =
-    (from ≤ i) × (i ≤ end) × (areSegments segments sizes strings texts room n from ≡ areSegments segments sizes strings texts room (end - i) i)
+are-segments-Inv-loop segments strings texts from n room end i₀ i =
+    (from ≤ i) × (i ≤ end) × (areSegments segments strings texts room n from ≡ areSegments segments strings texts room (end - i) i)
 
 abbrev are-segments-μ-loop : are-segments-lts.MeasureT-loop
-are-segments-μ-loop segments sizes strings texts from n room end i₀ i = end - i
+are-segments-μ-loop segments strings texts from n room end i₀ i = end - i
 
 are-segments-returns : (t : ℕ) → are-segments-lts.Need-returns (claims t)
     (are-segments-at t) are-segments.Post are-segments-Inv-loop are-segments-μ-loop
-are-segments-returns t c = sym (are-shallow _ _ _ _ _ _ _ (c .if1 .taken))
+are-segments-returns t c = sym (are-shallow _ _ _ _ _ _ (c .if1 .taken))
 
 are-segments-add-end : (t : ℕ) → are-segments-lts.Need-add-end (claims t)
     (are-segments-at t) are-segments.Post are-segments-Inv-loop are-segments-μ-loop
@@ -56,7 +56,7 @@ are-segments-add-end t c = search needs
 are-segments-loop-holds : (t : ℕ) → are-segments-lts.Need-loop-holds (claims t)
     (are-segments-at t) are-segments.Post are-segments-Inv-loop are-segments-μ-loop
 are-segments-loop-holds t c =
-    let a = c .before .before .before .before .before .args in
+    let a = c .before .before .before .before .args in
     let e : a .from + a .n - a .from ≡ a .n = omega arith in
     (omega arith, omega arith, rw e)
 
@@ -67,10 +67,10 @@ are-segments-is-segment-requires t c κs = search needs
 are-segments-returns-2 : (t : ℕ) → are-segments-lts.Need-returns-2 (claims t)
     (are-segments-at t) are-segments.Post are-segments-Inv-loop are-segments-μ-loop
 are-segments-returns-2 t c =
-    let a = c .before .before .before .before .before .before .before .before .before .args in
+    let a = c .before .before .before .before .before .before .before .before .args in
     let l = c .before .before .before .loop in
     let n = a .from + a .n - l .i in
-    sym (l .inv .2 ∙ are-unfit _ _ _ _ (a .room) n (l .i) _ (omega arith) (omega arith) refl (fails (c .before .is-segment .ensures) (c .if2 .taken)))
+    sym (l .inv .2 ∙ are-unfit _ _ _ (a .room) n (l .i) _ (omega arith) (omega arith) refl (fails (c .before .is-segment .ensures) (c .if2 .taken)))
 
 are-segments-mul-get : (t : ℕ) → are-segments-lts.Need-mul-get (claims t)
     (are-segments-at t) are-segments.Post are-segments-Inv-loop are-segments-μ-loop
@@ -88,12 +88,12 @@ are-segments-returns-3 : (t : ℕ) → are-segments-lts.Need-returns-3 (claims t
     (are-segments-at t) are-segments.Post are-segments-Inv-loop are-segments-μ-loop
 unfolding cell
 are-segments-returns-3 t c =
-    let a = c .before .before .before .before .before .before .before .before .before .before .before .args in
+    let a = c .before .before .before .before .before .before .before .before .before .before .args in
     let l = c .before .before .before .before .before .loop in
     let n = a .from + a .n - l .i in
     let g = c .before .get in
     let s = holds (c .before .before .before .is-segment .ensures) (c .before .before .if2 .left) in
-    sym (l .inv .2 ∙ are-empty _ _ _ _ (a .room) n (l .i) (g .result) (omega arith) (omega arith) (g .ensures) s (c .if3 .taken))
+    sym (l .inv .2 ∙ are-empty _ _ _ (a .room) n (l .i) (g .result) (omega arith) (omega arith) (g .ensures) s (c .if3 .taken))
 
 are-segments-sub-if4 : (t : ℕ) → are-segments-lts.Need-sub-if4 (claims t)
     (are-segments-at t) are-segments.Post are-segments-Inv-loop are-segments-μ-loop
@@ -103,12 +103,12 @@ are-segments-returns-4 : (t : ℕ) → are-segments-lts.Need-returns-4 (claims t
     (are-segments-at t) are-segments.Post are-segments-Inv-loop are-segments-μ-loop
 unfolding cell
 are-segments-returns-4 t c =
-    let a = c .before .before .before .before .before .before .before .before .before .before .before .before .args in
+    let a = c .before .before .before .before .before .before .before .before .before .before .before .args in
     let l = c .before .before .before .before .before .before .loop in
     let n = a .from + a .n - l .i in
     let g = c .before .before .get in
     let s = holds (c .before .before .before .before .is-segment .ensures) (c .before .before .before .if2 .left) in
-    sym (l .inv .2 ∙ are-long _ _ _ _ (a .room) n (l .i) (g .result) (omega arith) (omega arith) (g .ensures) s (omega arith) (c .if4 .taken))
+    sym (l .inv .2 ∙ are-long _ _ _ (a .room) n (l .i) (g .result) (omega arith) (omega arith) (g .ensures) s (omega arith) (c .if4 .taken))
 
 are-segments-add-are-segments : (t : ℕ) → are-segments-lts.Need-add-are-segments (claims t)
     (are-segments-at t) are-segments.Post are-segments-Inv-loop are-segments-μ-loop
@@ -130,14 +130,14 @@ are-segments-returns-5 : (t : ℕ) → are-segments-lts.Need-returns-5 (claims t
     (are-segments-at t) are-segments.Post are-segments-Inv-loop are-segments-μ-loop
 unfolding cell
 are-segments-returns-5 t c =
-    let a = c .before .before .before .before .before .before .before .before .before .before .before .before .before .before .before .args in
+    let a = c .before .before .before .before .before .before .before .before .before .before .before .before .before .before .args in
     let l = c .before .before .before .before .before .before .before .before .before .loop in
     let n = a .from + a .n - l .i in
     let g = c .before .before .before .before .before .get in
     let s = holds (c .before .before .before .before .before .before .before .is-segment .ensures)
     (c .before .before .before .before .before .before .if2 .left) in
     let w = fails (c .before .are-segments .ensures) (c .if6 .taken) in
-    sym (l .inv .2 ∙ are-torn _ _ _ _ (a .room) n (l .i) (g .result) (omega arith) (omega arith) (g .ensures) s (omega arith) (omega arith) w)
+    sym (l .inv .2 ∙ are-torn _ _ _ (a .room) n (l .i) (g .result) (omega arith) (omega arith) (g .ensures) s (omega arith) (omega arith) w)
 
 are-segments-add-i : (t : ℕ) → are-segments-lts.Need-add-i (claims t) (are-segments-at t) are-segments.Post are-segments-Inv-loop are-segments-μ-loop
 are-segments-add-i t c = search needs
@@ -150,25 +150,25 @@ are-segments-loop-again : (t : ℕ) → are-segments-lts.Need-loop-again (claims
     (are-segments-at t) are-segments.Post are-segments-Inv-loop are-segments-μ-loop
 unfolding cell
 are-segments-loop-again t c =
-    let a = c .before .before .before .before .before .before .before .before .before .before .before .before .before .args in
+    let a = c .before .before .before .before .before .before .before .before .before .before .before .before .args in
     let l = c .before .before .before .before .before .before .before .loop in
     let n = a .from + a .n - l .i in
     let g = c .before .before .before .get in
     let s = holds (c .before .before .before .before .before .is-segment .ensures) (c .before .before .before .before .if2 .left) in
     let e : a .from + a .n - (l .i + g .result) ≡ n - g .result = omega arith in
-    let inside : areSegments (a .segments .now) (a .sizes .now) (a .strings .now) (a .texts .now) (a .room - 1) (g .result - 1) (l .i + 1) ≡ true =
+    let inside : areSegments (a .segments .now) (a .strings .now) (a .texts .now) (a .room - 1) (g .result - 1) (l .i + 1) ≡ true =
     ⊎-elim (λ w. holds (w .1 .ensures) (w .2 .left))
-    (λ w. let k : g .result - 1 ≡ 0 = omega (arith, w .left) in rw k (are-none _ _ _ _ (a .room - 1) (l .i + 1))) (c .if5 .came) in
-    let k = are-on _ _ _ _ (a .room) n (l .i) (g .result) (omega arith) (omega arith) (g .ensures) s (omega arith) (omega arith) inside in
+    (λ w. let k : g .result - 1 ≡ 0 = omega (arith, w .left) in rw k (are-none _ _ _ (a .room - 1) (l .i + 1))) (c .if5 .came) in
+    let k = are-on _ _ _ (a .room) n (l .i) (g .result) (omega arith) (omega arith) (g .ensures) s (omega arith) (omega arith) inside in
     (omega arith, omega arith, rw e (l .inv .2 ∙ k))
 
 are-segments-returns-6 : (t : ℕ) → are-segments-lts.Need-returns-6 (claims t)
     (are-segments-at t) are-segments.Post are-segments-Inv-loop are-segments-μ-loop
 are-segments-returns-6 t c =
-    let a = c .before .before .before .before .before .before .before .args in
+    let a = c .before .before .before .before .before .before .args in
     let l = c .before .loop in
     let e : a .from + a .n - l .i ≡ 0 = omega arith in
-    sym (l .inv .2 ∙ rw e (are-none _ _ _ _ (a .room) (l .i)))
+    sym (l .inv .2 ∙ rw e (are-none _ _ _ (a .room) (l .i)))
 
 pub +are-segments-spec : {M : Type 1} → statement M
 +are-segments-spec = close μ-are-segments λ t. are-segments-lts.spec (claims t)

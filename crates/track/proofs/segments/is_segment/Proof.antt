@@ -64,42 +64,42 @@ unfolding cell
 returns c =
     let g = c .before .before .before in
     let m = g .before .before in
-    let a = m .before .before .before .before .before .before .args in
-    rw (is-alone (a .segments .now) (a .sizes .now) (a .strings .now) (a .texts .now) (a .i) (m .match .keys1) (c .before .if1 .taken))
+    let a = m .before .before .before .before .before .args in
+    rw (is-alone (a .segments .now) (a .strings .now) (a .texts .now) (a .i) (m .match .keys1) (c .before .if1 .taken))
     (rw (← (g .before .get .ensures), ← (g .get2 .ensures)) (c .is-span .ensures))
 
 returns-2 : tie.Need-returns-2
 unfolding cell
-returns-2 c = ne-eqb _ 1 (c .if1 .left) ∙ sym (is-long _ _ _ _ _ (c .before .before .before .before .match .keys1) (c .if1 .left))
+returns-2 c = ne-eqb _ 1 (c .if1 .left) ∙ sym (is-long _ _ _ _ (c .before .before .before .before .match .keys1) (c .if1 .left))
 
 returns-3 : tie.Need-returns-3
-returns-3 c = c .are-three .ensures ∙ sym (is-color _ _ _ _ _ (c .before .match .keys2))
+returns-3 c = c .are-three .ensures ∙ sym (is-color _ _ _ _ (c .before .match .keys2))
 
 returns-4 : tie.Need-returns-4
 returns-4 c =
-    let c7 = c .before .before .before .before .before .before .before in
-    c .is-font .ensures (c7 .args .texts .now) ∙ sym (is-font _ _ _ _ _ (c .before .match .keys3))
+    let c6 = c .before .before .before .before .before .before in
+    c .is-font .ensures (c6 .args .texts .now) ∙ sym (is-font _ _ _ _ (c .before .match .keys3))
 
 returns-5 : tie.Need-returns-5
 unfolding cell
 returns-5 c =
-    let a = c .before .before .before .before .before .before .before .before .before .args in
-    sym (is-leaf (a .segments .now) (a .sizes .now) (a .strings .now) (a .texts .now) (a .i) (omega arith) (omega arith))
+    let a = c .before .before .before .before .before .before .before .before .args in
+    sym (is-leaf (a .segments .now) (a .strings .now) (a .texts .now) (a .i) (omega arith) (omega arith))
 
 returns-6 : tie.Need-returns-6
 returns-6 c =
-    let a = c .before .before .before .before .before .before .before .before .before .args in
-    sym (is-plain (a .segments .now) (a .sizes .now) (a .strings .now) (a .texts .now) (a .i) (omega arith) (omega arith))
+    let a = c .before .before .before .before .before .before .before .before .args in
+    sym (is-plain (a .segments .now) (a .strings .now) (a .texts .now) (a .i) (omega arith) (omega arith))
 
 returns-7 : tie.Need-returns-7
 returns-7 c =
-    let a = c .before .before .before .before .before .before .before .args in
-    sym (is-unknown (a .segments .now) (a .sizes .now) (a .strings .now) (a .texts .now) (a .i) (λ l m. omega arith))
+    let a = c .before .before .before .before .before .before .args in
+    sym (is-unknown (a .segments .now) (a .strings .now) (a .texts .now) (a .i) (λ l m. omega arith))
 
 returns-8 : tie.Need-returns-8
 returns-8 c =
-    let a = c .before .before .before .before .before .before .before .before .before .args in
-    sym (is-unknown (a .segments .now) (a .sizes .now) (a .strings .now) (a .texts .now) (a .i) (λ l m. omega arith))
+    let a = c .before .before .before .before .before .before .before .before .args in
+    sym (is-unknown (a .segments .now) (a .strings .now) (a .texts .now) (a .i) (λ l m. omega arith))
 
 pub is-segment-spec : {M : Type 1} → statement M
 is-segment-spec =

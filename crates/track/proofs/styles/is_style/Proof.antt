@@ -1,5 +1,4 @@
 -- `is_style` meets its contract: each test settles a part of the definition.
-use Prim.Native.Nat.{_+_}
 use native.Mathlib.Omega.{arith}
 use Rattle.track.specs.Meaning.{isStyle}
 use Rattle.track.proofs.Chains.{fails, holds}
@@ -18,9 +17,6 @@ returns : tie.Need-returns
 unfolding isStyle
 returns c = rw (fails (c .before .style-strings .ensures) (c .if1 .taken))
 
-add-style-values : tie.Need-add-style-values
-add-style-values c = search needs
-
 mul-style-values : tie.Need-mul-style-values
 mul-style-values c = search needs
 
@@ -36,7 +32,7 @@ returns-2 c =
     let one = c .before .before .before in
     rw (
       size-read (one .before .before .before .before .before .before .args .sizes .now)
-          (16384 + one .before .before .before .before .before .before .args .i) (omega arith),
+          (one .before .before .before .before .before .before .args .i) (omega arith),
       holds (one .before .style-strings .ensures) (one .if1 .left),
       fails (c .before .style-values .ensures) (c .if2 .taken),
     )
@@ -51,7 +47,7 @@ returns-3 c =
     let one = two .before .before .before in
     rw (
       size-read (one .before .before .before .before .before .before .args .sizes .now)
-          (16384 + one .before .before .before .before .before .before .args .i) (omega arith),
+          (one .before .before .before .before .before .before .args .i) (omega arith),
       holds (one .before .style-strings .ensures) (one .if1 .left),
       holds (two .before .style-values .ensures) (two .if2 .left),
       fails (c .before .style-flags .ensures) (c .if3 .taken),
@@ -80,7 +76,7 @@ returns-4 c =
     let one = two .before .before .before in
     rw (
       size-read (one .before .before .before .before .before .before .args .sizes .now)
-          (16384 + one .before .before .before .before .before .before .args .i) (omega arith),
+          (one .before .before .before .before .before .before .args .i) (omega arith),
       holds (one .before .style-strings .ensures) (one .if1 .left),
       holds (two .before .style-values .ensures) (two .if2 .left),
       holds (three .before .style-flags .ensures) (three .if3 .left),
@@ -96,7 +92,6 @@ is-style-spec =
     mul-at
     style-strings-requires
     returns
-    add-style-values
     mul-style-values
     shared-slice-read-style-values
     style-values-requires

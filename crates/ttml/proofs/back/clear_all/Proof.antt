@@ -31,9 +31,6 @@ clear-i64-requires c κs = search needs
 clear-requires-8 : tie.Need-clear-requires-8
 clear-requires-8 c κs = search needs
 
-clear-i64-requires-2 : tie.Need-clear-i64-requires-2
-clear-i64-requires-2 c κs = search needs
-
 clear-f32-requires : tie.Need-clear-f32-requires
 clear-f32-requires c κs = search needs
 
@@ -48,19 +45,14 @@ clear-bytes-requires-2 c κs = search needs
 
 same-length : tie.Need-same-length
 same-length c =
-    let k = c .before .before .before .before .before .before .before .before .before .before .before .before .before .before in
-    let l = k .before .before .before .before .before .before .before .before .before .before .before .before .before .before in
-    let m = l .before .before .before .before .before .before .before .before .before .before .before .before .before .before in
-    let c51 = m .before .before .before .before .before .before .before .before .before in
-    c51 .nodes .given
+    let c13 = c .before .before .before .before .before .before .before .before .before .before .before .before .before in
+    let c26 = c13 .before .before .before .before .before .before .before .before .before .before .before .before .before in
+    let c39 = c26 .before .before .before .before .before .before .before .before .before .before .before .before .before in
+    let c48 = c39 .before .before .before .before .before .before .before .before .before in
+    c48 .nodes .given
 
 same-length-2 : tie.Need-same-length-2
-same-length-2 c =
-    let k = c .before .before .before .before .before .before .before .before .before .before .before .before .before .before in
-    let l = k .before .before .before .before .before .before .before .before .before .before .before .before .before .before in
-    let m = l .before .before .before .before .before .before .before .before .before .before .before .before .before .before in
-    let c47 = m .before .before .before .before .before in
-    c47 .attrs .given
+same-length-2 c = search needs
 
 same-length-3 : tie.Need-same-length-3
 same-length-3 c = search needs
@@ -95,35 +87,30 @@ same-length-12 c = search needs
 same-length-13 : tie.Need-same-length-13
 same-length-13 c = search needs
 
-same-length-14 : tie.Need-same-length-14
-same-length-14 c = search needs
-
 returns : tie.Need-returns
 returns c =
     let c6 = c .before .before .before .before .before .before in
     let c10 = c6 .before .before .before .before in
     let c14 = c10 .before .before .before .before in
-    let c17 = c14 .before .before .before in
-    let c21 = c17 .before .before .before .before in
-    let c24 = c21 .before .before .before in
-    let c28 = c24 .before .before .before .before in
-    let c32 = c28 .before .before .before .before in
-    let c36 = c32 .before .before .before .before in
-    let c40 = c36 .before .before .before .before in
-    let c44 = c40 .before .before .before .before in
-    let c48 = c44 .before .before .before .before in
-    let c52 = c48 .before .before .before .before in
+    let c18 = c14 .before .before .before .before in
+    let c21 = c18 .before .before .before in
+    let c25 = c21 .before .before .before .before in
+    let c29 = c25 .before .before .before .before in
+    let c33 = c29 .before .before .before .before in
+    let c37 = c33 .before .before .before .before in
+    let c41 = c37 .before .before .before .before in
+    let c45 = c41 .before .before .before .before in
+    let c49 = c45 .before .before .before .before in
     all-zero
-    (record { of-nodes = c52 .clear .ensures; of-attrs = c48 .clear2 .ensures; of-strings = c6 .clear-bytes .ensures })
+    (record { of-nodes = c49 .clear .ensures; of-attrs = c45 .clear2 .ensures; of-strings = c6 .clear-bytes .ensures })
     (record {
-      head = c44 .clear3 .ensures;
-      params = c40 .clear4 .ensures;
-      styles = c36 .clear5 .ensures;
-      regions = c32 .clear6 .ensures;
-      cues = c28 .clear7 .ensures;
-      times = c24 .clear-i64 .ensures;
-      segments = c21 .clear8 .ensures;
-      reveal = c17 .clear-i642 .ensures;
+      head = c41 .clear3 .ensures;
+      params = c37 .clear4 .ensures;
+      styles = c33 .clear5 .ensures;
+      regions = c29 .clear6 .ensures;
+      cues = c25 .clear7 .ensures;
+      times = c21 .clear-i64 .ensures;
+      segments = c18 .clear8 .ensures;
       sizes = c14 .clear-f32 .ensures;
       extras = c10 .clear9 .ensures;
       texts = c .before .before .clear-bytes2 .ensures;
@@ -142,7 +129,6 @@ clear-all-spec =
     clear-requires-7
     clear-i64-requires
     clear-requires-8
-    clear-i64-requires-2
     clear-f32-requires
     clear-requires-9
     clear-bytes-requires
@@ -160,5 +146,4 @@ clear-all-spec =
     same-length-11
     same-length-12
     same-length-13
-    same-length-14
     returns)

@@ -41,10 +41,7 @@ same-length-7 : tie.Need-same-length-7
 same-length-7 c = search needs
 
 same-length-8 : tie.Need-same-length-8
-same-length-8 c =
-    let k = c .before .before .before .before .before .before .before .before .before .before .before .before .before .before in
-    let c18 = k .before .before .before .before in
-    c18 .times .given
+same-length-8 c = search needs
 
 same-length-9 : tie.Need-same-length-9
 same-length-9 c = search needs
@@ -64,23 +61,19 @@ same-length-13 c = search needs
 same-length-14 : tie.Need-same-length-14
 same-length-14 c = search needs
 
-same-length-15 : tie.Need-same-length-15
-same-length-15 c = search needs
-
 returns : tie.Need-returns
 returns c =
     let c5 = c .before .before .before .before .before in
-    let k = c5 .before .before .before .before .before .before .before .before .before .before .before .before .before .before in
-    let c33 = k .before .before .before .before .before .before .before .before .before .before .before .before .before .before in
-    not-read (c5 .r .given .1) (c33 .parse .ensures) (c .before .before .clear-bytes .ensures)
+    let c18 = c5 .before .before .before .before .before .before .before .before .before .before .before .before .before in
+    let c31 = c18 .before .before .before .before .before .before .before .before .before .before .before .before .before in
+    let c32 = c31 .before in
+    not-read (c5 .r .given .1) (c32 .parse .ensures) (c .before .before .clear-bytes .ensures)
+
+same-length-15 : tie.Need-same-length-15
+same-length-15 c = search needs
 
 same-length-16 : tie.Need-same-length-16
-same-length-16 c =
-    let k = c .before .before .before .before .before .before .before .before .before .before .before .before .before .before in
-    let l = k .before .before .before .before .before .before .before .before .before .before .before .before .before .before in
-    let m = l .before .before .before .before .before .before .before .before .before .before .before .before .before .before in
-    let c43 = m .before in
-    c43 .nodes .given
+same-length-16 c = search needs
 
 same-length-17 : tie.Need-same-length-17
 same-length-17 c = search needs
@@ -118,18 +111,14 @@ same-length-27 c = search needs
 same-length-28 : tie.Need-same-length-28
 same-length-28 c = search needs
 
-same-length-29 : tie.Need-same-length-29
-same-length-29 c = search needs
-
-same-length-30 : tie.Need-same-length-30
-same-length-30 c = search needs
-
 returns-2 : tie.Need-returns-2
 returns-2 c =
-    let c16 = c .before .before .before .before .before .before .before .before .before .before .before .before .before .before .before .before in
-    let k = c16 .before .before .before .before .before .before .before .before .before .before .before .before .before .before in
-    let c44 = k .before .before .before .before .before .before .before .before .before .before .before .before .before .before in
-    rewritten (c16 .enum-told .given .1) (c44 .parse .ensures) (c .before .before .write .ensures)
+    let c13 = c .before .before .before .before .before .before .before .before .before .before .before .before .before in
+    let c15 = c13 .before .before in
+    let c28 = c15 .before .before .before .before .before .before .before .before .before .before .before .before .before in
+    let c41 = c28 .before .before .before .before .before .before .before .before .before .before .before .before .before in
+    let c42 = c41 .before in
+    rewritten (c15 .enum-told .given .1) (c42 .parse .ensures) (c .before .before .write .ensures)
 
 pub recaption-spec : {M : Type 1} → statement M
 recaption-spec =
@@ -154,8 +143,8 @@ recaption-spec =
     same-length-12
     same-length-13
     same-length-14
-    same-length-15
     returns
+    same-length-15
     same-length-16
     same-length-17
     same-length-18
@@ -169,6 +158,4 @@ recaption-spec =
     same-length-26
     same-length-27
     same-length-28
-    same-length-29
-    same-length-30
     returns-2)

@@ -4,8 +4,6 @@ use Prim.Native.Nat.{ℕ, _+_, _-_, _*_, _≤_, _<_}
 use mathlib.Core.Path.{_≡_}
 use mathlib.Core.Logic.{⊎-elim}
 use native.Mathlib.Omega.{arith}
-use lib.ListN.{getD}
-use lib.IntN.{pos}
 use mir.Syntax.{w64}
 use mir.ValLaws.{toZ-ofZ}
 use borrow.Author.Needs.{needs}
@@ -25,6 +23,7 @@ use Rattle.writer.proofs.segments.write_segments.Kinds as write-segment
 use Rattle.writer.proofs.segments.+write_one_segment+write_segments.Lts-write_segments as write-segments-lts
 use Rattle.scan.proofs.get.Reads as get-reads
 use Rattle.track.proofs.segment_at.Reads as segment-at-reads
+use Rattle.track.proofs.time_from.Reads as time-from-reads
 use Rattle.writer.proofs.pieces.is_full.Reads as is-full-reads
 use Rattle.writer.proofs.pieces.put.Reads as put-reads
 use Rattle.writer.proofs.segments.close_if.Reads as close-if-reads
@@ -34,42 +33,42 @@ use Rattle.writer.proofs.segments.open_stamp.Reads as open-stamp-reads
 use Rattle.writer.proofs.segments.+write_one_segment+write_segments.{statement}
 use Rattle.writer.proofs.segments.+write_one_segment+write_segments.Tie.{close}
 
-abbrev μ-write-one-segment : Measures 6 write-one-segment-kinds.ps ℕ
-μ-write-one-segment κs a = 2 * a .1 .1 .1 .1 .1 .1 .0
+abbrev μ-write-one-segment : Measures 4 write-one-segment-kinds.ps ℕ
+μ-write-one-segment κs a = 2 * a .1 .1 .1 .1 .0
 
-abbrev μ-write-segments : Measures 6 write-segments-kinds.ps ℕ
-μ-write-segments κs a = 2 * a .1 .1 .1 .1 .1 .1 .1 .0 + 1
+abbrev μ-write-segments : Measures 4 write-segments-kinds.ps ℕ
+μ-write-segments κs a = 2 * a .1 .1 .1 .1 .1 .0 + 1
 
-abbrev write-one-segment-at : ℕ → In 6 write-one-segment-kinds.ps
+abbrev write-one-segment-at : ℕ → In 4 write-one-segment-kinds.ps
 write-one-segment-at t =
     and
-    6
+    4
     write-one-segment-kinds.ps
-    (is 6 write-one-segment-kinds.ps μ-write-one-segment t)
+    (is 4 write-one-segment-kinds.ps μ-write-one-segment t)
     write-one-segment.Pre
 
-abbrev write-one-segment-below : ℕ → In 6 write-one-segment-kinds.ps
+abbrev write-one-segment-below : ℕ → In 4 write-one-segment-kinds.ps
 write-one-segment-below t =
     and
-    6
+    4
     write-one-segment-kinds.ps
-    (falls 6 write-one-segment-kinds.ps _<_ μ-write-one-segment t)
+    (falls 4 write-one-segment-kinds.ps _<_ μ-write-one-segment t)
     write-one-segment.Pre
 
-abbrev write-segments-at : ℕ → In 6 write-segments-kinds.ps
+abbrev write-segments-at : ℕ → In 4 write-segments-kinds.ps
 write-segments-at t =
     and
-    6
+    4
     write-segments-kinds.ps
-    (is 6 write-segments-kinds.ps μ-write-segments t)
+    (is 4 write-segments-kinds.ps μ-write-segments t)
     write-segments.Pre
 
-abbrev write-segments-below : ℕ → In 6 write-segments-kinds.ps
+abbrev write-segments-below : ℕ → In 4 write-segments-kinds.ps
 write-segments-below t =
     and
-    6
+    4
     write-segments-kinds.ps
-    (falls 6 write-segments-kinds.ps _<_ μ-write-segments t)
+    (falls 4 write-segments-kinds.ps _<_ μ-write-segments t)
     write-segments.Pre
 
 abbrev one : ℕ → write-one-segment-lts.Claims
@@ -77,23 +76,23 @@ one t = (segment-at-reads.Asked, segment-at-reads.Learnt, open-segment-reads.Ask
     is-wrapper-reads.Learnt, get-reads.Asked, get-reads.Learnt, write-segments-below t, write-segments.Post, put-reads.Asked, put-reads.Learnt)
 
 abbrev siblings : ℕ → write-segments-lts.Claims
-siblings t = (is-full-reads.Asked, is-full-reads.Learnt, open-stamp-reads.Asked, open-stamp-reads.Learnt, write-one-segment-below t,
-    write-one-segment.Post, get-reads.Asked, get-reads.Learnt, close-if-reads.Asked, close-if-reads.Learnt)
+siblings t = (is-full-reads.Asked, is-full-reads.Learnt, time-from-reads.Asked, time-from-reads.Learnt, open-stamp-reads.Asked,
+    open-stamp-reads.Learnt, write-one-segment-below t, write-one-segment.Post, get-reads.Asked, get-reads.Learnt, close-if-reads.Asked,
+    close-if-reads.Learnt)
 
 write-one-segment-segment-at-requires : (t : ℕ) → write-one-segment-lts.Need-segment-at-requires (one t)
     (write-one-segment-at t) write-one-segment.Post
 unfolding cell
 write-one-segment-segment-at-requires t c κs =
-    let c5 = c .before .before .before .before .before in
-    let p = c5 .pre .1 .0 in
-    let w = ready-walk _ _ _ _ _ _ _ p in
-    (ready-cells _ _ _ _ _ _ _ p, omega (arith, p .0 .times, p .1), omega (arith, p .0 .floats, p .1), readable _ _ _ _ _ (w .is))
+    let p = c .before .before .before .before .pre .1 .0 in
+    let w = ready-walk _ _ _ _ _ p in
+    (ready-cells _ _ _ _ _ p, readable _ _ _ _ (w .is))
 
 write-one-segment-open-segment-requires : (t : ℕ) → write-one-segment-lts.Need-open-segment-requires (one t)
     (write-one-segment-at t) write-one-segment.Post
 write-one-segment-open-segment-requires t c κs =
-    let c7 = c .before .before .before .before .before .before .before in
-    (c7 .pre .1 .1, ready-within _ _ _ _ _ _ _ (c7 .pre .1 .0) _ (c .before .segment-at .ensures))
+    let c6 = c .before .before .before .before .before .before in
+    (c6 .pre .1 .1, ready-within _ _ _ _ _ (c6 .pre .1 .0) _ (c .before .segment-at .ensures))
 
 write-one-segment-is-wrapper-requires : (t : ℕ) → write-one-segment-lts.Need-is-wrapper-requires (one t)
     (write-one-segment-at t) write-one-segment.Post
@@ -106,54 +105,54 @@ write-one-segment-returns : (t : ℕ) → write-one-segment-lts.Need-returns (on
 write-one-segment-returns t c =
     let c4 = c .before .before .before .before in
     let c6 = c4 .before .before in
-    let c12 = c6 .before .before .before .before .before .before in
+    let c11 = c6 .before .before .before .before .before in
     let h = fails (c .before .is-wrapper .ensures) (c .if1 .taken) in
-    rw (one-leaf _ _ _ _ _ _ _ (c12 .pre .1 .0) _ (c6 .segment-at .ensures) h) (c4 .open-segment .ensures)
+    rw (one-leaf _ _ _ _ _ (c11 .pre .1 .0) _ (c6 .segment-at .ensures) h) (c4 .open-segment .ensures)
 
 write-one-segment-mul-get : (t : ℕ) → write-one-segment-lts.Need-mul-get (one t) (write-one-segment-at t) write-one-segment.Post
 write-one-segment-mul-get t c =
-    let c12 = c .before .before .before .before .before .before .before .before .before .before .before .before in
-    let h = ready-cells _ _ _ _ _ _ _ (c12 .pre .1 .0) in
+    let c11 = c .before .before .before .before .before .before .before .before .before .before .before in
+    let h = ready-cells _ _ _ _ _ (c11 .pre .1 .0) in
     search (needs, h)
 
 write-one-segment-add-get : (t : ℕ) → write-one-segment-lts.Need-add-get (one t) (write-one-segment-at t) write-one-segment.Post
 write-one-segment-add-get t c =
-    let c12 = c .before .before .before .before .before .before .before .before .before .before .before .before in
-    let h = ready-cells _ _ _ _ _ _ _ (c12 .pre .1 .0) in
+    let c11 = c .before .before .before .before .before .before .before .before .before .before .before in
+    let h = ready-cells _ _ _ _ _ (c11 .pre .1 .0) in
     search (needs, h)
 
 write-one-segment-get-requires : (t : ℕ) → write-one-segment-lts.Need-get-requires (one t) (write-one-segment-at t) write-one-segment.Post
 write-one-segment-get-requires t c κs =
-    let c12 = c .before .before .before .before .before .before .before .before .before .before .before .before in
-    omega (arith, ready-cells _ _ _ _ _ _ _ (c12 .pre .1 .0))
+    let c11 = c .before .before .before .before .before .before .before .before .before .before .before in
+    omega (arith, ready-cells _ _ _ _ _ (c11 .pre .1 .0))
 
 write-one-segment-add-write-segments : (t : ℕ) → write-one-segment-lts.Need-add-write-segments (one t) (write-one-segment-at t) write-one-segment.Post
 write-one-segment-add-write-segments t c =
-    let c13 = c .before .before .before .before .before .before .before .before .before .before .before .before .before in
-    let h = ready-cells _ _ _ _ _ _ _ (c13 .pre .1 .0) in
+    let c12 = c .before .before .before .before .before .before .before .before .before .before .before .before in
+    let h = ready-cells _ _ _ _ _ (c12 .pre .1 .0) in
     search (needs, h)
 
 write-one-segment-sub-write-segments : (t : ℕ) → write-one-segment-lts.Need-sub-write-segments (one t) (write-one-segment-at t) write-one-segment.Post
 unfolding cell
 write-one-segment-sub-write-segments t c =
-    let c13 = c .before .before .before .before .before .before .before .before .before .before .before .before .before in
-    omega (arith, c13 .pre .1 .0 .1, c .get .ensures)
+    let c12 = c .before .before .before .before .before .before .before .before .before .before .before .before in
+    omega (arith, c12 .pre .1 .0 .1, c .get .ensures)
 
 write-one-segment-sub-write-segments-2 : (t : ℕ) → write-one-segment-lts.Need-sub-write-segments-2 (one t)
     (write-one-segment-at t) write-one-segment.Post
 write-one-segment-sub-write-segments-2 t c =
-    let c13 = c .before .before .before .before .before .before .before .before .before .before .before .before .before in
-    omega (arith, ready-walk _ _ _ _ _ _ _ (c13 .pre .1 .0) .deep)
+    let c12 = c .before .before .before .before .before .before .before .before .before .before .before .before in
+    omega (arith, ready-walk _ _ _ _ _ (c12 .pre .1 .0) .deep)
 
 write-one-segment-write-segments-requires : (t : ℕ) → write-one-segment-lts.Need-write-segments-requires (one t)
     (write-one-segment-at t) write-one-segment.Post
 unfolding cell
 write-one-segment-write-segments-requires t c κs =
     let c6 = c .before .before .before .before .before .before in
-    let c14 = c6 .before .before .before .before .before .before .before .before in
-    let p = c14 .pre .1 .0 in
-    let falls : 2 * (c14 .args .room - 1) + 1 < t = omega (arith, c14 .pre .0, ready-walk _ _ _ _ _ _ _ p .deep) in
-    (falls, (ready-inside _ _ _ _ _ _ _ p _ (c .before .get .ensures), c6 .open-segment .ensures .room))
+    let c13 = c6 .before .before .before .before .before .before .before in
+    let p = c13 .pre .1 .0 in
+    let falls : 2 * (c13 .args .room - 1) + 1 < t = omega (arith, c13 .pre .0, ready-walk _ _ _ _ _ p .deep) in
+    (falls, (ready-inside _ _ _ _ _ p _ (c .before .get .ensures), c6 .open-segment .ensures .room))
 
 write-one-segment-slice-aggregate-put : (t : ℕ) → write-one-segment-lts.Need-slice-aggregate-put (one t)
     (write-one-segment-at t) write-one-segment.Post
@@ -174,17 +173,17 @@ write-one-segment-returns-2 t c =
     let c11 = c10 .before in
     let c14 = c11 .before .before .before in
     let c16 = c14 .before .before in
-    let c22 = c16 .before .before .before .before .before .before in
+    let c21 = c16 .before .before .before .before .before in
     let h = holds (c11 .is-wrapper .ensures) (c10 .if1 .left) in
-    rw (one-wrapper _ _ _ _ _ _ _ (c22 .pre .1 .0) _ (c16 .segment-at .ensures) h _ (c9 .get .ensures))
+    rw (one-wrapper _ _ _ _ _ (c21 .pre .1 .0) _ (c16 .segment-at .ensures) h _ (c9 .get .ensures))
     (puts-then (c14 .open-segment .ensures) (puts-then (c7 .write-segments .ensures) (c .before .before .put .ensures)))
 
 abbrev write-segments-Inv-loop : write-segments-lts.InvT-loop
-write-segments-Inv-loop segments reveal sizes strings texts from n room out₀ end i₀ to₀ inside₀ out i to inside =
-    Spanning segments reveal sizes strings texts from n room to₀ out₀ i to out inside
+write-segments-Inv-loop segments strings texts from n room out₀ end i₀ to₀ inside₀ out i to inside =
+    Spanning segments strings texts from n room to₀ out₀ i to out inside
 
 abbrev write-segments-μ-loop : write-segments-lts.MeasureT-loop
-write-segments-μ-loop segments reveal sizes strings texts from n room out₀ end i₀ to₀ inside₀ out i to inside = end - i
+write-segments-μ-loop segments strings texts from n room out₀ end i₀ to₀ inside₀ out i to inside = end - i
 
 write-segments-add-end : (t : ℕ) → write-segments-lts.Need-add-end (siblings t)
     (write-segments-at t) write-segments.Post write-segments-Inv-loop write-segments-μ-loop
@@ -193,8 +192,8 @@ write-segments-add-end t c = search needs
 write-segments-loop-holds : (t : ℕ) → write-segments-lts.Need-loop-holds (siblings t)
     (write-segments-at t) write-segments.Post write-segments-Inv-loop write-segments-μ-loop
 write-segments-loop-holds t c =
-    let c5 = c .before .before .before .before .before in
-    spanning-start _ _ _ _ _ _ _ _ _ _ (c5 .pre .1 .0) (c5 .pre .1 .1)
+    let c4 = c .before .before .before .before in
+    spanning-start _ _ _ _ _ _ _ _ (c4 .pre .1 .0) (c4 .pre .1 .1)
 
 write-segments-is-full-requires : (t : ℕ) → write-segments-lts.Need-is-full-requires (siblings t)
     (write-segments-at t) write-segments.Post write-segments-Inv-loop write-segments-μ-loop
@@ -208,7 +207,7 @@ write-segments-returns : (t : ℕ) → write-segments-lts.Need-returns (siblings
     (write-segments-at t) write-segments.Post write-segments-Inv-loop write-segments-μ-loop
 write-segments-returns t c =
     let c3 = c .before .before .before in
-    spanning-full _ _ _ _ _ _ _ _ _ _ _ _ _ _ (c3 .loop .inv) (c .before .is-full .ensures (c .if1 .taken))
+    spanning-full _ _ _ _ _ _ _ _ _ _ _ _ (c3 .loop .inv) (c .before .is-full .ensures (c .if1 .taken))
 
 write-segments-mul-if2 : (t : ℕ) → write-segments-lts.Need-mul-if2 (siblings t)
     (write-segments-at t) write-segments.Post write-segments-Inv-loop write-segments-μ-loop
@@ -222,27 +221,51 @@ write-segments-shared-slice-read-if2 : (t : ℕ) → write-segments-lts.Need-sha
     (write-segments-at t) write-segments.Post write-segments-Inv-loop write-segments-μ-loop
 write-segments-shared-slice-read-if2 t c = search needs
 
-write-segments-mul-open-stamp : (t : ℕ) → write-segments-lts.Need-mul-open-stamp (siblings t)
+write-segments-mul-row : (t : ℕ) → write-segments-lts.Need-mul-row (siblings t)
     (write-segments-at t) write-segments.Post write-segments-Inv-loop write-segments-μ-loop
-write-segments-mul-open-stamp t c = search needs
+write-segments-mul-row t c = search needs
 
-write-segments-shared-slice-copy-out-open-stamp : (t : ℕ) → write-segments-lts.Need-shared-slice-copy-out-open-stamp (siblings t)
+write-segments-add-time-from : (t : ℕ) → write-segments-lts.Need-add-time-from (siblings t)
     (write-segments-at t) write-segments.Post write-segments-Inv-loop write-segments-μ-loop
-write-segments-shared-slice-copy-out-open-stamp t c = search needs
+write-segments-add-time-from t c = search needs
+
+write-segments-mul-time-from : (t : ℕ) → write-segments-lts.Need-mul-time-from (siblings t)
+    (write-segments-at t) write-segments.Post write-segments-Inv-loop write-segments-μ-loop
+write-segments-mul-time-from t c = search needs
+
+write-segments-shared-slice-read-time-from : (t : ℕ) → write-segments-lts.Need-shared-slice-read-time-from (siblings t)
+    (write-segments-at t) write-segments.Post write-segments-Inv-loop write-segments-μ-loop
+write-segments-shared-slice-read-time-from t c = search needs
+
+write-segments-add-time-from-2 : (t : ℕ) → write-segments-lts.Need-add-time-from-2 (siblings t)
+    (write-segments-at t) write-segments.Post write-segments-Inv-loop write-segments-μ-loop
+write-segments-add-time-from-2 t c = search needs
+
+write-segments-mul-time-from-2 : (t : ℕ) → write-segments-lts.Need-mul-time-from-2 (siblings t)
+    (write-segments-at t) write-segments.Post write-segments-Inv-loop write-segments-μ-loop
+write-segments-mul-time-from-2 t c = search needs
+
+write-segments-shared-slice-read-time-from-2 : (t : ℕ) → write-segments-lts.Need-shared-slice-read-time-from-2 (siblings t)
+    (write-segments-at t) write-segments.Post write-segments-Inv-loop write-segments-μ-loop
+write-segments-shared-slice-read-time-from-2 t c = search needs
+
+write-segments-time-from-requires : (t : ℕ) → write-segments-lts.Need-time-from-requires (siblings t)
+    (write-segments-at t) write-segments.Post write-segments-Inv-loop write-segments-μ-loop
+write-segments-time-from-requires t c κs = search needs
 
 write-segments-open-stamp-requires : (t : ℕ) → write-segments-lts.Need-open-stamp-requires (siblings t)
     (write-segments-at t) write-segments.Post write-segments-Inv-loop write-segments-μ-loop
-write-segments-open-stamp-requires t c κs = c .before .before .before .before .before .before .before .loop .inv .puts .room
+write-segments-open-stamp-requires t c κs = c .before .before .before .before .before .before .before .before .before .loop .inv .puts .room
 
 write-segments-write-one-segment-requires : (t : ℕ) → write-segments-lts.Need-write-one-segment-requires (siblings t)
     (write-segments-at t) write-segments.Post write-segments-Inv-loop write-segments-μ-loop
 write-segments-write-one-segment-requires t c κs =
     let c5 = c .before .before .before .before .before in
     let c6 = c5 .before in
-    let c12 = c6 .before .before .before .before .before .before in
-    let a = c12 .args in
+    let c11 = c6 .before .before .before .before .before in
+    let a = c11 .args in
     let h : c6 .loop .i < a .from + a .n = omega (arith, c5 .loop-test .taken) in
-    (omega (arith, c12 .pre .0), (ready-one _ _ _ _ _ _ _ _ _ _ _ _ _ _ (c6 .loop .inv) h (c12 .pre .1 .0), c6 .loop .inv .puts .room))
+    (omega (arith, c11 .pre .0), (ready-one _ _ _ _ _ _ _ _ _ _ _ _ (c6 .loop .inv) h (c11 .pre .1 .0), c6 .loop .inv .puts .room))
 
 write-segments-mul-get : (t : ℕ) → write-segments-lts.Need-mul-get (siblings t)
     (write-segments-at t) write-segments.Post write-segments-Inv-loop write-segments-μ-loop
@@ -262,12 +285,12 @@ unfolding cell
 write-segments-add-i t c =
     let c5 = c .before .before .before .before .before in
     let c6 = c5 .before in
-    let c12 = c6 .before .before .before .before .before .before in
-    let a = c12 .args in
+    let c11 = c6 .before .before .before .before .before in
+    let a = c11 .args in
     let h : c6 .loop .i < a .from + a .n = omega (arith, c5 .loop-test .taken) in
-    let w = first _ _ _ _ _ _ _ _ _ _ _ _ _ _ (c6 .loop .inv) h in
+    let w = first _ _ _ _ _ _ _ _ _ _ _ _ (c6 .loop .inv) h in
     let k : c6 .loop .i + c .get .result ≤ a .from + a .n = omega (arith, w .most, c .get .ensures) in
-    omega (arith, k, c12 .pre .1 .0 .cells, c12 .good .0 .0)
+    omega (arith, k, c11 .pre .1 .0 .cells, c11 .good .0 .0)
 
 write-segments-loop-less : (t : ℕ) → write-segments-lts.Need-loop-less (siblings t)
     (write-segments-at t) write-segments.Post write-segments-Inv-loop write-segments-μ-loop
@@ -275,10 +298,10 @@ unfolding cell
 write-segments-loop-less t c =
     let c5 = c .before .before .before .before .before in
     let c6 = c5 .before in
-    let c12 = c6 .before .before .before .before .before .before in
-    let a = c12 .args in
+    let c11 = c6 .before .before .before .before .before in
+    let a = c11 .args in
     let h : c6 .loop .i < a .from + a .n = omega (arith, c5 .loop-test .taken) in
-    let w = first _ _ _ _ _ _ _ _ _ _ _ _ _ _ (c6 .loop .inv) h in
+    let w = first _ _ _ _ _ _ _ _ _ _ _ _ (c6 .loop .inv) h in
     omega (arith, w .least, w .most, c .get .ensures)
 
 write-segments-loop-again : (t : ℕ) → write-segments-lts.Need-loop-again (siblings t)
@@ -287,12 +310,12 @@ unfolding cell
 write-segments-loop-again t c =
     let c5 = c .before .before .before .before .before in
     let c6 = c5 .before in
-    let c12 = c6 .before .before .before .before .before .before in
-    let a = c12 .args in
+    let c11 = c6 .before .before .before .before .before in
+    let a = c11 .args in
     let h : c6 .loop .i < a .from + a .n = omega (arith, c5 .loop-test .taken) in
-    ⊎-elim (λ w. rw (w .6, w .7, w .8) (spanning-stamp _ _ _ _ _ _ _ _ _ _ _ _ _ _ (c6 .loop .inv) h _ (c .get .ensures) _ _ (w .0 .taken)
-    (rw (toZ-ofZ w64 (getD (a .reveal .now) (c6 .loop .i) (pos 0)) (record { sfits = w .2 .given })) at (w .3 .ensures))))
-    (λ w. rw (w .5, w .6, w .7) (spanning-one _ _ _ _ _ _ _ _ _ _ _ _ _ _ (c6 .loop .inv) h _ (c .get .ensures) _ _ (w .0 .left)
+    ⊎-elim (λ w. rw (w .8, w .9, w .10) (spanning-stamp _ _ _ _ _ _ _ _ _ _ _ _ (c6 .loop .inv) h _ (c .get .ensures) _ _ (w .0 .taken)
+    _ (w .3 .ensures) (rw (toZ-ofZ w64 (w .3 .result) (record { sfits = w .3 .ok })) at (w .5 .ensures))))
+    (λ w. rw (w .5, w .6, w .7) (spanning-one _ _ _ _ _ _ _ _ _ _ _ _ (c6 .loop .inv) h _ (c .get .ensures) _ _ (w .0 .left)
     (w .2 .ensures))) (c .before .if2 .came)
 
 write-segments-close-if-requires : (t : ℕ) → write-segments-lts.Need-close-if-requires (siblings t)
@@ -307,7 +330,7 @@ write-segments-returns-2 : (t : ℕ) → write-segments-lts.Need-returns-2 (sibl
     (write-segments-at t) write-segments.Post write-segments-Inv-loop write-segments-μ-loop
 write-segments-returns-2 t c =
     let c5 = c .before .before .before .before .before in
-    spanning-done _ _ _ _ _ _ _ _ _ _ _ _ _ _ (c5 .loop .inv) (omega arith) _ _ (c .before .before .close-if .ensures)
+    spanning-done _ _ _ _ _ _ _ _ _ _ _ _ (c5 .loop .inv) (omega arith) _ _ (c .before .before .close-if .ensures)
 
 pub +write-one-segment+write-segments-spec : {M : Type 1} → statement M
 +write-one-segment+write-segments-spec =
@@ -343,8 +366,14 @@ pub +write-one-segment+write-segments-spec : {M : Type 1} → statement M
     (write-segments-mul-if2 t)
     (write-segments-mul-if2-2 t)
     (write-segments-shared-slice-read-if2 t)
-    (write-segments-mul-open-stamp t)
-    (write-segments-shared-slice-copy-out-open-stamp t)
+    (write-segments-mul-row t)
+    (write-segments-add-time-from t)
+    (write-segments-mul-time-from t)
+    (write-segments-shared-slice-read-time-from t)
+    (write-segments-add-time-from-2 t)
+    (write-segments-mul-time-from-2 t)
+    (write-segments-shared-slice-read-time-from-2 t)
+    (write-segments-time-from-requires t)
     (write-segments-open-stamp-requires t)
     (write-segments-write-one-segment-requires t)
     (write-segments-mul-get t)
