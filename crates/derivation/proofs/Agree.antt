@@ -14,7 +14,7 @@ use Rattle.tree.proofs.Whole.{in-range}
 use Rattle.grammar.specs.Tree.{Forest}
 use Rattle.grammar.proofs.Counted.{LRes, finishL, readDocumentL, textAs, readText}
 use Rattle.grammar.proofs.CountedRounds.{nodesC, readDocumentL-is}
-use Rattle.derivation.specs.Strings.{resultIn}
+use Rattle.derivation.specs.Steps.{resultIn}
 use Rattle.derivation.proofs.Prologs.{prolog-agrees}
 use Rattle.derivation.proofs.Rows.{Same}
 use Rattle.derivation.proofs.Contents.{nodes-same}

@@ -18,7 +18,8 @@ use Rattle.grammar.specs.Refusals.{FirstMet}
 use Rattle.grammar.proofs.Theorem.{taken}
 use Rattle.grammar.proofs.First.{exactly}
 use Rattle.grammar.proofs.CountedRounds.{nodesC}
-use Rattle.derivation.specs.Strings.{treeIn, resultIn}
+use Rattle.derivation.specs.Strings.{treeIn}
+use Rattle.derivation.specs.Steps.{resultIn}
 use Rattle.derivation.proofs.Rows.{Same}
 use Rattle.derivation.proofs.Agree.{whole-same, short-text, agree}
 

@@ -4,9 +4,7 @@ use Prim.Native.Nat.{ℕ, _+_}
 use mathlib.Core.List.{List, [], _∷_}
 use Rattle.scan.specs.Part.{stringAt}
 use Rattle.tree.specs.Trees as placed
-use Rattle.tree.specs.Read.{Out, got, nothing, bad}
 use Rattle.grammar.specs.Tree.{Attr, attr, Forest, none, more, text, section, element}
-use Rattle.grammar.specs.Demand.{Result, tree, refused}
 
 unfoldable pub attrIn : List ℕ → placed.Attr → Attr
 attrIn z x = attr (stringAt z (x .name) (x .nameLen)) (stringAt z (x .value) (x .valueLen))
@@ -20,9 +18,3 @@ treeIn z placed.nil = none
 treeIn z (placed.text p n f) = more (text (stringAt z p n)) (treeIn z f)
 treeIn z (placed.section p n f) = more (section (stringAt z p n)) (treeIn z f)
 treeIn z (placed.elem p n l c f) = more (element (stringAt z (p + 1) n) (attrsIn z l) (treeIn z c)) (treeIn z f)
-
--- what the reader's answer says: a tree, or a number and its place
-unfoldable pub resultIn : List ℕ → Out → Result
-resultIn z (got f q k a) = tree (treeIn z f)
-resultIn z (nothing q) = tree none
-resultIn z (bad n p) = refused n p

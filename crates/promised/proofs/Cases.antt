@@ -31,7 +31,8 @@ use Rattle.meaning.specs.Nodes.{Nodes}
 use Rattle.meaning.specs.Tracks.{trackBy, cueBy}
 use Rattle.meaning.specs.Kinds.{withPlaces}
 use Rattle.meaning.specs.Meaning.{trackOf, cueOf}
-use Rattle.meaning.specs.Texts.{nodesRead, nodesFrom, nodesOfText, parsed, cueParsed}
+use Rattle.meaning.specs.Texts.{nodesRead}
+use Rattle.meaning.specs.Steps.{nodesFrom, nodesOfText, parsed, cueParsed}
 use Rattle.meaning.proofs.Erasing.{bytesOf}
 use Rattle.laid.specs.Laid.{whole, alone, single}
 use Rattle.laid.proofs.Meant.{good-whole, good-single}

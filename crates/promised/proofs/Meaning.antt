@@ -24,7 +24,8 @@ use Rattle.track.specs.Check.{Checked}
 use Rattle.track.specs.Steps.{checkOf}
 use Rattle.track.specs.Meaning.{trackIn}
 use Rattle.track.proofs.Exactly.{checked-is}
-use Rattle.xml.specs.Reading.{Placed, strings, lay}
+use Rattle.xml.specs.Reading.{Placed, lay}
+use Rattle.xml.specs.Steps.{strings}
 use Rattle.meaning.specs.Answers.{Answer, is, refused, answered, answeredBy}
 use Rattle.meaning.specs.Nodes.{Nodes}
 use Rattle.meaning.specs.Tracks.{trackBy, cueBy}

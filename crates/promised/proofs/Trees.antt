@@ -23,7 +23,8 @@ use Rattle.tree.specs.declared.answers.Refusal.{Refusal}
 use Rattle.tree.proofs.Places.{meaning-placed}
 use Rattle.derivation.proofs.Theorem.{Gives, gives-exactly}
 use Rattle.track.specs.Track.{Track}
-use Rattle.xml.specs.Reading.{Placed, strings, lay, raw, readOut, stringsOf}
+use Rattle.xml.specs.Reading.{Placed, lay}
+use Rattle.xml.specs.Steps.{strings, raw, readOut, stringsOf}
 use Rattle.xml.specs.Where.{documentPlaced}
 use Rattle.tree.specs.Answers.{numberOf, placeOf}
 use Rattle.xml.specs.Promise.{Tables, tables, Takes, TurnsAway, placesOf, Parsed}
@@ -37,7 +38,7 @@ use Rattle.meaning.specs.Nodes.{Nodes}
 use Rattle.meaning.specs.Kinds.{nodesIn}
 use Rattle.meaning.specs.Texts.{nodesRead}
 use Rattle.meaning.proofs.Stands.{tables-nodes}
-use Rattle.laid.specs.Laid.{Means}
+use Rattle.laid.specs.Steps.{Means}
 use Rattle.promised.specs.Promise as promise
 
 module _ (s : List ℕ) (lent : Tables) where

@@ -27,13 +27,14 @@ use Rattle.track.proofs.Exactly as check
 use Rattle.xml.specs.Promise as xml
 use Rattle.xml.proofs.Determined as tree
 use Rattle.meaning.specs.Answers.{Answer, is, refused}
-use Rattle.meaning.specs.Texts.{parsed}
+use Rattle.meaning.specs.Steps.{parsed}
 use Rattle.meaning.proofs.Theorem.{placeless, track-means}
 use Rattle.written.specs.Written.{writtenOf}
 use Rattle.written.specs.Shape.{treeOf, plainTreeOf}
 use Rattle.written.proofs.Theorem.{derives, decoded-tree}
 use Rattle.written.proofs.Handed.{names-fit}
-use Rattle.readback.specs.Back.{cueBack, CuesPlain}
+use Rattle.readback.specs.Back.{cueBack}
+use Rattle.readback.specs.Steps.{CuesPlain}
 use Rattle.readback.proofs.CheckedCues.{cues-checked, cues-plain}
 use Rattle.readback.proofs.Theorem.{read-back}
 use Rattle.promised.specs.declared.Answer as reader

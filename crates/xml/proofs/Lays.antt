@@ -15,7 +15,8 @@ use Rattle.entities.proofs.Decoding.{decoded-short}
 use Rattle.tree.specs.Trees.{Attr, Forest, nil, text, section, elem, attrsOf, Span, attrSpans, spans, InOrder}
 use Rattle.tree.proofs.Places.{in-whole}
 use Rattle.scan.specs.Part.{stringAt}
-use Rattle.xml.specs.Reading.{Placed, attrStrings, strings, lay}
+use Rattle.xml.specs.Reading.{Placed, lay}
+use Rattle.xml.specs.Steps.{attrStrings, strings}
 use Rattle.xml.proofs.PassLaws.{string-short}
 
 -- ---- strings in order

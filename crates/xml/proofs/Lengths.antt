@@ -19,7 +19,7 @@ use Rattle.grammar.specs.Grammar.{Opening, opening, Comment, Before, a-comment,
 use Rattle.grammar.specs.Grammar.{Element, without-content, with-content, Content, Nodes, Document, document}
 use Rattle.derivation.proofs.RunLaws.{string-is}
 use Rattle.tree.specs.Trees as placed
-use Rattle.xml.specs.Reading.{readAttrs, readForest}
+use Rattle.xml.specs.Steps.{readAttrs, readForest}
 use Rattle.xml.specs.Where.{valuePlace, attrPlaced, attrsPlaced, openingPlaced, nodePlaced, nodesPlaced, documentPlaced}
 use Rattle.xml.proofs.Standing.{At, at-on, at-same}
 use Rattle.xml.proofs.Derived.{elementPlaced, contentPlaced}

@@ -20,7 +20,7 @@ use Rattle.tree.specs.Walks.{treeOf, Stands, AttrIs}
 use Rattle.tree.proofs.Whole.{no-nodes, no-attrs, too-long}
 use Rattle.tree.proofs.Places.{in-whole, in-first, in-rest, meaning-placed}
 use Rattle.tree.proofs.Walks.{on-text, on-section, on-elem, root, root-placed, root-room, root-attrs, attrs-room, attr-at, attr-fits}
-use Rattle.xml.specs.Reading.{raw, readOut, stringsOf}
+use Rattle.xml.specs.Steps.{raw, readOut, stringsOf}
 use Rattle.xml.specs.Steps.{nodePlace, nodesRead, nodeStringsRead, NodeReady, attrsRead, attrStringsRead, AttrReady}
 use Rattle.xml.proofs.PassForests.{text-bytes, section-bytes, element-bytes, size-read, attrs-read, length-attrs-read, nodes-pass}
 use Rattle.xml.proofs.PassForests.{attrs-pass, strings-pass}

@@ -21,7 +21,8 @@ use Rattle.tree.proofs.Forests.{length-rows}
 use Rattle.tree.proofs.Places.{in-whole, in-first, in-rest}
 use Rattle.tree.proofs.Walks.{on-text, on-section, on-elem, on-attr}
 use Rattle.scan.specs.Part.{stringAt}
-use Rattle.xml.specs.Reading.{attrStrings, strings, lay, readAttrs, readForest}
+use Rattle.xml.specs.Reading.{lay}
+use Rattle.xml.specs.Steps.{attrStrings, strings, readAttrs, readForest}
 use Rattle.xml.specs.Steps.{nodePlace, nodeBytes, nodesRead, nodeStringsRead, valueBytes, attrsRead, attrWritten, attrStringsRead}
 use Rattle.xml.proofs.PassLaws.{nodes-after, attrs-after}
 use Rattle.xml.proofs.Lays.{lay-append, nodeStrings, gathered}

@@ -26,8 +26,9 @@ use Rattle.tree.specs.Read.{pastComments}
 use Rattle.tree.specs.Read.{textAt, sectionAt, nodeHere, nodeAt, nodeNext, closeAt, innerTurn, outerTurn, rowOf, enclose, tagged, elementBy}
 use Rattle.tree.specs.Read.{elementOf}
 use Rattle.tree.specs.Read.{prologTurn, prologEnd, meaning}
-use Rattle.derivation.specs.Strings.{treeIn, resultIn}
-use Rattle.xml.specs.Reading.{readAttrs, readForest, raw, readOut, stringsOf}
+use Rattle.derivation.specs.Strings.{treeIn}
+use Rattle.derivation.specs.Steps.{resultIn}
+use Rattle.xml.specs.Steps.{readAttrs, readForest, raw, readOut, stringsOf}
 use Rattle.xml.specs.Promise.{placesOf}
 use Rattle.xml.proofs.Parsing.{raw-enough}
 use Rattle.xml.proofs.Derived.{placed-as-derived}

@@ -35,7 +35,8 @@ use Rattle.tree.proofs.Tags.{length-attrRows}
 use Rattle.tree.proofs.Places.{meaning-placed}
 use Rattle.derivation.specs.Strings.{attrsIn, treeIn}
 use Rattle.derivation.proofs.Theorem.{Gives, gives-exactly}
-use Rattle.xml.specs.Reading.{Placed, attrStrings, strings, lay, readAttrs, readForest, raw, readOut, stringsOf}
+use Rattle.xml.specs.Reading.{Placed, lay}
+use Rattle.xml.specs.Steps.{attrStrings, strings, readAttrs, readForest, raw, readOut, stringsOf}
 use Rattle.xml.specs.Promise.{Tables, tables, LongEnough, AllZero, Readable, Takes, TurnsAway, short-table, long-text, not-utf8, first-met}
 use Rattle.xml.specs.Promise.{placesOf, Outside, HoldsTree, Parsed}
 use Rattle.xml.proofs.PassLaws.{string-short}

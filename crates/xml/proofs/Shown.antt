@@ -15,7 +15,8 @@ use Rattle.tree.proofs.Places.{in-lower, in-append, in-whole, in-first, in-rest
 use Rattle.grammar.specs.Demand.{decodeAttrs, decodeTree, decodeForest}
 use Rattle.scan.specs.Part.{stringAt}
 use Rattle.derivation.specs.Strings.{attrIn, attrsIn, treeIn}
-use Rattle.xml.specs.Reading.{Placed, attrStrings, strings, lay, readAttrs, readForest}
+use Rattle.xml.specs.Reading.{Placed, lay}
+use Rattle.xml.specs.Steps.{attrStrings, strings, readAttrs, readForest}
 use Rattle.xml.proofs.PassForests.{string-long}
 use Rattle.xml.proofs.Lays.{Split, in-split, read-short, Ordered, ordered-whole, strings-ordered}
 

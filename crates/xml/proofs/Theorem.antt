@@ -28,9 +28,9 @@ use Rattle.grammar.specs.Demand.{Result, tree, refused, Derives, decodeForest}
 use Rattle.grammar.specs.Refusals.{FirstMet}
 use Rattle.grammar.proofs.Counted.{decodeResult, treeReader}
 use Rattle.grammar.proofs.Theorem as grammar
-use Rattle.derivation.specs.Strings.{resultIn}
+use Rattle.derivation.specs.Steps.{resultIn}
 use Rattle.derivation.proofs.Agree.{agree}
-use Rattle.xml.specs.Reading.{raw, readOut, stringsOf}
+use Rattle.xml.specs.Steps.{raw, readOut, stringsOf}
 use Rattle.xml.proofs.Parsing.{raw-small, raw-enough}
 use Rattle.xml.proofs.Shown.{tree-shown}
 

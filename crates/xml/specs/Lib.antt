@@ -1,4 +1,4 @@
--- What a reader must believe: Promise, Where, Find. Reading is a step on the way, which the crates above cite too; Steps are the program's.
+-- What a reader must believe: Promise, Where, Find; Reading is for the crates above. Steps are the program's.
 pub mod Reading
 pub mod Steps
 pub mod Find
