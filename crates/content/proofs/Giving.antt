@@ -18,7 +18,7 @@ use Rattle.decimals.specs.declared.size.Size.{Size}
 use Rattle.track.specs.declared.strings.Span.{Span}
 use Rattle.track.specs.declared.segments.Rgb.{Rgb}
 use Rattle.track.specs.declared.segments.Segment.{Segment}
-use Rattle.track.specs.Track.{Wrapper, Segments, segmentRows}
+use Rattle.track.specs.Track.{Wrapper, Segments, segmentRows, joined}
 use Rattle.track.specs.Track as track
 use Rattle.track.specs.Meaning.{given}
 use Rattle.track.specs.Layout.{preorder, each, segmentCells}
@@ -26,7 +26,7 @@ use Rattle.track.proofs.SegmentsLaid.{rows-many}
 use Rattle.records.specs.declared.cells.Added.{Added}
 use Rattle.records.specs.Find.{isEmpty}
 use Rattle.records.specs.Posts.{AddPost}
-use Rattle.records.specs.Siblings.{joined, Stands, Room, later}
+use Rattle.records.specs.Siblings.{Stands, Room, later}
 use Rattle.records.proofs.Beside.{each-append}
 use Rattle.records.proofs.SegmentRows.{joined-done, text-one, break-one}
 use Rattle.records.proofs.Standing.{stands-room, stands-add}

@@ -24,10 +24,10 @@ use Rattle.tree.specs.declared.answers.Refusal.{Refusal}
 use Rattle.tree.specs.Trees.{Forest, size, attrSpans, spans, InOrder}
 use Rattle.tree.specs.Trees as placed
 use Rattle.tree.proofs.Places.{in-lower, in-whole}
-use Rattle.track.specs.Track.{Wrapper, Segments, segmentRows}
+use Rattle.track.specs.Track.{Wrapper, Segments, segmentRows, joined}
 use Rattle.track.specs.Track as track
 use Rattle.track.specs.Layout.{isSome}
-use Rattle.records.specs.Siblings.{joined, later}
+use Rattle.records.specs.Siblings.{later}
 use Rattle.xml.specs.declared.find.Element.{Element}
 use Rattle.xml.specs.Find.{named, Holds, isElement, HasRow, elementRow, TextAt}
 use Rattle.xml.specs.Reading.{Placed}

@@ -14,10 +14,10 @@ use lib.ListN.{length}
 use lib.Seq.{sets, drop-drop}
 use Rattle.scan.proofs.Every.{by-test}
 use Rattle.track.specs.declared.strings.Span.{Span}
-use Rattle.track.specs.Track.{Wrapper, Segments, segmentRows, noSegments, oneSegment}
+use Rattle.track.specs.Track.{Wrapper, Segments, segmentRows, noSegments, oneSegment, joined, wrapped}
 use Rattle.track.specs.Track as track
 use Rattle.track.specs.Layout.{each}
-use Rattle.records.specs.Siblings.{joined, wrapped, Stands, later, andThese}
+use Rattle.records.specs.Siblings.{Stands, later, andThese}
 use Rattle.records.proofs.SegmentRows.{rows-joined}
 use Rattle.records.proofs.Standing.{stands-none, stands-join}
 use Rattle.xml.specs.Reading.{Placed, lay}

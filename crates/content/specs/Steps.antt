@@ -12,11 +12,11 @@ use Rattle.scan.specs.Part.{stringAt}
 use Rattle.times.specs.declared.offset.TimingCtx.{TimingCtx}
 use Rattle.tree.specs.Trees.{Forest, size, spans, InOrder}
 use Rattle.track.specs.declared.strings.Span.{Span}
-use Rattle.track.specs.Track.{Wrapper, Segments, segmentRows}
+use Rattle.track.specs.Track.{Wrapper, Segments, segmentRows, joined}
 use Rattle.track.specs.Track as track
 use Rattle.track.specs.Layout.{each, isSome}
 use Rattle.records.specs.declared.cells.Added.{Added}
-use Rattle.records.specs.Siblings.{Stands, later, joined}
+use Rattle.records.specs.Siblings.{Stands, later}
 use Rattle.xml.specs.Find.{Holds, isElement}
 use Rattle.xml.specs.Reading.{Placed}
 use Rattle.meaning.specs.Answers.{Answer, is, refused}

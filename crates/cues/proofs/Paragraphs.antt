@@ -18,11 +18,11 @@ use Rattle.scan.proofs.Every.{both, by-test}
 use Rattle.decimals.specs.declared.size.Size.{Size}
 use Rattle.times.specs.declared.offset.TimingCtx.{TimingCtx}
 use Rattle.track.specs.declared.strings.Span.{Span}
-use Rattle.track.specs.Track.{Wrapper, Segments, noSegments, oneSegment, segmentRows, isBareFont}
+use Rattle.track.specs.Track.{Wrapper, Segments, noSegments, oneSegment, segmentRows, isBareFont, wrapped}
 use Rattle.track.specs.Track as track
 use Rattle.track.specs.Layout.{each, preorder, joinedCells, sizeMarks, fontCells, segmentCells, wrapperOf}
 use Rattle.records.specs.declared.cells.Added.{Added}
-use Rattle.records.specs.Siblings.{rowCells, cellsOf, Stands, later, wrapped, Dropped}
+use Rattle.records.specs.Siblings.{rowCells, cellsOf, Stands, later, Dropped}
 use Rattle.records.proofs.SegmentRows.{rows-wrapped}
 use Rattle.records.proofs.Standing.{stands-unwrap}
 use Rattle.xml.specs.Reading.{Placed}

@@ -21,12 +21,11 @@ use Rattle.colors.specs.declared.read.Color.{Color}
 use Rattle.colors.specs.Colors.{colorIn}
 use Rattle.decimals.specs.declared.read.Decimal.{Decimal}
 use Rattle.decimals.specs.declared.size.Size.{Size}
-use Rattle.track.specs.Track.{Bytes, Style, Wrapper, Segments, Cue, Track, noSegments, oneSegment, segmentRows, isBareFont}
+use Rattle.track.specs.Track.{Bytes, Style, Wrapper, Segments, Cue, Track, noSegments, oneSegment, segmentRows, isBareFont, joined, wrapped}
 use Rattle.track.specs.Track as track
 use Rattle.track.specs.Placing.{All, SizeFits, TimeFits, depth}
 use Rattle.track.proofs.ReadBack.{all-join}
 use Rattle.records.specs.Find.{isEmpty}
-use Rattle.records.specs.Siblings.{joined, wrapped}
 use Rattle.grammar.specs.Scan.{run}
 use Rattle.meaning.specs.Words.{ascii, upToLast}
 use Rattle.meaning.specs.Answers.{Answer, _>>=_, within}

@@ -20,10 +20,9 @@ use Rattle.colors.specs.declared.read.Color.{Color}
 use Rattle.colors.specs.Colors.{colorIn}
 use Rattle.decimals.specs.declared.read.Decimal.{Decimal}
 use Rattle.scan.specs.Names.{sameBytes, afterFirstColon}
-use Rattle.track.specs.Track.{Bytes, Segments, Cue, segmentRows}
+use Rattle.track.specs.Track.{Bytes, Segments, Cue, segmentRows, joined}
 use Rattle.track.specs.Track as track
 use Rattle.records.specs.Find.{firstThat}
-use Rattle.records.specs.Siblings.{joined}
 use Rattle.grammar.specs.Scan.{run}
 use Rattle.xml.specs.Reading.{Placed}
 use Rattle.meaning.specs.Words.{ascii, upToLast, only}

@@ -9,11 +9,11 @@ use lib.Seq.{sets, sets-eq, length-take-le, take-append-seam, take-at, drop-at, 
 use lib.IntN.{ℤ}
 use Rattle.track.specs.declared.strings.Span.{Span}
 use Rattle.track.specs.declared.segments.Segment.{Segment}
-use Rattle.track.specs.Track.{Wrapper, Segments, segmentRows}
+use Rattle.track.specs.Track.{Wrapper, Segments, segmentRows, joined, wrapped}
 use Rattle.track.specs.Track as track
 use Rattle.track.specs.Layout.{Sized, wrapperOf, preorder, joinedCells}
 use Rattle.scan.specs.Part.{part}
-use Rattle.records.specs.Siblings.{joined, wrapped, wrapperRows, rowCells, cellsOf}
+use Rattle.records.specs.Siblings.{wrapperRows, rowCells, cellsOf}
 use Rattle.records.proofs.RowLaws.{joined-append, joined-length, segment-wide}
 use Rattle.track.proofs.SegmentsLaid.{rows-many}
 

@@ -5,10 +5,10 @@ use mathlib.Core.List.{List, [], _∷_, _++_, append-assoc}
 use native.Mathlib.Omega.{arith}
 use lib.ListN.{length, length-append}
 use Rattle.track.specs.declared.strings.Span.{Span}
-use Rattle.track.specs.Track.{Wrapper, Segments, segmentRows}
+use Rattle.track.specs.Track.{Wrapper, Segments, segmentRows, joined}
 use Rattle.track.specs.Track as track
 use Rattle.track.specs.Layout.{Sized, wrapperOf, preorder, joinedCells}
-use Rattle.records.specs.Siblings.{joined, cellsOf, Stands, Room, later, andThese, andCleared, Shifted, Put, Dropped}
+use Rattle.records.specs.Siblings.{cellsOf, Stands, Room, later, andThese, andCleared, Shifted, Put, Dropped}
 use Rattle.track.proofs.SegmentsLaid.{rows-many}
 use Rattle.records.proofs.SegmentRows.{rows-joined, cells-joined, wrap-cells, add-cells}
 use Rattle.records.proofs.Dropping.{unwrap-cells}

@@ -1,4 +1,4 @@
--- Segments one after the other, and how they stand in their table. Definitions alone.
+-- How segments stand in their table. Definitions alone.
 use Prim.Native.Nat.{ℕ, _+_, _-_, _*_, _≤_}
 use mathlib.Core.Path.{_≡_}
 use mathlib.Core.List.{List, [], _∷_, _++_}
@@ -10,19 +10,6 @@ use Rattle.track.specs.declared.segments.Segment.{Segment}
 use Rattle.track.specs.Track.{Wrapper, Segments, segmentRows}
 use Rattle.track.specs.Track as track
 use Rattle.track.specs.Layout.{Sized, wrapperOf, preorder, joinedCells, segmentCells}
-
--- the second after the first
-unfoldable pub joined : {S : Type 0} → Segments S → Segments S → Segments S
-joined track.done g = g
-joined (track.text s x) g = track.text s (joined x g)
-joined (track.break x) g = track.break (joined x g)
-joined (track.timestamp t x) g = track.timestamp t (joined x g)
-joined (track.wrap w c x) g = track.wrap w c (joined x g)
-
--- wrappers around them, the first outermost
-unfoldable pub wrapped : {S : Type 0} → List (Wrapper S) → Segments S → Segments S
-wrapped [] f = f
-wrapped (x ∷ l) f = track.wrap x (wrapped l f) track.done
 
 -- the rows of those wrappers, around n rows
 unfoldable pub wrapperRows : List (Wrapper Span) → ℕ → List Sized

@@ -3,7 +3,7 @@
 -- their colours are never read or written, and are left out.
 use Prim.Native.Nat.{ℕ, _+_}
 use mathlib.Core.Bool.{Bool, true, false}
-use mathlib.Core.List.{List}
+use mathlib.Core.List.{List, [], _∷_}
 use mathlib.Core.Option.{Option, none, some}
 use lib.IntN.{ℤ}
 use Rattle.colors.specs.declared.read.Rgba.{Rgba}
@@ -116,3 +116,16 @@ module _ {S : Type 0} where
   isBareFont (font none none) = true
   isBareFont (font none (some s)) = false
   isBareFont (font (some a) s) = false
+
+  -- the second after the first
+  unfoldable pub joined : Segments S → Segments S → Segments S
+  joined done g = g
+  joined (text s x) g = text s (joined x g)
+  joined (break x) g = break (joined x g)
+  joined (timestamp t x) g = timestamp t (joined x g)
+  joined (wrap w c x) g = wrap w c (joined x g)
+
+  -- wrappers around them, the first outermost
+  unfoldable pub wrapped : List (Wrapper S) → Segments S → Segments S
+  wrapped [] f = f
+  wrapped (x ∷ l) f = wrap x (wrapped l f) done
