@@ -11,6 +11,10 @@ use Rattle.tree.specs.Read.{piMark, piEnd, commentMark, commentEnd, decl
 use Rattle.scan.specs.Posts.{Ends, Passed}
 use Rattle.scan.proofs.Loop.{loop-out, loop-halt, loop-more}
 
+-- the place r after the prolog at p of the text s
+abbrev pub Begun : List ℕ → ℕ → ℕ → Type 0
+Begun s p r = (r ≡ prologFrom s p) × (r ≤ length s)
+
 pub begin : (s : List ℕ) (r : ℕ) → Ends blank s 0 r → prologEnd s ≡ prologFrom s r
 unfolding prologEnd
 begin s r h = rw (← (h .is))
