@@ -6,7 +6,7 @@ pub mod Forests
 pub mod NodeLaws
 pub mod Comments
 pub mod Going
-pub mod Moved
+pub mod Held
 pub mod Whole
 pub mod Places
 pub mod Walks

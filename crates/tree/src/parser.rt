@@ -2,7 +2,7 @@
 // apart, and the work is done by a covered function on the slice and the number. They are proved by walks of their MIR, by hand.
 ghost use mathlib.Core.Path.{_≡_};
 ghost use Prim.Native.Nat.{_≤_};
-ghost use lib.ListN.{length};
+ghost use lib.ListN.{length, getD};
 ghost use Rattle.tree.specs.Read.{topOf, prologFrom, prologEnd};
 ghost use Rattle.tree.specs.Posts.{Ready, ContentPost};
 ghost use Rattle.scan.specs.Bytes.{blank};
@@ -21,6 +21,14 @@ pub fn new<'a>(src: &'a [u8]) -> XmlParser<'a>
     XmlParser { src, pos: 0 }
 }
 
+// The byte at its position, and 0 at the text's end.
+pub fn peek<'a>(p: XmlParser<'a>) -> u8
+    requires { ⌜ p .pos ≤ length (now (p .src)) ⌝ }
+    ensures { λ b. ⌜ b ≡ getD (now (p .entry .src)) (p .entry .pos) 0 ⌝ }
+{
+    crate::prolog::byte_at(p.src, p.pos)
+}
+
 // Past the blanks at its position.
 pub fn skip_blanks<'a>(p: XmlParser<'a>) -> XmlParser<'a>
     requires { ⌜ p .pos ≤ length (now (p .src)) ⌝ }
@@ -30,14 +38,26 @@ pub fn skip_blanks<'a>(p: XmlParser<'a>) -> XmlParser<'a>
     XmlParser { src: p.src, pos }
 }
 
-// Past the prolog at its position.
-pub fn skip_prolog<'a>(p: XmlParser<'a>) -> XmlParser<'a>
+// Past the prolog that begins at its position, as far as it goes.
+pub fn over_prolog<'a>(p: XmlParser<'a>) -> XmlParser<'a>
     requires { ⌜ p .pos ≤ length (now (p .src)) ⌝ }
     ensures { λ q. ⌜ (q .src ≡ p .entry .src)
         × ((q .pos ≡ prologFrom (now (p .entry .src)) (p .entry .pos)) × (q .pos ≤ length (now (p .entry .src)))) ⌝ }
 {
     let pos = crate::prolog::skip_prolog(p.src, p.pos);
     XmlParser { src: p.src, pos }
+}
+
+// Past the prolog at its position: only `<` begins one.
+pub fn skip_prolog<'a>(p: XmlParser<'a>) -> XmlParser<'a>
+    requires { ⌜ p .pos ≤ length (now (p .src)) ⌝ }
+    ensures { λ q. ⌜ (q .src ≡ p .entry .src)
+        × ((q .pos ≡ prologFrom (now (p .entry .src)) (p .entry .pos)) × (q .pos ≤ length (now (p .entry .src)))) ⌝ }
+{
+    if peek(p) != b'<' {
+        return p;
+    }
+    over_prolog(p)
 }
 
 // The nodes at top level, from its position on.

@@ -1,11 +1,19 @@
 // The prolog: blanks, `<? ?>`, comments and other `<! >`, as far as they go.
 ghost use mathlib.Core.Path.{_≡_};
 ghost use Prim.Native.Nat.{_≤_};
-ghost use lib.ListN.{length};
+ghost use lib.ListN.{length, getD};
 ghost use Rattle.tree.specs.Read.{prologFrom};
 ghost use Rattle.scan.specs.Bytes.{blank};
 ghost use Rattle.scan.specs.Posts.{Ends};
 use scan::Class;
+
+// The byte at a position, and 0 at the text's end.
+pub fn byte_at(src: &[u8], pos: usize) -> u8
+    requires { ⌜ pos ≤ length (now src) ⌝ }
+    ensures { λ r. ⌜ r ≡ getD (now (src .entry)) pos 0 ⌝ }
+{
+    if pos < src.len() { src[pos] } else { 0 }
+}
 
 // The place after the blanks at a position.
 pub fn over_blanks(src: &[u8], pos: usize) -> usize

@@ -29,7 +29,7 @@ use denote.RattleType.{RattleType, owns}
 use denote.Laws.{Is, shows}
 use denote.Plain.{uint-makes}
 use denote.Builtin.{u8, u32, usize}
-use denote.Ref.{RefT, NamedLft, now}
+use denote.Ref.{RefT, now}
 use denote.Signature.{plain, namedLft}
 use denote.Slice.{sliceVal, ShrSlice, MutSlice, Room, finally, slice-vals, mut-slice-tells}
 use denote.Steps.{owned, peeks, heard, nothing}
@@ -47,7 +47,7 @@ use Rattle.tree.specs.Read.{topOf}
 use Rattle.tree.specs.Posts.{Ready, ContentPost}
 use Rattle.tree.specs.declared.parser.XmlParser.{XmlParser}
 use Rattle.tree.specs.declared.answers.Content.{Content}
-use Rattle.tree.proofs.Moved.{Own, Slice, slice-too}
+use Rattle.tree.proofs.Held.{Own, Slice, slice-too}
 use Rattle.tree.proofs.parser.XmlParser as T
 use Rattle.tree.proofs.parser.XmlParser.Laws as T′
 use Rattle.tree.proofs.answers.Content as S
@@ -101,9 +101,6 @@ module _ {M : Type 1} (𝓤 : URA M) (H : Heap 𝓤) (A : Atoms 𝓤) (W : Given
   abbrev vals : Vals parse.signature κs
   vals = (mach ∷ [], (v₁ ∷ [], (v₂ ∷ [], tt)))
 
-  abbrev α : NamedLft
-  α = namedLft 3 0 tt κs
-
   abbrev Post : Val → SProp 𝓤
   Post = walkOf 𝓤 H A parse.ended stayed (parse.clauses 𝓤 H A mem run) .post ((κs, (q, (q₁, (q₂, tt))), tt, a, vals), tt)
 
@@ -126,11 +123,11 @@ module _ {M : Type 1} (𝓤 : URA M) (H : Heap 𝓤) (A : Atoms 𝓤) (W : Given
 
   -- what the struct and the tables own gives what the callee asks, and what the struct owns is kept
   apart : d .pos < 2 ^ 64 → Ready (now (d .src)) (now x) (now y) (d .pos) 0 0
-      → ent 𝓤 (onEntry 𝓤 H A parse.signature κs (q, (q₁, (q₂, tt))) a vals) (sep 𝓤 (Work 𝓤 H A mem run .pre to) (sem 𝓤 H A (Own α d)))
+      → ent 𝓤 (onEntry 𝓤 H A parse.signature κs (q, (q₁, (q₂, tt))) a vals) (sep 𝓤 (Work 𝓤 H A mem run .pre to) (sem 𝓤 H A (Own κ d)))
   apart fits ready =
       qed W ((‵ (flft κ q) ⊛ ‵ (flft κ₁ q₁) ⊛ ‵ (flft κ₂ q₂) ⊛ ‵ ftrue)
       ∷ ‵ (owns (B κs ∷ MutSlice (named 1) κ₁ u32 ∷ MutSlice (named 2) κ₂ u32 ∷ []) a vals) ∷ []) ∵
-      move ! (1 ∷ []) $ fsplit ! $ use1 W (‵ (Slice α d) ⊛ ‵ (Own α d)) (slice-too W α d) $ split ! $
+      move ! (1 ∷ []) $ fsplit ! $ use1 W (‵ (Slice κ d) ⊛ ‵ (Own κ d)) (slice-too W κ d) $ split ! $
       -- [what src owns; what the struct owns; what the tables own; the tokens]
       move ! (2 ∷ []) $ fsplit ! $ move ! (1 ∷ []) $ fsplit ! $ move ! (1 ∷ []) $ drop ! $
       -- [what attrs owns; what nodes owns; what src owns; what the struct owns; the tokens]
@@ -140,10 +137,10 @@ module _ {M : Type 1} (𝓤 : URA M) (H : Heap 𝓤) (A : Atoms 𝓤) (W : Given
 
   exits : (r : Content) (w : Val) (t u : List ℕ) → Said d (now x) (now y) r t u → length t ≡ length (now x) → length u ≡ length (now y)
       → ent 𝓤 (⋆ 𝓤 H A (‵ (S.the-row .own r (w ∷ [])) ∷ (‵ (flft κ q) ⊛ ‵ (flft κ₁ q₁) ⊛ ‵ (flft κ₂ q₂) ⊛ ‵ ftrue)
-      ∷ ‵ (finally u32 (x .name) t) ∷ ‵ (finally u32 (y .name) u) ∷ ‵ (Own α d) ∷ [])) (Post w)
+      ∷ ‵ (finally u32 (x .name) t) ∷ ‵ (finally u32 (y .name) u) ∷ ‵ (Own κ d) ∷ [])) (Post w)
   exits r w t u e l m =
       qed W (‵ (S.the-row .own r (w ∷ [])) ∷ (‵ (flft κ q) ⊛ ‵ (flft κ₁ q₁) ⊛ ‵ (flft κ₂ q₂) ⊛ ‵ ftrue)
-      ∷ ‵ (finally u32 (x .name) t) ∷ ‵ (finally u32 (y .name) u) ∷ ‵ (Own α d) ∷ []) ∵
+      ∷ ‵ (finally u32 (x .name) t) ∷ ‵ (finally u32 (y .name) u) ∷ ‵ (Own κ d) ∷ []) ∵
       suffices ! _ (ends-at 𝓤 H A parse.ended stayed (parse.clauses 𝓤 H A mem run) W ((κs, (q, (q₁, (q₂, tt))), tt, a, vals), tt)
       w r (tt, (t, (u, tt))) (tt, (l, (m, tt)))) $ says ! e $
       move ! (1 ∷ []) $ frame ! $ nothing ! $ move ! (3 ∷ 0 ∷ []) $ fjoin ! $ move ! (2 ∷ 0 ∷ []) $ fjoin ! $ move ! (2 ∷ 0 ∷ []) $ fjoin ! $
@@ -173,7 +170,7 @@ module _ {M : Type 1} (𝓤 : URA M) (H : Heap 𝓤) (A : Atoms 𝓤) (W : Given
         (init ! 2 refl (tt, (tt, (record { fits = room′ .0 }, tt)))) $
         assigns ! (of-opd ! (load ! (from ! (fld ! refl (stop !))) (look-in ! 16 (sub ! 1 refl (whole !))))) (from ! (stop !))
         (init ! 0 refl (tt, wt .1 .1 .0)) $
-        move ! (20 ∷ []) $ use1 W (raw (Work 𝓤 H A mem run .pre to) ⊛ ‵ (Own α d)) (apart (wt .1 .1 .0 .fits) ready) $ split ! $
+        move ! (20 ∷ []) $ use1 W (raw (Work 𝓤 H A mem run .pre to) ⊛ ‵ (Own κ d)) (apart (wt .1 .1 .0 .fits) ready) $ split ! $
         calls-at ! fm (Work 𝓤 H A mem run) known to
         (and-then ! (load ! (from ! (stop !)) (look ! 12 refl)) (and-then ! (load ! (from ! (stop !)) (look ! 8 refl))
         (and-then ! (load ! (from ! (stop !)) (look ! 4 refl)) (and-then ! (load ! (from ! (stop !)) (look ! 2 refl)) (no-more !))))) (λ u.
