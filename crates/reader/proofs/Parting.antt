@@ -2,13 +2,13 @@
 --     nodes-part                           the same nodes stand in the part
 --     given-few, given-fits, given-short   a tree that was read has at most 8,192 attributes, and its text fits
 --     given-part                           its rows, as the readers of tracks take them
---     given-ends, cleared-end              nothing stands after them; they are cleared
+--     given-ends                           nothing stands after them
 use Prim.Native.Nat.{ℕ, _+_, _-_, _*_, _≤_}
 use mathlib.Core.Path.{_≡_, refl, sym, ap, _∙_}
 use mathlib.Core.Logic.{inr}
 use mathlib.Core.List.{List, [], _∷_, _++_}
 use native.Mathlib.Omega.{arith}
-use lib.ListN.{length, getD, take, drop, replicate, length-append, length-drop, length-replicate, getD-replicate, replicate-append-replicate}
+use lib.ListN.{length, getD, take, drop, replicate, length-append, length-drop, length-replicate, getD-replicate}
 use lib.Seq.{length-take-le, getD-drop, ext-getD, drop-at}
 use Rattle.scan.specs.Part.{stringAt}
 use Rattle.grammar.specs.Tree as tree
@@ -28,7 +28,8 @@ use Rattle.xml.specs.Promise.{Tables, Outside, thenZeros, Parsed}
 use Rattle.xml.proofs.Promises.{attrs-counted}
 use Rattle.xml.proofs.Given.{given-tree, given-forest, given-holds, given-count}
 use Rattle.meaning.specs.Kinds.{attrsIn, nodesIn}
-use Rattle.reader.specs.Steps as steps
+use Rattle.cues.specs.Elements as elements
+use Rattle.blank.specs.Steps.{BlankFrom, Ends}
 
 module _ (z : List ℕ) (m : ℕ) (fits : m ≤ length z) where
   same : (p n : ℕ) → p + n ≤ m → stringAt (take m z) p n ≡ stringAt z p n
@@ -78,21 +79,13 @@ mutual
   attrs-kept (tree.more t f) = omega (arith, tree-kept t, attrs-kept f)
 
 -- ---- what stands after a tree
-rows-end : {t : List ℕ} (w : List ℕ) (n k : ℕ) → length w ≡ k → t ≡ thenZeros w n → steps.BlankFrom k t
+rows-end : {t : List ℕ} (w : List ℕ) (n k : ℕ) → length w ≡ k → t ≡ thenZeros w n → BlankFrom k t
 rows-end {t} w n k h e =
     let z : List ℕ = replicate (n - length w) 0 in
     let long : length t ≡ length w + (n - length w) =
     ap length e ∙ length-append w z ∙ ap (λ (i : ℕ). length w + i) (length-replicate (n - length w) 0) in
     let rest : n - length w ≡ length t - k = omega arith in
     (omega arith, ap (drop k) e ∙ drop-at w z k h ∙ ap (λ (i : ℕ). replicate i 0) rest)
-
--- cleared so far, all is
-pub cleared-end : (t : List ℕ) (k : ℕ) {w : List ℕ} → steps.BlankFrom k t → w ≡ replicate (length (take k t)) 0
-    → w ++ drop k t ≡ replicate (length t) 0
-cleared-end t k {w} b e =
-    let all : length (take k t) + (length t - k) ≡ length t = omega (arith, length-take-le k t (b .0), b .0) in
-    ap (λ (l : List ℕ). l ++ drop k t) e ∙ ap (λ (l : List ℕ). replicate (length (take k t)) 0 ++ l) (b .1)
-    ∙ replicate-append-replicate (length (take k t)) (length t - k) 0 ∙ ap (λ (i : ℕ). replicate i 0) all
 
 past-all : (l : List Span) (lo hi i : ℕ) → InOrder lo l hi → hi ≤ i → Outside i l
 past-all [] lo hi i o h = tt
@@ -129,7 +122,7 @@ module _ {s : List ℕ} {lent left : Tables} {r : Answer} {i j : ℕ} (p : Parse
   pub given-short : length s ≤ 65536
   given-short = given-tree p e .takes .readable .short
 
-  abbrev pub given-part : steps.Tree (left .nodes) (left .attrs) (take (length s) (left .strings)) i
+  abbrev pub given-part : elements.Tree (left .nodes) (left .attrs) (take (length s) (left .strings)) i
   given-part =
       let h = given-holds p e in
       let long : length (take (length s) (left .strings)) ≡ length s = length-take-le (length s) (left .strings) given-fits in
@@ -143,7 +136,7 @@ module _ {s : List ℕ} {lent left : Tables} {r : Answer} {i j : ℕ} (p : Parse
       }
 
   -- ---- what stands behind
-  pub given-ends : steps.Ends (left .nodes) (left .attrs) (left .strings) i j (length s)
+  pub given-ends : Ends (left .nodes) (left .attrs) (left .strings) i j (length s)
   given-ends =
       let g = given-tree p e in
       let f = given-forest p e in

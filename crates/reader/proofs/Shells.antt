@@ -1,18 +1,17 @@
 -- What the calls do around the reading of a tree meets their promise. Assumes nothing.
---     zero-lengths, tells-long                                  tables that are cleared keep their lengths
 --     long-as, zero-as, laid-as, kept-laid                      the tables of a track beside any strings
 --     meant-numbers, track-post, cue-post                       whatever is wanted: a number is from 12 to 16
 --     cue-asks, alone-post                                      a single cue leaves the other tables blank
 --     short-promise, away-promise, tree-asks, tree-promise      the call, by its outcomes
 use Prim.Native.Nat.{ℕ}
 use mathlib.Core.Path.{_≡_, refl, sym, ap, _∙_, subst}
-use mathlib.Core.Bool.{Bool, true, false}
+use mathlib.Core.Bool.{true, false}
 use mathlib.Core.List.{List, []}
 use native.Mathlib.Omega.{arith}
 use native.Mathlib.Nat.{sub-zero}
 use lib.IntN.{ℤ}
 use lib.Ieee.{Float}
-use lib.ListN.{length, take, replicate, length-replicate}
+use lib.ListN.{length, take}
 use lib.Seq.{length-take-le}
 use Rattle.tree.specs.declared.answers.Answer as tree
 use Rattle.tree.specs.declared.answers.Refusal.{Refusal}
@@ -22,7 +21,6 @@ use Rattle.track.specs.Layout.{each, joinedCells, styleExtras, regionExtras, cu
 use Rattle.xml.specs.Reading.{Placed}
 use Rattle.xml.specs.Promise as xml
 use Rattle.xml.proofs.Given.{given-tree, given-forest}
-use Rattle.meaning.specs.Answers.{is}
 use Rattle.meaning.specs.Answers as meaning
 use Rattle.meaning.specs.Nodes.{Nodes}
 use Rattle.meaning.specs.Kinds.{nodesIn}
@@ -35,19 +33,14 @@ use Rattle.promised.proofs.Trees.{nodes-same}
 use Rattle.promised.proofs.Promises.{RestLong, RestZero, RestLaid, rest-of, all-zero, refusal, laid-of, nodesLeft, nodes-left}
 use Rattle.promised.proofs.Promises.{promise-short, promise-away, promise-none, promise-track}
 use Rattle.reader.specs.declared.text.Wanted.{Wanted}
-use Rattle.reader.specs.Steps.{meantBy, rest, cueRest, Tells, Prepared, Laid, Asks, CueAsks, Post, CuePost, AsksTree, TreePost}
+use Rattle.blank.specs.Steps.{rest, Prepared}
+use Rattle.blank.proofs.Clearing.{zero-lengths}
+use Rattle.whole.specs.Steps.{Laid, Asks, Post}
+use Rattle.single.specs.Steps.{cueRest, CueAsks, CuePost}
+use Rattle.reader.specs.Steps.{meantBy, AsksTree, TreePost}
 use Rattle.reader.proofs.Parting.{nodes-part, given-fits, given-short, given-part, given-ends}
 
 -- ---- the tables of a track beside any strings
-
-pub zero-lengths : {n : Lengths} {T : Tables} → RestZero n T → length (T .strings) ≡ n .strings → lengths T ≡ n
-zero-lengths z e =
-    rw (z .head, z .params, z .styles, z .regions, z .cues, z .times, z .segments, z .sizes, z .extras, e, z .texts)
-    (simp length-replicate)
-
-pub tells-long : {n : Lengths} {T : Tables} (r : Bool) → RestZero n T → length (T .strings) ≡ n .strings → Tells (RestLong (lengths T)) r
-    → Tells (RestLong n) r
-tells-long r z e h = subst (λ (k : Lengths). Tells (RestLong k) r) (zero-lengths z e) h
 
 -- the same tables with other strings
 abbrev lengthsBut : Lengths → ℕ → Lengths

@@ -1,7 +1,8 @@
 // A text, read.
-ghost use Rattle.xml.specs.Promise.{AllZero};
 ghost use Rattle.promised.specs.Promise.{tables, Promise};
-ghost use Rattle.reader.specs.Steps.{rest, treeTables, meantBy, Asks, Post, Ends, AsksTree, TreePost};
+ghost use Rattle.blank.specs.Steps.{rest};
+ghost use Rattle.whole.specs.Steps.{Asks, Post};
+ghost use Rattle.reader.specs.Steps.{meantBy, AsksTree, TreePost};
 use promised::Answer;
 use tree::Refusal;
 
@@ -9,16 +10,6 @@ use tree::Refusal;
 pub enum Wanted {
     Track,
     Cue,
-}
-
-// Every cell is 0.
-fn clear_tree(nodes: &mut [u32], attrs: &mut [u32], strings: &mut [u8])
-    ensures { λ _. ⌜ AllZero (treeTables (now (nodes .entry)) (now (attrs .entry)) (now (strings .entry)))
-        (treeTables (now (nodes .exit)) (now (attrs .exit)) (now (strings .exit))) ⌝ }
-{
-    scan::clear(nodes);
-    scan::clear(attrs);
-    scan::clear_bytes(strings);
 }
 
 // What the n rows of the tree mean.
@@ -48,7 +39,7 @@ fn read_nodes(
         (now (segments .exit)) (now (sizes .exit)) (now (extras .exit)) (now (texts .exit))) r ⌝ }
 {
     match wanted {
-        Wanted::Track => crate::whole::read_track(
+        Wanted::Track => whole::read_track(
             nodes,
             attrs,
             strings,
@@ -64,7 +55,7 @@ fn read_nodes(
             texts,
             n,
         ),
-        Wanted::Cue => crate::single::read_cue(
+        Wanted::Cue => single::read_cue(
             nodes,
             attrs,
             strings,
@@ -76,24 +67,6 @@ fn read_nodes(
             n,
         ),
     }
-}
-
-// The tree of n nodes and m attributes, of a text of so many bytes, leaves its tables: every cell is 0.
-fn drop_tree(
-    nodes: &mut [u32],
-    attrs: &mut [u32],
-    strings: &mut [u8],
-    n: usize,
-    m: usize,
-    len: usize,
-)
-    requires { ⌜ Ends (now nodes) (now attrs) (now strings) n m len ⌝ }
-    ensures { λ _. ⌜ AllZero (treeTables (now (nodes .entry)) (now (attrs .entry)) (now (strings .entry)))
-        (treeTables (now (nodes .exit)) (now (attrs .exit)) (now (strings .exit))) ⌝ }
-{
-    scan::clear(&mut nodes[..n * tree::NODE_CELLS]);
-    scan::clear(&mut attrs[..m * tree::ATTR_CELLS]);
-    scan::clear_bytes(&mut strings[..len]);
 }
 
 // What the tree means; after a refusal every cell is 0.
@@ -146,7 +119,7 @@ fn read_tree(
     ) {
         Answer::Track => Answer::Track,
         Answer::Refused(r) => {
-            drop_tree(nodes, attrs, strings, n, m, len);
+            blank::drop_tree(nodes, attrs, strings, n, m, len);
             Answer::Refused(r)
         }
     }
@@ -178,7 +151,7 @@ pub fn read_text(
         (now (cues .exit)) (now (times .exit)) (now (segments .exit)) (now (sizes .exit)) (now (extras .exit)) (now (strings .exit))
         (now (texts .exit))) ⌝ }
 {
-    if !crate::clear::prepare(
+    if !blank::prepare(
         head,
         params,
         styles,
@@ -190,7 +163,7 @@ pub fn read_text(
         extras,
         texts,
     ) {
-        clear_tree(nodes, attrs, strings);
+        blank::clear_tree(nodes, attrs, strings);
         return Answer::Refused(Refusal {
             number: 1,
             place: 0,
