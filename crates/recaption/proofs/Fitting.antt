@@ -8,8 +8,8 @@ use lib.ListN.{length, take}
 use lib.Seq.{length-take-le}
 use Rattle.promised.specs.Promise.{Tables}
 use Rattle.writer.specs.declared.calls.Answer as writer
-use Rattle.ttml.specs.Recaption.{Recaptioned}
-use Rattle.ttml.proofs.Rewriting.{recaption-fits}
+use Rattle.rewritten.specs.Recaption.{Recaptioned}
+use Rattle.rewritten.proofs.Fitting.{recaption-fits}
 use Rattle.recaption.specs.Fits.{Fits}
 
 fits-by : (answer : writer.Answer) {text out written : List ℕ} {lent left : Tables} → Recaptioned text lent out answer left written

@@ -24,7 +24,7 @@ fn main() {
     let mut strings = [0u8; 65536];
     let mut texts = [0u8; 65536];
     let mut out = [0u8; 65536];
-    let answer = ttml::recaption(
+    let answer = rewritten::recaption(
         &text[..got],
         &mut nodes,
         &mut attrs,

@@ -72,12 +72,9 @@ fn add_bytes(sum: u32, bytes: &[u8]) -> u32 {
     add(all, 0)
 }
 
-pub fn of_bytes(bytes: &[u8]) -> u32 {
-    add_bytes(1, bytes)
-}
-
-// All tables but the sizes, which are floats.
-pub fn of_tables(
+// What is written; or all tables but the sizes, which are floats.
+pub fn of_answer(
+    written: bool,
     nodes: &[u32; 49152],
     attrs: &[u32; 32768],
     head: &[u32; 10],
@@ -90,7 +87,11 @@ pub fn of_tables(
     extras: &[u32; 24576],
     strings: &[u8; 65536],
     texts: &[u8; 65536],
+    out: &[u8; 65536],
 ) -> u32 {
+    if written {
+        return add_bytes(1, out);
+    }
     let mut sum = add_cells(1, nodes);
     sum = add_cells(sum, attrs);
     sum = add_cells(sum, head);

@@ -1,6 +1,4 @@
 -- What the proofs of several functions use.
-pub mod Queries
-pub mod Trees
 pub mod Demands
 pub mod Marked
-pub mod Rewriting
+pub mod Returning

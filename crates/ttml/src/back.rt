@@ -1,7 +1,9 @@
 // A track written, and what was written read back.
-ghost use Rattle.promised.specs.Promise.{tables, AllZero};
+ghost use mathlib.Core.Path.{_≡_};
+ghost use Rattle.promised.specs.Promise.{tables};
 ghost use Rattle.track.specs.Tables as track;
-ghost use Rattle.ttml.specs.ReadBack.{Returned, Signed};
+ghost use Rattle.ttml.specs.ReadBack.{Signed, Returned};
+ghost use Rattle.ttml.specs.Steps.{countOf, outcomeOf};
 use tree::Refusal;
 use writer::Answer;
 
@@ -12,45 +14,6 @@ pub enum Back {
     Unwritten(Refusal),
 }
 
-// Every cell is 0.
-fn clear_all(
-    nodes: &mut [u32],
-    attrs: &mut [u32],
-    head: &mut [u32],
-    params: &mut [u32],
-    styles: &mut [u32],
-    regions: &mut [u32],
-    cues: &mut [u32],
-    times: &mut [i64],
-    segments: &mut [u32],
-    sizes: &mut [f32],
-    extras: &mut [u32],
-    strings: &mut [u8],
-    texts: &mut [u8],
-)
-    ensures { λ _. ⌜ AllZero
-        (tables (now (nodes .entry)) (now (attrs .entry)) (now (head .entry)) (now (params .entry)) (now (styles .entry)) (now (regions .entry))
-        (now (cues .entry)) (now (times .entry)) (now (segments .entry)) (now (sizes .entry)) (now (extras .entry)) (now (strings .entry))
-        (now (texts .entry)))
-        (tables (now (nodes .exit)) (now (attrs .exit)) (now (head .exit)) (now (params .exit)) (now (styles .exit)) (now (regions .exit))
-        (now (cues .exit)) (now (times .exit)) (now (segments .exit)) (now (sizes .exit)) (now (extras .exit)) (now (strings .exit))
-        (now (texts .exit))) ⌝ }
-{
-    scan::clear(nodes);
-    scan::clear(attrs);
-    scan::clear(head);
-    scan::clear(params);
-    scan::clear(styles);
-    scan::clear(regions);
-    scan::clear(cues);
-    scan::clear_i64(times);
-    scan::clear(segments);
-    scan::clear_f32(sizes);
-    scan::clear(extras);
-    scan::clear_bytes(strings);
-    scan::clear_bytes(texts);
-}
-
 // Every time is an i64: reading it tells so.
 fn all_signed(times: &[i64])
     ensures { λ _. ⌜ Signed (now (times .entry)) ⌝ }
@@ -59,6 +22,29 @@ fn all_signed(times: &[i64])
     while i < times.len() {
         let _time = times[i];
         i += 1;
+    }
+}
+
+// How many bytes are written.
+fn count(answer: Answer) -> usize
+    ensures { λ r. ⌜ r ≡ countOf answer ⌝ }
+{
+    match answer {
+        Answer::Bytes(n) => n,
+        Answer::Refused(_) => 0,
+    }
+}
+
+// What came of writing and reading.
+fn outcome(answer: Answer, read: promised::Answer) -> Back
+    ensures { λ r. ⌜ r ≡ outcomeOf answer read ⌝ }
+{
+    match answer {
+        Answer::Refused(r) => Back::Unwritten(r),
+        Answer::Bytes(n) => match read {
+            promised::Answer::Track => Back::Track(n),
+            promised::Answer::Refused(r) => Back::Unread(n, r),
+        },
     }
 }
 
@@ -103,7 +89,7 @@ pub fn read_back(
         (now («back_extras» .exit)) (now («back_strings» .exit)) (now («back_texts» .exit))) ⌝ }
 {
     all_signed(times);
-    match document::write(
+    let answer = document::write(
         head,
         params,
         styles,
@@ -116,43 +102,24 @@ pub fn read_back(
         strings,
         texts,
         out,
-    ) {
-        Answer::Refused(r) => {
-            clear_all(
-                nodes,
-                attrs,
-                back_head,
-                back_params,
-                back_styles,
-                back_regions,
-                back_cues,
-                back_times,
-                back_segments,
-                back_sizes,
-                back_extras,
-                back_strings,
-                back_texts,
-            );
-            Back::Unwritten(r)
-        }
-        Answer::Bytes(n) => match reader::parse(
-            &out[..n],
-            nodes,
-            attrs,
-            back_head,
-            back_params,
-            back_styles,
-            back_regions,
-            back_cues,
-            back_times,
-            back_segments,
-            back_sizes,
-            back_extras,
-            back_strings,
-            back_texts,
-        ) {
-            promised::Answer::Track => Back::Track(n),
-            promised::Answer::Refused(r) => Back::Unread(n, r),
-        },
-    }
+    );
+    // where nothing is written no text is read, which clears every cell
+    let n = count(answer);
+    let read = reader::parse(
+        &out[..n],
+        nodes,
+        attrs,
+        back_head,
+        back_params,
+        back_styles,
+        back_regions,
+        back_cues,
+        back_times,
+        back_segments,
+        back_sizes,
+        back_extras,
+        back_strings,
+        back_texts,
+    );
+    outcome(answer, read)
 }

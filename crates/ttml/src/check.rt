@@ -1,8 +1,8 @@
 // The check of a handed track.
 ghost use Rattle.track.specs.Tables.{tables};
 ghost use Rattle.track.specs.Check.{Checked};
-ghost use Rattle.ttml.specs.Told.{Tells, checkTold};
-use crate::told::told;
+ghost use Rattle.told.specs.Told.{Tells, checkTold};
+use told::told;
 use track::Check;
 
 // Is it a track?

@@ -4,8 +4,6 @@ mod check;
 mod parse_xml;
 mod query;
 mod read;
-mod rewrite;
-mod told;
 mod write;
 
 pub use back::Back;
@@ -17,6 +15,6 @@ pub use query::pg_region_style;
 pub use query::pg_resolve_referenced_style;
 pub use read::pg_bytes_to_cue;
 pub use read::pg_parse;
-pub use rewrite::recaption;
+pub use rewritten::recaption;
 pub use write::pg_cue_to_bytes;
 pub use write::pg_write;

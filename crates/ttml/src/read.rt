@@ -1,9 +1,9 @@
 // The readers of whole texts.
 ghost use mathlib.Core.Path.{_≡_};
 ghost use Rattle.promised.specs.Promise.{tables, Parsed, CueParsed};
-ghost use Rattle.ttml.specs.Told.{Tells, readTold};
-use crate::told::told;
+ghost use Rattle.told.specs.Told.{Tells, readTold};
 use promised::Answer;
+use told::told;
 
 fn tell(answer: Answer) -> u64
     ensures { λ r. ⌜ r ≡ readTold answer ⌝ }

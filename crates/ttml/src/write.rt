@@ -2,8 +2,8 @@
 ghost use mathlib.Core.Path.{_≡_};
 ghost use Rattle.track.specs.Tables.{tables};
 ghost use Rattle.writer.specs.Promise.{Promise, wholeText, cueNumber};
-ghost use Rattle.ttml.specs.Told.{Tells, writtenTold};
-use crate::told::told;
+ghost use Rattle.told.specs.Told.{Tells, writtenTold};
+use told::told;
 use writer::Answer;
 
 fn tell(answer: Answer) -> u64

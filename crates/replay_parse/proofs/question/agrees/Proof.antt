@@ -18,29 +18,29 @@ read-line-requires c κs = search needs
 array-share-prefix-told : tie.Need-array-share-prefix-told
 array-share-prefix-told c = search needs
 
-slice-aggregate-parse-agrees : tie.Need-slice-aggregate-parse-agrees
-slice-aggregate-parse-agrees c = sym (length-take-le _ _ (omega arith))
+slice-aggregate-call-agrees : tie.Need-slice-aggregate-call-agrees
+slice-aggregate-call-agrees c = sym (length-take-le _ _ (omega arith))
 
-parse-agrees-requires : tie.Need-parse-agrees-requires
-parse-agrees-requires c κs = search needs
+call-agrees-requires : tie.Need-call-agrees-requires
+call-agrees-requires c κs = search needs
 
 array-share-prefix-told-2 : tie.Need-array-share-prefix-told-2
 array-share-prefix-told-2 c = search needs
 
-slice-aggregate-cue-agrees : tie.Need-slice-aggregate-cue-agrees
-slice-aggregate-cue-agrees c = sym (length-take-le _ _ (omega arith))
+slice-aggregate-call-agrees-2 : tie.Need-slice-aggregate-call-agrees-2
+slice-aggregate-call-agrees-2 c = sym (length-take-le _ _ (omega arith))
 
-cue-agrees-requires : tie.Need-cue-agrees-requires
-cue-agrees-requires c κs = search needs
+call-agrees-requires-2 : tie.Need-call-agrees-requires-2
+call-agrees-requires-2 c κs = search needs
 
 array-share-prefix-told-3 : tie.Need-array-share-prefix-told-3
 array-share-prefix-told-3 c = search needs
 
-slice-aggregate-recaption-agrees : tie.Need-slice-aggregate-recaption-agrees
-slice-aggregate-recaption-agrees c = sym (length-take-le _ _ (omega arith))
+slice-aggregate-call-agrees-3 : tie.Need-slice-aggregate-call-agrees-3
+slice-aggregate-call-agrees-3 c = sym (length-take-le _ _ (omega arith))
 
-recaption-agrees-requires : tie.Need-recaption-agrees-requires
-recaption-agrees-requires c κs = search needs
+call-agrees-requires-3 : tie.Need-call-agrees-requires-3
+call-agrees-requires-3 c κs = search needs
 
 returns : tie.Need-returns
 returns c = search needs
@@ -62,14 +62,14 @@ agrees-spec =
     slice-aggregate-read-line-2
     read-line-requires
     array-share-prefix-told
-    slice-aggregate-parse-agrees
-    parse-agrees-requires
+    slice-aggregate-call-agrees
+    call-agrees-requires
     array-share-prefix-told-2
-    slice-aggregate-cue-agrees
-    cue-agrees-requires
+    slice-aggregate-call-agrees-2
+    call-agrees-requires-2
     array-share-prefix-told-3
-    slice-aggregate-recaption-agrees
-    recaption-agrees-requires
+    slice-aggregate-call-agrees-3
+    call-agrees-requires-3
     returns
     returns-2
     returns-3

@@ -3,7 +3,7 @@ use Prim.Native.Nat.{_-_, _≤_}
 use native.Mathlib.Omega.{arith}
 use borrow.Author.Needs.{needs}
 use lib.ListN.{length}
-use Rattle.ttml.proofs.Rewriting.{SignedTo, signed-more, signed-all}
+use Rattle.ttml.proofs.Returning.{SignedTo, signed-more, signed-all}
 use Rattle.ttml.proofs.back.all_signed.Statement.{statement}
 use Rattle.ttml.proofs.back.all_signed.Tie as tie
 

@@ -1,6 +1,6 @@
 -- `pg_check_track` meets its contract: what `check_track` promises of its answer, and that answer told.
 use borrow.Author.Needs.{needs}
-use Rattle.ttml.specs.Told.{checkTold}
+use Rattle.told.specs.Told.{checkTold}
 use Rattle.ttml.proofs.check.pg_check_track.Statement.{statement}
 use Rattle.ttml.proofs.check.pg_check_track.Tie as tie
 

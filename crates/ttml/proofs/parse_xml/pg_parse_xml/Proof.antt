@@ -1,6 +1,6 @@
 -- `pg_parse_xml` meets its contract, by the cases of what `parse_xml` answers.
 use borrow.Author.Needs.{needs}
-use Rattle.ttml.proofs.Trees.{reads-short, reads-refused, reads-tree, tree-small}
+use Rattle.told.proofs.Trees.{reads-short, reads-refused, reads-tree, tree-small}
 use Rattle.ttml.proofs.parse_xml.pg_parse_xml.Statement.{statement}
 use Rattle.ttml.proofs.parse_xml.pg_parse_xml.Tie as tie
 

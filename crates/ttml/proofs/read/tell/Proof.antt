@@ -1,6 +1,6 @@
 -- `tell` meets its contract, by the cases of an answer.
 use borrow.Author.Needs.{needs}
-use Rattle.ttml.specs.Told.{readTold}
+use Rattle.told.specs.Told.{readTold}
 use Rattle.ttml.proofs.read.tell.Statement.{statement}
 use Rattle.ttml.proofs.read.tell.Tie as tie
 

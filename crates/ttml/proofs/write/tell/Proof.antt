@@ -1,6 +1,6 @@
 -- `tell` meets its contract, by the cases of an answer.
 use borrow.Author.Needs.{needs}
-use Rattle.ttml.specs.Told.{writtenTold}
+use Rattle.told.specs.Told.{writtenTold}
 use Rattle.ttml.proofs.write.tell.Statement.{statement}
 use Rattle.ttml.proofs.write.tell.Tie as tie
 

@@ -1,0 +1,4 @@
+pub mod Told
+pub mod Trees
+pub mod Queries
+pub mod Steps
