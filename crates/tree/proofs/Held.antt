@@ -258,7 +258,7 @@ pub comes-back : (Said : List ℕ → ℕ → ℕ → Type 0) {M : Type 1} {𝓤
 comes-back Said {𝓤 = 𝓤} W κ q d u w = via 𝓤 _ (comes-out B (Moving Said) W κ q d u w) (back W κ q (d .src) (Said (now (d .src)) (d .pos)) w)
 
 -- ---- the walk of one that takes the struct apart, calls f on the slice and the number, and makes a struct anew of the slice and the place answered
-abbrev slice : Ty
+abbrev pub slice : Ty
 slice = sliceTy (tyRef erased imm (tyInt w8))
 
 abbrev function : Name → Fn

@@ -7,6 +7,7 @@ pub mod NodeLaws
 pub mod Comments
 pub mod Going
 pub mod Held
+pub mod Pairs
 pub mod Whole
 pub mod Places
 pub mod Walks

@@ -1,11 +1,13 @@
 // The parser: the text and a position in it, held together as in the Rust's `XmlParser`. Its functions are thin: each takes the struct
 // apart, and the work is done by a covered function on the slice and the number. They are proved by walks of their MIR, by hand.
 ghost use mathlib.Core.Path.{_≡_};
+ghost use mathlib.Core.List.{[], _∷_};
 ghost use Prim.Native.Nat.{_≤_};
 ghost use lib.ListN.{length, getD};
 ghost use Rattle.tree.specs.Read.{topOf, prologFrom, prologEnd};
 ghost use Rattle.tree.specs.Posts.{Ready, ContentPost};
 ghost use Rattle.scan.specs.Bytes.{blank};
+ghost use Rattle.scan.specs.Marks.{startsAt};
 ghost use Rattle.scan.specs.Posts.{Ends};
 use crate::answers::Content;
 
@@ -29,6 +31,17 @@ pub fn peek<'a>(p: XmlParser<'a>) -> u8
     crate::prolog::byte_at(p.src, p.pos)
 }
 
+// Whether a mark of two bytes stands at its position.
+pub fn starts_with<'a>(p: XmlParser<'a>, first: u8, second: u8) -> bool
+    requires { ⌜ p .pos ≤ length (now (p .src)) ⌝ }
+    ensures { λ r. ⌜ r ≡ startsAt (now (p .entry .src)) (p .entry .pos) (first ∷ second ∷ []) ⌝ }
+{
+    if peek(p) != first {
+        return false;
+    }
+    crate::prolog::follows(p.src, p.pos, second)
+}
+
 // Past the blanks at its position.
 pub fn skip_blanks<'a>(p: XmlParser<'a>) -> XmlParser<'a>
     requires { ⌜ p .pos ≤ length (now (p .src)) ⌝ }
@@ -48,13 +61,13 @@ pub fn over_prolog<'a>(p: XmlParser<'a>) -> XmlParser<'a>
     XmlParser { src: p.src, pos }
 }
 
-// Past the prolog at its position: only `<` begins one.
+// Past the prolog at its position. Where the root begins at once, by `<t`, there is none.
 pub fn skip_prolog<'a>(p: XmlParser<'a>) -> XmlParser<'a>
     requires { ⌜ p .pos ≤ length (now (p .src)) ⌝ }
     ensures { λ q. ⌜ (q .src ≡ p .entry .src)
         × ((q .pos ≡ prologFrom (now (p .entry .src)) (p .entry .pos)) × (q .pos ≤ length (now (p .entry .src)))) ⌝ }
 {
-    if peek(p) != b'<' {
+    if starts_with(p, b'<', b't') {
         return p;
     }
     over_prolog(p)

@@ -1,9 +1,11 @@
 // The prolog: blanks, `<? ?>`, comments and other `<! >`, as far as they go.
 ghost use mathlib.Core.Path.{_≡_};
-ghost use Prim.Native.Nat.{_≤_};
+ghost use mathlib.Core.List.{[], _∷_};
+ghost use Prim.Native.Nat.{_+_, _≤_};
 ghost use lib.ListN.{length, getD};
 ghost use Rattle.tree.specs.Read.{prologFrom};
 ghost use Rattle.scan.specs.Bytes.{blank};
+ghost use Rattle.scan.specs.Marks.{startsAt};
 ghost use Rattle.scan.specs.Posts.{Ends};
 use scan::Class;
 
@@ -13,6 +15,17 @@ pub fn byte_at(src: &[u8], pos: usize) -> u8
     ensures { λ r. ⌜ r ≡ getD (now (src .entry)) pos 0 ⌝ }
 {
     if pos < src.len() { src[pos] } else { 0 }
+}
+
+// Whether a byte stands after the one at a position.
+pub fn follows(src: &[u8], pos: usize, byte: u8) -> bool
+    requires { ⌜ pos ≤ length (now src) ⌝ }
+    ensures { λ r. ⌜ r ≡ startsAt (now (src .entry)) (pos + 1) (byte ∷ []) ⌝ }
+{
+    if src.len() - pos < 2 {
+        return false;
+    }
+    src[pos + 1] == byte
 }
 
 // The place after the blanks at a position.
