@@ -137,7 +137,7 @@ module _ (sp : Space) (before : Before) (p m : ℕ) (b : List ℕ) (place first 
     abbrev gives : (s′ : List ℕ) → Collecting → Type 0
     gives s′ r =
         Given place first n hi (p + m) (edge (lastOf before b)) (λ f. joined f (textSegment withPlaces
-            (textIn withPlaces sp before whole))) s y s′ y′ r
+        (textIn withPlaces sp before whole))) s y s′ y′ r
 
     pub text-none : n ≤ 16384 → c .len ≡ 0 → gives s (Collecting.Is (record { rows = n; boundary = c .boundary }))
     text-none few e =
@@ -154,8 +154,11 @@ module _ (sp : Space) (before : Before) (p m : ℕ) (b : List ℕ) (place first 
         let some : isEmpty left ≡ false = some-of left (λ h. e (wr .long ∙ h)) in
         let x : Placed = record { place = p; bytes = left } in
         let segment : textSegment withPlaces (textIn withPlaces sp before whole) ≡ track.text x track.done = rw some (rw (text-is sp before p b)) in
-        let one : preorder (spansIn (track.text x track.done)) ≡ record { segment = Segment.Text
-        (record { place = p; len = c .len }); rows = 1 } ∷ [] =
+        let one : preorder (spansIn (track.text x track.done)) ≡ record {
+          segment = Segment.Text
+              (record { place = p; len = c .len });
+          rows = 1;
+        } ∷ [] =
         text-one (spanIn x) ∙ rw (wr .long) in
         let short′ : length left ≤ m = omega (arith, wr .long, wr .within) in
         rw (segment, ← (wr .flag))

@@ -227,7 +227,7 @@ module _ (w : Frame) (t u z : List ℕ) (base : ℤ) (ctx : TimingCtx) (ws : WsM
     abbrev Result : Forest → (s′ y′ : List ℕ) → Collecting → Type 0
     Result f s′ y′ r =
         Outcome w t u z (getD t (k * 6 + 1) 0) end first base ctx ws s′ y′ (means first before earlier (nodesIn z f)) (after withPlaces before
-            (nodesIn z f))
+        (nodesIn z f))
         r
 
     module _ (s′ y′ : List ℕ) (r : Collecting) where
@@ -261,7 +261,7 @@ module _ (w : Frame) (t u z : List ℕ) (base : ℤ) (ctx : TimingCtx) (ws : WsM
           (given-came (k + 1 + size c) end first (run .rows) hi hi p true (λ f. joined (ended withPlaces (spaceIn ws) f)
           (track.break track.done)) s y s′ y′
           earlier none (own + length l + length (placed.attrsOf c)) g _ _ (a .later) (omega (arith, x .1)) (in-lower (spans g) hi (o .mid)
-              (w .limit) (o .low) (o .rest)) (x .3) refl
+          (w .limit) (o .low) (o .rest)) (x .3) refl
           (inside-break withPlaces ctx base (spaceIn ws) before first earlier p n (attrsIn z l) (nodesIn z c) (nodesIn z g) i)
           (after-break withPlaces before p n (attrsIn z l) (nodesIn z c) (nodesIn z g) i) r (rw at at (bg hi)))
 
@@ -330,7 +330,7 @@ module _ {w : Frame} {t u z : List ℕ} (k own end first hi : ℕ) (run : Run) (
       → hi′ ≤ parts .mid → run .rows ≤ r .rows → Standing inner hi′ (run .rows) (r .rows) f s′ y′ → r .boundary ≡ edge behind-it
       → (m : Answer (Segments Placed)) (v : Before)
       → m ≡ segmentsIn withPlaces ctx base (spaceIn ws) behind-it first (joined earlier f) (nodesIn z g)
-          → v ≡ after withPlaces behind-it (nodesIn z g)
+      → v ≡ after withPlaces behind-it (nodesIn z g)
       → Came w t u z (k + 1 + size c) end first base ctx ws s′ y′ m v r
   unfolding size
   came base ctx ws hi′ f s′ y′ r few below more st′ fl′ m v me ve = record {
@@ -375,7 +375,7 @@ module _ {w : Frame} {t u z : List ℕ} (k own end first hi : ℕ) (run : Run) (
     -- ---- an unknown element
     unknown-elem : inlineOf withPlaces name ≡ unknown → (s′ y′ : List ℕ) (r : Collecting)
         → Outcome inner t u z (k + 1 + size c) (k + 1 + size c) (run .rows) base ctx ws s′ y′ (meant inside base ctx ws) (behind inside) r
-            → ItsOutcome s′ y′ r
+        → ItsOutcome s′ y′ r
     unknown-elem i s′ y′ (Collecting.Is r) a =
         let d = came-end a in
         came base ctx ws (d .hi) (d .segments) s′ y′ r (d .few) (d .below) (omega (arith, standing-count (d .standing))) (d .standing) (d .flag) all
@@ -397,7 +397,7 @@ module _ {w : Frame} {t u z : List ℕ} (k own end first hi : ℕ) (run : Run) (
 
       span-is : all ≡ (said >>= λ begin. sum p base (orZero begin) >>= λ from.
           segmentsIn withPlaces ctx from (spaceOf withPlaces (spaceIn ws) attrs) before (first + segmentRows earlier) track.done
-              (nodesIn z c) >>= λ content.
+          (nodesIn z c) >>= λ content.
           wrappersOf withPlaces attrs >>= λ wrappers.
           counted p first (joined earlier (stamped begin from (spanOf wrappers content))) >>= λ given.
           segmentsIn withPlaces ctx base (spaceIn ws) behind-it first given (nodesIn z g))
@@ -422,7 +422,7 @@ module _ {w : Frame} {t u z : List ℕ} (k own end first hi : ℕ) (run : Run) (
 
         content-is : (a : Answer (Segments Placed)) → meant inside (b .time) ctx mode ≡ a
             → segmentsIn withPlaces ctx (b .time) (spaceOf withPlaces (spaceIn ws) attrs) before (first + segmentRows earlier) track.done
-                (nodesIn z c) ≡ a
+            (nodesIn z c) ≡ a
         content-is a e =
             ap (λ v. segmentsIn withPlaces ctx (b .time) v before (first + segmentRows earlier) track.done (nodesIn z c)) (sym in-mode)
             ∙ at-count (b .time) mode a e
@@ -453,7 +453,7 @@ module _ {w : Frame} {t u z : List ℕ} (k own end first hi : ℕ) (run : Run) (
               let fits = counted-is p first (joined earlier (left wr))
               (omega (arith, standing-count st′, count, a (d .hi) .0, rows-together earlier (left wr))) in
               came base ctx ws (d .hi) (left wr) s″ y′ r (a (d .hi) .0) (d .below) (omega (arith, standing-count st′)) st′ (a
-                  (d .hi) .1 ∙ d .flag) all
+              (d .hi) .1 ∙ d .flag) all
               (after withPlaces before node) (read-is ∙ bind-is (put-on (d .segments)) x ∙ bind-is go-on fits)
               (after-span withPlaces before p name attrs (nodesIn z c) (nodesIn z g) i)
           wrapped-is (is wr) x (Collecting.Refused q) a =
@@ -634,7 +634,7 @@ pub own-asks : {t u z : List ℕ} {k first : ℕ} {run : Run} {s y : List ℕ} (
 own-asks {t} {u} {z} {k} {first} {run} {s} {y} e a kind row =
     let x = a .entry in
     rw row (inner-asks t u z (a .frame) k (x .own) (a .end) first (x .hi) run (x .earlier) (x .before) s y (x .forest) (x .holds) (x .rows)
-        (x .placed)
+    (x .placed)
     (x .standing) (x .flag) (a .some) kind (a .roomy) (a .few))
 
 -- rows are added, not too many

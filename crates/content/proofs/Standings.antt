@@ -234,7 +234,7 @@ module _ {w : Frame} {hi first n : ℕ} {f : Segments Placed} {s y : List ℕ} (
   standing-join limit m hi′ g s′ y′ k j =
       let a : Stands (w .pre) (later (m - n) (later (n - first) (w .rest))) first m (joined (spansIn f) (spansIn g)) s′ =
       stands-join (w .pre) (later (n - first) (w .rest)) first n (spansIn f) s (h .rows) (later (m - n) (later (n - first) (w .rest))) m
-          (spansIn g) s′
+      (spansIn g) s′
       (j .rows) in
       record {
         rows = rw (later-to first n m (w .rest) (omega (arith, standing-count)) k, spans-joined f g) at a;

@@ -202,7 +202,7 @@ module _ (list : Listed) (e z : List ℕ) where
 
     pub value-itts :
         extraAt e i .number < ittsFrom list → (r k : ℕ) → Found mark (bytesAt z (extraAt e i .value)) 0 r → k ≡ length
-            (bytesAt z (extraAt e i .value))
+        (bytesAt z (extraAt e i .value))
         → ittsOne list e z i ≡ ltb r k
     value-itts g r k f q =
         one-itts ∙ rw (lt-leb (ittsFrom list) (extraAt e i .number) g, q, f .is) (contains-seek (bytesAt z (extraAt e i .value)) 0)

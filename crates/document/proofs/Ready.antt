@@ -15,8 +15,22 @@ use Rattle.decimals.proofs.Sizes.{size-says}
 use Rattle.scan.proofs.Every.{both}
 use Rattle.names.specs.declared.tables.Listed.{Listed}
 use Rattle.names.specs.declared.tables.Listed.the-variants.{InlineExtra, RegionAttr, StyleExtra}
-use Rattle.track.specs.Tables.{Tables, cell, paramAt, styleAt, lookAt, sizeAt, regionAt, cueAt, optional, paramCount, styleCount, regionCount,
-    cueCount, sizeCell}
+use Rattle.track.specs.Tables.{
+  Tables,
+  cell,
+  paramAt,
+  styleAt,
+  lookAt,
+  sizeAt,
+  regionAt,
+  cueAt,
+  optional,
+  paramCount,
+  styleCount,
+  regionCount,
+  cueCount,
+  sizeCell,
+}
 use Rattle.track.specs.Meaning.{isTrack, isSizeAt}
 use Rattle.track.specs.Steps.{isFull}
 use Rattle.track.proofs.Spans.{span-within}
@@ -45,7 +59,6 @@ module _ (T : Tables) (f : isFull T ≡ true) (h : isTrack T ≡ true) where
   few : length z′ ≤ length (T .strings)
   few = fewer-strings T f h
 
-
   module _ (i : ℕ) where
     param-row : i < paramCount (T .head) → ParamReady (T .params) (T .strings) i
     unfolding paramAt
@@ -64,7 +77,7 @@ module _ (T : Tables) (f : isFull T ≡ true) (h : isTrack T ≡ true) where
       style-kept : ExtrasReady StyleExtra (T .extras) (T .strings) (cell 27 (T .styles) i 25) (cell 27 (T .styles) i 26)
       style-kept =
           extras-ready StyleExtra (T .extras) z′ (T .strings) (cell 27 (T .styles) i 25) (cell 27 (T .styles) i 26) (style-is .extras)
-              (long T f h .extras) few
+          (long T f h .extras) few
 
       style-chain : cell 27 (T .styles) i 2 + cell 27 (T .styles) i 3 ≤ length (T .strings)
       style-chain = omega (arith, span-within z′ (cell 27 (T .styles) i 2) (cell 27 (T .styles) i 3) (style-is .chain), few)
@@ -89,7 +102,7 @@ module _ (T : Tables) (f : isFull T ≡ true) (h : isTrack T ≡ true) where
       region-kept : ExtrasReady RegionAttr (T .extras) (T .strings) (cell 4 (T .regions) i 2) (cell 4 (T .regions) i 3)
       region-kept =
           extras-ready RegionAttr (T .extras) z′ (T .strings) (cell 4 (T .regions) i 2) (cell 4 (T .regions) i 3) (region-is .extras)
-              (long T f h .extras) few
+          (long T f h .extras) few
 
       region-row : RegionReady (regionTables (T .regions) (T .extras) (T .strings)) i
       unfolding regionAt
@@ -102,8 +115,8 @@ module _ (T : Tables) (f : isFull T ≡ true) (h : isTrack T ≡ true) where
   styles-ready : StylesReady (T .styles) (T .sizes) (T .extras) (T .strings) (styleCount (T .head))
   styles-ready = record {
     named =
-      styles-named (T .styles) (T .sizes) (T .extras) z′ (T .strings) (styleCount (T .head)) (style-ok T h)
-      (omega (arith, low T f h .styles, long T f h .styles)) few;
+        styles-named (T .styles) (T .sizes) (T .extras) z′ (T .strings) (styleCount (T .head)) (style-ok T h)
+        (omega (arith, low T f h .styles, long T f h .styles)) few;
     chains = style-chain;
     kept = style-kept;
     rows = style-row;

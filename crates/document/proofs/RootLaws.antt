@@ -23,14 +23,40 @@ use Rattle.track.specs.Meaning.{bytesAt, styleIn, regionIn, cueIn, trackAt}
 use Rattle.track.specs.Meaning as meaning
 use Rattle.track.proofs.ShownLaws.{extrasIn, paramIn, params-in, styles-in, regions-in, cues-in}
 use Rattle.scan.specs.Text.{ascii}
-use Rattle.written.specs.Attributes.{attrText, attrsText, joined, given, listed, extraAttrs, isImsc, paramAttr, some-of, contains, holdsItts,
-    usesItts, langOf, rootAttrs}
+use Rattle.written.specs.Attributes.{
+  attrText,
+  attrsText,
+  joined,
+  given,
+  listed,
+  extraAttrs,
+  isImsc,
+  paramAttr,
+  some-of,
+  contains,
+  holdsItts,
+  usesItts,
+  langOf,
+  rootAttrs,
+}
 use Rattle.written.specs.Written.{tag, stylingLines, layoutLines}
 use Rattle.writer.specs.Puts.{quoted}
 use Rattle.writer.specs.Rows.{over, extraText}
 use Rattle.writer.proofs.AttrLaws.{attrs-joined, attrs-last, attrs-one, attrs-given, attrs-extras}
-use Rattle.document.specs.Roots.{someRow, imscRow, flagged, prefixText, paramText, ittsRows, ittsRow, ittsText, langText, namespaces,
-    rootText, headText}
+use Rattle.document.specs.Roots.{
+  someRow,
+  imscRow,
+  flagged,
+  prefixText,
+  paramText,
+  ittsRows,
+  ittsRow,
+  ittsText,
+  langText,
+  namespaces,
+  rootText,
+  headText,
+}
 use Rattle.document.proofs.SomeRows.{some-rows, some-same}
 
 -- ---- parameters
@@ -45,7 +71,7 @@ params-are T (suc n) i =
     let x = paramAt (T .params) i in
     ap₂ _++_
     (prefix-then (imscRow (T .params) (T .strings) i) (bytesAt (T .strings) (x .name))
-        (quoted (ascii "=\"") (escaped true (bytesAt (T .strings) (x .value)))))
+    (quoted (ascii "=\"") (escaped true (bytesAt (T .strings) (x .value)))))
     (params-are T n (i + 1))
 
 -- ---- the namespace itts
@@ -129,7 +155,7 @@ module _ (T : Tables) where
       ∙ regroup start
       (cond (someRow (λ (i : ℕ). flagged false (imscRow (T .params) (T .strings) i)) (paramCount (T .head)) 0) (declared "ttp" "#parameter") [])
       (cond (someRow (λ (i : ℕ). flagged true (imscRow (T .params) (T .strings) i)) (paramCount (T .head)) 0)
-          (declared "ittp" "/profile/imsc1#parameter") [])
+      (declared "ittp" "/profile/imsc1#parameter") [])
       (cond (ittsText (T .head) (T .styles) (T .regions) (T .cues) (T .extras) (T .strings)) (declared "itts" "/profile/imsc1#styling") [])
       (over (paramText (T .params) (T .strings)) (paramCount (T .head)) 0) (langText (T .head) (T .strings)) (ascii ">\n")
 

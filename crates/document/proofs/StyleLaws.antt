@@ -79,12 +79,12 @@ module _ (T : Tables) (name : Bytes) (n : ℕ) where
 -- ---- values that are escaped as themselves
 color-attr : (k : Bytes) (b : Bool) (c : Rgba)
     → attrsText (optional (λ (x : Rgba). attr k (rgbaText x)) (meaning.given b c)) ≡ cond b
-        (ascii " " ++ (k ++ (ascii "=\"" ++ (rgbaText c ++ ascii "\"")))) []
+    (ascii " " ++ (k ++ (ascii "=\"" ++ (rgbaText c ++ ascii "\"")))) []
 color-attr k b c = attrs-optional (λ (x : Rgba). attr k (rgbaText x)) b c ∙ rw (rgba-itself c) refl
 
 size-attr : (b : Bool) (s : Size)
     → attrsText (optional (λ (x : Size). attr (ascii "tts:fontSize") (sizeText x)) (meaning.given b s)) ≡ cond b
-        (quoted (ascii " tts:fontSize=\"") (sizeText s)) []
+    (quoted (ascii " tts:fontSize=\"") (sizeText s)) []
 size-attr b s = attrs-optional (λ (x : Size). attr (ascii "tts:fontSize") (sizeText x)) b s ∙ rw (size-itself s) refl
 
 align-attr : (a : Align) → attrsText (alignAttrs a) ≡ alignText a

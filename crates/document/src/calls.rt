@@ -28,8 +28,7 @@ fn write_document(
     out: &mut [u8],
     at: Written,
 ) -> Written
-    requires {
-        ⌜ WholeReady (tables (now head) (now params) (now styles) (now regions) (now cues) (now times) (now segments) (now sizes) (now extras)
+    requires { ⌜ WholeReady (tables (now head) (now params) (now styles) (now regions) (now cues) (now times) (now segments) (now sizes) (now extras)
         (now strings) (now texts))
         × Room at (now out) ⌝ }
     ensures { λ r.
@@ -72,8 +71,7 @@ fn fill(
     texts: &[u8],
     out: &mut [u8],
 ) -> Answer
-    requires {
-        ⌜ WholeReady (tables (now head) (now params) (now styles) (now regions) (now cues) (now times) (now segments) (now sizes) (now extras)
+    requires { ⌜ WholeReady (tables (now head) (now params) (now styles) (now regions) (now cues) (now times) (now segments) (now sizes) (now extras)
         (now strings) (now texts))
         × (now out ≡ replicate (length (now out)) 0) ⌝ }
     ensures { λ r.

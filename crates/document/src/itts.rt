@@ -88,8 +88,7 @@ pub fn uses_itts(
     extras: &[u32],
     strings: &[u8],
 ) -> bool
-    requires {
-        ⌜ (10 ≤ length (now head)) × OwnersReady StyleExtra (now styles) (now extras) (now strings) 27 25 (styleCount (now head))
+    requires { ⌜ (10 ≤ length (now head)) × OwnersReady StyleExtra (now styles) (now extras) (now strings) 27 25 (styleCount (now head))
         × OwnersReady RegionAttr (now regions) (now extras) (now strings) 4 2 (regionCount (now head))
         × OwnersReady InlineExtra (now cues) (now extras) (now strings) 11 9 (cueCount (now head)) ⌝ }
     ensures { λ r.

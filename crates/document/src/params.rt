@@ -69,7 +69,13 @@ fn write_param(params: &[u32], strings: &[u8], i: usize, out: &mut [u8], at: Wri
 }
 
 // The n parameters.
-pub fn write_params(params: &[u32], strings: &[u8], n: usize, out: &mut [u8], at: Written) -> Written
+pub fn write_params(
+    params: &[u32],
+    strings: &[u8],
+    n: usize,
+    out: &mut [u8],
+    at: Written,
+) -> Written
     requires { ⌜ ParamsReady (now params) (now strings) n × Room at (now out) ⌝ }
     ensures { λ r. ⌜ Puts (over (paramText (now (params .entry)) (now (strings .entry))) n 0) at (now (out .entry)) (now (out .exit)) r ⌝ }
 {

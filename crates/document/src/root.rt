@@ -25,8 +25,7 @@ fn put_namespaces(
     out: &mut [u8],
     at: Written,
 ) -> Written
-    requires {
-        ⌜ RootReady (now head) (now params) (now styles) (now regions) (now cues) (now extras) (now strings) × Room at (now out) ⌝ }
+    requires { ⌜ RootReady (now head) (now params) (now styles) (now regions) (now cues) (now extras) (now strings) × Room at (now out) ⌝ }
     ensures { λ r.
         ⌜ Puts (namespaces (now (head .entry)) (now (params .entry)) (now (styles .entry)) (now (regions .entry)) (now (cues .entry))
         (now (extras .entry)) (now (strings .entry))) at (now (out .entry)) (now (out .exit)) r ⌝ }
@@ -35,7 +34,12 @@ fn put_namespaces(
     let ttp = crate::params::any_param(params, strings, n, false);
     let ittp = crate::params::any_param(params, strings, n, true);
     let itts = crate::itts::uses_itts(head, styles, regions, cues, extras, strings);
-    let a = writer::put_if(out, at, ttp, b" xmlns:ttp=\"http://www.w3.org/ns/ttml#parameter\"");
+    let a = writer::put_if(
+        out,
+        at,
+        ttp,
+        b" xmlns:ttp=\"http://www.w3.org/ns/ttml#parameter\"",
+    );
     let start = b" xmlns:ittp=\"http://www.w3.org/ns/ttml/profile/imsc1#parameter\"";
     let b = writer::put_if(out, a, ittp, start);
     let next = b" xmlns:itts=\"http://www.w3.org/ns/ttml/profile/imsc1#styling\"";
@@ -44,8 +48,7 @@ fn put_namespaces(
 
 // xml:lang, `en` where the track has none.
 fn put_lang(head: &[u32], strings: &[u8], out: &mut [u8], at: Written) -> Written
-    requires {
-        ⌜ Room at (now out) × (10 ≤ length (now head))
+    requires { ⌜ Room at (now out) × (10 ≤ length (now head))
         × (eqb (getD (now head) 5 0) 1 ≡ true → getD (now head) 6 0 + getD (now head) 7 0 ≤ length (now strings)) ⌝ }
     ensures { λ r. ⌜ Puts (langText (now (head .entry)) (now (strings .entry))) at (now (out .entry)) (now (out .exit)) r ⌝ }
 {
@@ -70,13 +73,13 @@ pub fn write_root(
     out: &mut [u8],
     at: Written,
 ) -> Written
-    requires {
-        ⌜ RootReady (now head) (now params) (now styles) (now regions) (now cues) (now extras) (now strings) × Room at (now out) ⌝ }
+    requires { ⌜ RootReady (now head) (now params) (now styles) (now regions) (now cues) (now extras) (now strings) × Room at (now out) ⌝ }
     ensures { λ r.
         ⌜ Puts (rootText (now (head .entry)) (now (params .entry)) (now (styles .entry)) (now (regions .entry)) (now (cues .entry))
         (now (extras .entry)) (now (strings .entry))) at (now (out .entry)) (now (out .exit)) r ⌝ }
 {
-    let start = b"<tt xmlns=\"http://www.w3.org/ns/ttml\" xmlns:tts=\"http://www.w3.org/ns/ttml#styling\"";
+    let start =
+        b"<tt xmlns=\"http://www.w3.org/ns/ttml\" xmlns:tts=\"http://www.w3.org/ns/ttml#styling\"";
     let a = writer::put(out, at, start);
     let b = put_namespaces(head, params, styles, regions, cues, extras, strings, out, a);
     let c = crate::params::write_params(params, strings, scan::get(head, 0), out, b);
@@ -96,8 +99,7 @@ pub fn write_head(
     out: &mut [u8],
     at: Written,
 ) -> Written
-    requires {
-        ⌜ StylesReady (now styles) (now sizes) (now extras) (now strings) n
+    requires { ⌜ StylesReady (now styles) (now sizes) (now extras) (now strings) n
         × RegionsReady (regionTables (now regions) (now extras) (now strings)) m × Room at (now out) ⌝ }
     ensures { λ r.
         ⌜ Puts (headText (rowsFrom (styleIn (styleTables (now (styles .entry)) (now (sizes .entry)) (now (extras .entry)) (now (strings .entry))))

@@ -68,8 +68,7 @@ fn put_chain(
     n: usize,
     name: Span,
 ) -> Written
-    requires {
-        ⌜ Room at (now out) × Named (now styles) (now strings) 27 n × ChainsWithin (now styles) (now strings) n
+    requires { ⌜ Room at (now out) × Named (now styles) (now strings) 27 n × ChainsWithin (now styles) (now strings) n
         × (name .place + name .len ≤ length (now strings)) ⌝ }
     ensures { λ r.
         ⌜ Puts (chainText (now (styles .entry)) (now (strings .entry))
@@ -99,8 +98,7 @@ fn put_kept(
     n: usize,
     name: Span,
 ) -> Written
-    requires {
-        ⌜ Room at (now out) × Named (now styles) (now strings) 27 n × KeptReady (now styles) (now extras) (now strings) n
+    requires { ⌜ Room at (now out) × Named (now styles) (now strings) 27 n × KeptReady (now styles) (now extras) (now strings) n
         × (name .place + name .len ≤ length (now strings)) ⌝ }
     ensures { λ r.
         ⌜ Puts (keptText (now (styles .entry)) (now (extras .entry)) (now (strings .entry))

@@ -186,8 +186,12 @@ long-after t t′ at m w e h = ap length e ∙ (length-sets t at w ∙ h)
 
 -- ---- where they stand
 pub lists-from : {xs : List (Extra Placed)} {k n : ℕ} {t t′ : List ℕ} (r : Rows) → Collected xs k t t′ n → r ≡ rowsFrom k n → Lists xs k t t′ r
-lists-from {k = k} {n = n} r c e = record { rows = e ∙ rw (c .count); count = ap (λ (x : Rows). x .count) e ∙ (same k n ∙ sym (c .count)); laid = c
-    .laid }
+lists-from {k = k} {n = n} r c e = record {
+  rows = e ∙ rw (c .count);
+  count = ap (λ (x : Rows). x .count) e ∙ (same k n ∙ sym (c .count));
+  laid = c
+      .laid;
+}
   where
     same : (k n : ℕ) → rowsFrom k n .count ≡ n
     same k n = by-test (eqb n 0) (λ e. rw e (sym (eqb-true n 0 e))) (λ e. rw e)

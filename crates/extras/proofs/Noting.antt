@@ -57,7 +57,7 @@ module _ (list : Listed) (s : List ℕ) where
 -- the value of a name, the first attribute being in row k
 first-valued : (u z : List ℕ) (k n : ℕ) (l : List Attr) (y : Head u z k n l) (name : List ℕ)
     → valued withPlaces name (attrsIn z l) ≡ cond (sameFolded (nameAt u z k) name) (some (valueAt u z k))
-        (valued withPlaces name (attrsIn z (y .others)))
+    (valued withPlaces name (attrsIn z (y .others)))
 unfolding valued attribute firstThat attrsIn
 first-valued u z k n l y name =
     let a : Attr = y .head in
@@ -168,9 +168,12 @@ number-under list s (Number.At i) e = omega (arith, number-name list s i (sym e)
 pub none-on : (list : Listed) (rows : List ℕ) (e : ℕ) → NoneFrom list e rows → (number : Number) → NumberBelow (length (names list)) number
     → (r : ℕ) (e′ : ℕ) → e′ ≡ pastNumber number e → (rows′ : List ℕ) → rows′ ≡ withNote rows number r → NoneFrom list e′ rows′
 none-on list rows e w Number.Nothing b r e′ q rows′ v = rw (q, v) w
-none-on list rows e w (Number.At j) b r e′ q rows′ v = (rw q within, λ i h. rw v (by-test (eqb (getD rows j 0) 0)
-    (λ t. rw (t, getD-set-other rows j i r 0 (apart i h)) (w .1 i (old i h)))
-    (λ t. rw t (w .1 i (old i h)))))
+none-on list rows e w (Number.At j) b r e′ q rows′ v = (
+  rw q within,
+  λ i h. rw v (by-test (eqb (getD rows j 0) 0)
+      (λ t. rw (t, getD-set-other rows j i r 0 (apart i h)) (w .1 i (old i h)))
+      (λ t. rw t (w .1 i (old i h)))),
+)
   where
     within : cond (ltb j e) e (j + 1) ≤ length (names list)
     within = by-test (ltb j e) (λ t. rw t (w .0)) (λ t. rw t (omega arith))

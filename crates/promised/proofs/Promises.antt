@@ -167,7 +167,7 @@ module _ (n : Lengths) (m : ℕ) (t : Track Placed) where
         ← (r .cues),
         ← (r .times),
         ← (r .segments),
-          ← (r .sizes),
+        ← (r .sizes),
         ← (r .extras),
         ← (r .texts),
       )

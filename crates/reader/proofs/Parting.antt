@@ -149,6 +149,6 @@ module _ {s : List ℕ} {lent left : Tables} {r : Answer} {i j : ℕ} (p : Parse
         strings = (
           given-fits,
           blank-drop (left .strings) (length s)
-          (λ k h. g .holds .elsewhere k (past-all (spans f) 0 (length s) k (g .holds .in-order) h)),
+              (λ k h. g .holds .elsewhere k (past-all (spans f) 0 (length s) k (g .holds .in-order) h)),
         );
       }

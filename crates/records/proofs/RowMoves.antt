@@ -56,9 +56,15 @@ row-moved t t′ t″ end by i j m e long w =
     let to : (j + by) * 6 + 6 ≡ (i + by) * 6 = omega arith in
     let kept : (n : ℕ) → n < i * 6 → getD t′ n 0 ≡ getD t n 0 = λ n h. rw (m .is) (sets-other b t ((i + by) * 6) n (inl (omega arith))) in
     let row : part k (k + 6) t′ ≡ six t k =
-        part-six t′ k (omega (arith, m .low, m .room))
-        ∙ rw (kept k (omega arith), kept (k + 1) (omega arith), kept (k + 2) (omega arith), kept (k + 3) (omega arith), kept (k + 4) (omega arith),
-        kept (k + 5) (omega arith)) in
+    part-six t′ k (omega (arith, m .low, m .room))
+    ∙ rw (
+      kept k (omega arith),
+      kept (k + 1) (omega arith),
+      kept (k + 2) (omega arith),
+      kept (k + 3) (omega arith),
+      kept (k + 4) (omega arith),
+      kept (k + 5) (omega arith),
+    ) in
     record {
       low = omega (arith, m .low);
       room = m .room;

@@ -29,7 +29,11 @@ fn put(out: &mut [u8], at: usize, b: u8) -> usize {
 }
 
 fn put_flag(out: &mut [u8], at: usize, flag: bool) -> usize {
-    if flag { put(out, at, 1) } else { put(out, at, 0) }
+    if flag {
+        put(out, at, 1)
+    } else {
+        put(out, at, 0)
+    }
 }
 
 fn put_two(out: &mut [u8], at: usize, n: usize) -> usize {

@@ -42,7 +42,13 @@ fn main() {
 }
 
 // Every line of the list.
-fn replay(list: &[u8], cells: &mut [u32], times: &[i64], sizes: &mut [f32], bytes: &mut [u8]) -> Tally {
+fn replay(
+    list: &[u8],
+    cells: &mut [u32],
+    times: &[i64],
+    sizes: &mut [f32],
+    bytes: &mut [u8],
+) -> Tally {
     let mut tally = Tally {
         agree: 0,
         differ: 0,
@@ -58,7 +64,14 @@ fn replay(list: &[u8], cells: &mut [u32], times: &[i64], sizes: &mut [f32], byte
 }
 
 // A question counted, and printed if it differs; no other line counts.
-fn counted(tally: Tally, line: &[u8], cells: &[u32], times: &[i64], sizes: &[f32], bytes: &[u8]) -> Tally
+fn counted(
+    tally: Tally,
+    line: &[u8],
+    cells: &[u32],
+    times: &[i64],
+    sizes: &[f32],
+    bytes: &[u8],
+) -> Tally
     requires { ⌜ tally .agree + tally .differ < 2 ^ 63 ⌝ }
     ensures { λ r. ⌜ r .agree + r .differ ≤ tally .agree + tally .differ + 1 ⌝ }
 {

@@ -66,8 +66,8 @@ sets-halves w t t′ t″ i h r l m q f g =
     let n : length (take r w) ≡ r = length-take-le r w (omega arith) in
     let j : h ≡ length (take r w) + (h - r) = omega (arith, n) in
     let e : take h w ≡ take r w ++ take (h - r) (drop r w) =
-        ap (λ (v : List ℕ). take h v) (sym (take-append-drop r w)) ∙ ap (λ (k : ℕ). take k (take r w ++ drop r w)) j
-        ∙ take-append-add (take r w) (drop r w) (h - r) in
+    ap (λ (v : List ℕ). take h v) (sym (take-append-drop r w)) ∙ ap (λ (k : ℕ). take k (take r w ++ drop r w)) j
+    ∙ take-append-add (take r w) (drop r w) (h - r) in
     g ∙ ap (λ (v : List ℕ). sets t′ (i + r) v) (ap (λ (k : ℕ). take k (drop r w)) (sym (length-drop r w)) ∙ take-length (drop r w))
     ∙ ap (λ (v : List ℕ). sets v (i + r) (drop r w)) (f ∙ ap (λ (v : List ℕ). sets t i v) e)
     ∙ ap (λ (k : ℕ). sets (sets t i (take r w ++ take (h - r) (drop r w))) (i + k) (drop r w)) (sym n)

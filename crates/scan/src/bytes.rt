@@ -125,7 +125,11 @@ fn near_end(src: &[u8], pos: usize) -> usize
     requires { ⌜ pos ≤ length (now src) ⌝ }
     ensures { λ r. ⌜ (pos ≤ r) × (r ≤ length (now (src .entry))) ⌝ }
 {
-    if src.len() - pos < 8 { src.len() } else { pos + 8 }
+    if src.len() - pos < 8 {
+        src.len()
+    } else {
+        pos + 8
+    }
 }
 
 // Where the run ends: it is short as a rule, and may be long. Then the text is handed on as a part of its own, so that it

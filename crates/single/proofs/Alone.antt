@@ -223,8 +223,7 @@ module _ (h c : List ℕ) (m : List ℤ) (g y : List ℕ) {z : List ℕ} (ready 
             → y″ ≡ replicate (length y) 0 → CueOutcome (timedCue when (elementIn x)) z T (cueRest h c m s″ y″) (promise.Answer.Refused q)
         content-no q p when a b =
             let w = sym as-read ∙ p frame content in
-            let zero = ready .zero in
-            (
+            let zero = ready .zero in (
               rw w,
               record {
                 head = zero .head;

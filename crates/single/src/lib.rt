@@ -181,16 +181,6 @@ pub fn read_cue(
             number: 12,
             place: 0,
         }),
-        Found::Row(k) => read_p(
-            nodes,
-            attrs,
-            strings,
-            head,
-            cues,
-            times,
-            segments,
-            texts,
-            k,
-        ),
+        Found::Row(k) => read_p(nodes, attrs, strings, head, cues, times, segments, texts, k),
     }
 }

@@ -68,14 +68,18 @@ record Summed (h m s ms r : ℕ) : Type 0 where
 in-summed : (h m s ms : ℕ) → inMillis h m s ms < 360000000 → Summed h m s ms (inMillis h m s ms)
 in-summed h m s ms l = by-test (ltb h 100)
     (λ a. by-test (ltb m 60)
-      (λ b. by-test (ltb s 60)
-        (λ c. by-test (ltb ms 1000)
-          (λ d. rw (a, b, c, d) (record {
-              hours = ltb-true h 100 a; minutes = ltb-true m 60 b; seconds = ltb-true s 60 c; millis = ltb-true ms 1000 d; is = refl
-            }))
-          (λ d. absurd (omega (arith, rw (a, b, c, d) at l))))
-        (λ c. absurd (omega (arith, rw (a, b, c) at l))))
-      (λ b. absurd (omega (arith, rw (a, b) at l))))
+    (λ b. by-test (ltb s 60)
+    (λ c. by-test (ltb ms 1000)
+    (λ d. rw (a, b, c, d) (record {
+      hours = ltb-true h 100 a;
+      minutes = ltb-true m 60 b;
+      seconds = ltb-true s 60 c;
+      millis = ltb-true ms 1000 d;
+      is = refl;
+    }))
+    (λ d. absurd (omega (arith, rw (a, b, c, d) at l))))
+    (λ c. absurd (omega (arith, rw (a, b, c) at l))))
+    (λ b. absurd (omega (arith, rw (a, b) at l))))
     (λ a. absurd (omega (arith, rw a at l)))
 
 -- n bytes from a place on, one by one
@@ -104,7 +108,10 @@ module _ (s : List ℕ) (twelve : length s ≡ 12) where
         let e : r / 1000 % 60 ≡ twoAt s 6 = omega (arith, t .hours, t .minutes, t .seconds, t .millis, t .is) in
         let g : r % 1000 ≡ threeAt s 9 = omega (arith, t .hours, t .minutes, t .seconds, t .millis, t .is) in
         rw (
-          a, b, e, g,
+          a,
+          b,
+          e,
+          g,
           hours-two (twoAt s 0) (t .hours),
           two-written (getD s 0 0) (getD s 1 0) (twoAt s 0) refl (t .hours),
           two-written (getD s 3 0) (getD s 4 0) (twoAt s 3) refl (omega (arith, t .minutes)),
@@ -117,11 +124,11 @@ module _ (s : List ℕ) (twelve : length s ≡ 12) where
   pub usual-written : usualMillis s < 360000000 → s ≡ clockOfMillis (usualMillis s)
   usual-written h = by-test (eqb (getD s 2 0) 58)
       (λ c. by-test (eqb (getD s 5 0) 58)
-        (λ d. by-test (eqb (getD s 8 0) 46)
-          (λ p. marked-written (eqb-true (getD s 2 0) 58 c) (eqb-true (getD s 5 0) 58 d) (eqb-true (getD s 8 0) 46 p) (usualMillis s)
-            (rw (c, d, p) (in-summed (twoAt s 0) (twoAt s 3) (twoAt s 6) (threeAt s 9) (rw (c, d, p) at h))))
-          (λ p. absurd (omega (arith, rw (c, d, p) at h))))
-        (λ d. absurd (omega (arith, rw (c, d) at h))))
+      (λ d. by-test (eqb (getD s 8 0) 46)
+      (λ p. marked-written (eqb-true (getD s 2 0) 58 c) (eqb-true (getD s 5 0) 58 d) (eqb-true (getD s 8 0) 46 p) (usualMillis s)
+      (rw (c, d, p) (in-summed (twoAt s 0) (twoAt s 3) (twoAt s 6) (threeAt s 9) (rw (c, d, p) at h))))
+      (λ p. absurd (omega (arith, rw (c, d, p) at h))))
+      (λ d. absurd (omega (arith, rw (c, d) at h))))
       (λ c. absurd (omega (arith, rw c at h)))
 
 -- ... and so it is that time

@@ -94,4 +94,4 @@ inMillis h m s ms =
 abbrev pub usualMillis : List ℕ → ℕ
 usualMillis s =
     cond (eqb (getD s 2 0) 58) (cond (eqb (getD s 5 0) 58) (cond (eqb (getD s 8 0) 46)
-      (inMillis (twoAt s 0) (twoAt s 3) (twoAt s 6) (threeAt s 9)) other) other) other
+    (inMillis (twoAt s 0) (twoAt s 3) (twoAt s 6) (threeAt s 9)) other) other) other

@@ -9,7 +9,6 @@ use Rattle.track.specs.Track.{Bytes}
 use Rattle.track.specs.Track as track
 use Rattle.track.specs.Tables.{Tables, lengths, LongEnough}
 use Rattle.track.specs.Meaning.{trackIn}
-
 -- the same as a test of the lengths, and as the answer that the tests give (`proofs/Exactly`: it keeps the promise, and nothing else does)
 unfoldable pub use Rattle.track.specs.Steps.{rowsFull, restFull, isFull, refusedAs, checkOf}
 

@@ -184,12 +184,7 @@ pub fn check_track(
     ) {
         return refused(1);
     }
-    if !rest_full(
-        times.len(),
-        sizes.len(),
-        strings.len(),
-        texts.len(),
-    ) {
+    if !rest_full(times.len(), sizes.len(), strings.len(), texts.len()) {
         return refused(1);
     }
     if !within_limits(head) {

@@ -54,7 +54,12 @@ fn is_font(segments: &[u32], strings: &[u8], i: usize) -> bool
     let at = i * SEGMENT_CELLS;
     let marks = segments[at + 4];
     let place = scan::get(segments, at + 2);
-    if !crate::strings::is_optional(strings, (marks % 2) as usize, place, scan::get(segments, at + 3)) {
+    if !crate::strings::is_optional(
+        strings,
+        (marks % 2) as usize,
+        place,
+        scan::get(segments, at + 3),
+    ) {
         return false;
     }
     crate::marks::is_marked(marks, segments[at + 5])
@@ -149,7 +154,10 @@ pub fn segment_at(segments: &[u32], i: usize) -> Segment
             len: scan::get(segments, at + 3),
         }),
         BREAK => Segment::Break,
-        TIMESTAMP => Segment::Timestamp(crate::marks::time_from(segments[at + 2], segments[at + 3])),
+        TIMESTAMP => Segment::Timestamp(crate::marks::time_from(
+            segments[at + 2],
+            segments[at + 3],
+        )),
         BOLD => Segment::Bold,
         ITALIC => Segment::Italic,
         UNDERLINE => Segment::Underline,

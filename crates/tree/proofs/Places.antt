@@ -15,10 +15,63 @@ use Rattle.scan.specs.Bytes.{blank, textByte, nameByte, attrNameByte, other, ru
 use Rattle.scan.specs.Marks.{startsAt, seek, past}
 use Rattle.unicode.specs.Utf8.{utf8End}
 use Rattle.tree.specs.Trees.{Attr, Forest, nil, text, section, elem, join, Span, attrSpans, spans, InOrder}
-use Rattle.tree.specs.Read.{Out, got, nothing, bad, gt, equals, closeMark, commentMark, commentEnd, cdataMark, cdataEnd, piMark, piEnd,
-    declMark, quoteByte, skip, AttrOut, attr, flaw, quoted, bare, valueAt, attrAt, TagOut, opened, shut, torn, TagState, slash, attrNext, tagTurn,
-    tagFrom, startAt, Reader, commentTurn, pastComments, textAt, sectionAt, nodeHere, nodeAt, State, nodeNext, closeAt, innerTurn, outerTurn,
-    rowOf, fresh, enclose, tagged, elementBy, elementOf, contentOf, prologTurn, prologEnd, meaning}
+use Rattle.tree.specs.Read.{
+  Out,
+  got,
+  nothing,
+  bad,
+  gt,
+  equals,
+  closeMark,
+  commentMark,
+  commentEnd,
+  cdataMark,
+  cdataEnd,
+  piMark,
+  piEnd,
+  declMark,
+  quoteByte,
+  skip,
+  AttrOut,
+  attr,
+  flaw,
+  quoted,
+  bare,
+  valueAt,
+  attrAt,
+  TagOut,
+  opened,
+  shut,
+  torn,
+  TagState,
+  slash,
+  attrNext,
+  tagTurn,
+  tagFrom,
+  startAt,
+  Reader,
+  commentTurn,
+  pastComments,
+  textAt,
+  sectionAt,
+  nodeHere,
+  nodeAt,
+  State,
+  nodeNext,
+  closeAt,
+  innerTurn,
+  outerTurn,
+  rowOf,
+  fresh,
+  enclose,
+  tagged,
+  elementBy,
+  elementOf,
+  contentOf,
+  prologTurn,
+  prologEnd,
+  meaning,
+}
 use Rattle.scan.proofs.Searches.{seek-ind}
 use Rattle.scan.proofs.Runs.{run-low, run-high}
 use Rattle.tree.proofs.Tags.{starts-some}
@@ -127,7 +180,7 @@ Sought m s p r = (p ≤ r) × (r ≤ length s) × (r < length s → r + length m
 seek-in : (m s : List ℕ) (p : ℕ) → p ≤ length s → Sought m s p (seek m s p)
 seek-in m s p h =
     seek-ind m s (λ i. (p ≤ i) × (i ≤ length s)) (Sought m s p) (λ i l e j. (omega arith, omega arith))
-        (λ i l e j. (j .0, j .1, λ g. starts-whole s i m (j .1) e))
+    (λ i l e j. (j .0, j .1, λ g. starts-whole s i m (j .1) e))
     (λ i l j. (j .0, j .1, λ g. absurd (omega arith))) p (omega arith, h)
 
 past-in : (m s : List ℕ) (p : ℕ) → p ≤ length s → (seek m s p ≤ past m s p) × (past m s p ≤ length s)
@@ -178,7 +231,7 @@ module _ (s : List ℕ) (p e : ℕ) (h : p ≤ e) where
       let a : q + 1 ≤ v = run-low blank s (q + 1) in
       by-cond (AttrIn p s) (ltb v (length s)) _ _
       (λ w. by-cond (AttrIn p s) (quoteByte (getD s v 0)) _ _ (λ x. quoted-in (getD s v 0) v (omega arith) (ltb-true v (length s) w))
-          (λ x. bare-in v (omega arith) (ltb-true v (length s) w)))
+      (λ x. bare-in v (omega arith) (ltb-true v (length s) w)))
       (λ w. flaw-leaf s p 9 q)
 
 attr-in : (s : List ℕ) (p : ℕ) → p ≤ length s → AttrIn p s (attrAt s p)
@@ -190,7 +243,7 @@ attr-in s p h =
     let q : ℕ = skip s e in
     let d : e ≤ q = run-low blank s e in
     by-cond (AttrIn p s) (startsAt s q equals) _ _ (λ w. value-in s p e a q d (starts-some s q 61 [] w))
-        (λ w. attr-leaf s p e e 0 q a (omega arith) (omega arith) (run-high blank s e b))
+    (λ w. attr-leaf s p e e 0 q a (omega arith) (omega arith) (run-high blank s e b))
 
 -- ---- a start tag
 spans-attrs : (a b : List Attr) → attrSpans (a ++ b) ≡ attrSpans a ++ attrSpans b
@@ -210,14 +263,20 @@ slash-in : (lo : ℕ) (s : List ℕ) (p : ℕ) (x : TagState) → p < length s �
 unfolding slash TagIn
 slash-in lo s p x h i =
     by-cond (TagIn lo s) (startsAt s (skip s (p + 1)) gt) _ _
-    (λ w. (omega (arith, starts-some s (skip s (p + 1)) 62 [] w), in-higher (attrSpans (x .list)) lo p (skip s (p + 1) + 1)
-        (omega (arith, run-low blank s (p + 1))) (i .1))) (λ w. tt)
+    (λ w. (
+      omega (arith, starts-some s (skip s (p + 1)) 62 [] w),
+      in-higher (attrSpans (x .list)) lo p (skip s (p + 1) + 1)
+          (omega (arith, run-low blank s (p + 1))) (i .1),
+    )) (λ w. tt)
 
 next-in : (lo : ℕ) (s : List ℕ) (p : ℕ) (x : TagState) (o : AttrOut) → AttrIn p s o → TagInv lo s p x → Turned (TagInv lo s) (TagIn lo s)
     (attrNext x o)
 unfolding attrNext AttrIn TagIn
-next-in lo s p x (attr y q) d i = (d .0, rw (spans-attrs (x .list) (y ∷ []))
-    (in-append (attrSpans (x .list)) (attrSpans (y ∷ [])) lo p q (i .1) (d .1)))
+next-in lo s p x (attr y q) d i = (
+  d .0,
+  rw (spans-attrs (x .list) (y ∷ []))
+      (in-append (attrSpans (x .list)) (attrSpans (y ∷ [])) lo p q (i .1) (d .1)),
+)
 next-in lo s p x (flaw n q) d i = tt
 
 opened-in : (lo : ℕ) (s : List ℕ) (p : ℕ) (x : TagState) → p < length s → TagInv lo s p x → TagIn lo s (opened (x .list) (p + 1) (x .count))
@@ -234,7 +293,7 @@ tag-turn-in lo s p x h i =
     by-cond (Turned (TagInv lo s) (TagIn lo s)) (eqb (getD s p 0) 62) _ _ (λ e. opened-in lo s p x h i)
     (λ e. by-cond (Turned (TagInv lo s) (TagIn lo s)) (eqb (getD s p 0) 47) _ _ (λ f. slash-in lo s p x h i)
     (λ f. by-cond (Turned (TagInv lo s) (TagIn lo s)) (ltb (x .count) 8192) _ _ (λ g. next-in lo s p x (attrAt s p) (attr-in s p (omega arith)) i)
-        (λ g. torn-in lo s 7 p)))
+    (λ g. torn-in lo s 7 p)))
 
 tag-in : (s : List ℕ) (p a : ℕ) → p ≤ length s → TagIn p s (tagFrom s p (record { list = []; count = a }))
 unfolding tagFrom attrSpans
@@ -252,7 +311,7 @@ unfolding startAt
 start-in s p e a h =
     by-cond (TagIn e s) (eqb e (p + 1)) _ _ (λ w. torn-in e s 6 p)
     (λ w. tag-lower e (skip s e) s (tagFrom s (skip s e) (record { list = []; count = a })) (run-low blank s e)
-        (tag-in s (skip s e) a (run-high blank s e h)))
+    (tag-in s (skip s e) a (run-high blank s e h)))
 
 -- ---- a node
 unfoldable OutIn : ℕ → List ℕ → Out → Type 0
@@ -294,7 +353,7 @@ text-in s p k a h =
     let e : ℕ = runEnd textByte s p in
     let b : p ≤ e = run-low textByte s p in
     by-cond (OutIn p s) (ltb k 8192) _ _ (λ w. leaf-in p s p (e - p) e (k + 1) a (omega arith) (omega arith) (run-high textByte s p h) .0)
-        (λ w. bad-in p s 5 p)
+    (λ w. bad-in p s 5 p)
 
 section-in : (s : List ℕ) (p k a : ℕ) → p + 9 ≤ length s → OutIn p s (sectionAt s p k a)
 unfolding sectionAt
@@ -303,14 +362,14 @@ section-in s p k a h =
     let b : Sought cdataEnd s (p + 9) e = seek-in cdataEnd s (p + 9) h in
     let d : (e ≤ past cdataEnd s (p + 9)) × (past cdataEnd s (p + 9) ≤ length s) = past-in cdataEnd s (p + 9) h in
     by-cond (OutIn p s) (ltb k 8192) _ _ (λ w. leaf-in p s (p + 9) (e - (p + 9)) (past cdataEnd s (p + 9)) (k + 1) a (omega arith) (omega arith)
-        (d .1) .1) (λ w. bad-in p s 5 p)
+    (d .1) .1) (λ w. bad-in p s 5 p)
 
 comments-in : (s : List ℕ) (p : ℕ) → p ≤ length s → (p ≤ pastComments s p) × (pastComments s p ≤ length s)
 unfolding pastComments
 comments-in s p h =
     loop-keep (length s) (commentTurn s) _ (λ i x. (p ≤ i) × (i ≤ length s)) (λ r. (p ≤ r) × (r ≤ length s))
     (λ i x l j. by-cond (Turned {S = Unit {0}} (λ k y. (p ≤ k) × (k ≤ length s)) (λ r. (p ≤ r) × (r ≤ length s))) (startsAt s i commentMark) _ _
-        (λ e. beyond i l j) (λ e. j))
+    (λ e. beyond i l j) (λ e. j))
     (λ i x j. j) p tt (omega arith, h)
   where
     beyond : (i : ℕ) → i < length s → (p ≤ i) × (i ≤ length s) → (p ≤ past commentEnd s i) × (past commentEnd s i ≤ length s)
@@ -366,7 +425,7 @@ close-in lo s p x h i =
     let g : ℕ = runEnd (other 62) s p in
     let b : p ≤ g = run-low (other 62) s p in
     by-cond (OutIn lo s) (ltb g (length s)) _ _ (λ w. got-in lo s p (g + 1) x (omega arith) (omega (arith, ltb-true g (length s) w)) i)
-        (λ w. bad-in lo s 11 p)
+    (λ w. bad-in lo s 11 p)
 
 module _ (s : List ℕ) (el : Reader) (keeps : Keeps s el) (lo : ℕ) where
   outer-in : (p : ℕ) (x : State) → p < length s → RowInv lo s p x → Turned (RowInv lo s) (OutIn lo s) (outerTurn s el p x)
@@ -421,7 +480,7 @@ by-in s inner p k a h t =
     let e : ℕ = runEnd nameByte s (p + 1) in
     let b : p + 1 ≤ e = run-low nameByte s (p + 1) in
     by-cond (OutIn p s) (ltb k 8192) _ _ (λ w. tagged-in s inner p (e - (p + 1)) k e (startAt s p e a) (omega arith) t
-        (start-in s p e a (run-high nameByte s (p + 1) (omega arith)))) (λ w. bad-in p s 5 p)
+    (start-in s p e a (run-high nameByte s (p + 1) (omega arith)))) (λ w. bad-in p s 5 p)
 
 element-in : (d : ℕ) (s : List ℕ) → Keeps s (elementOf d s)
 unfolding elementOf

@@ -93,7 +93,6 @@ pub record Demand2 : Type 0 where
   -- "unused cells are zero": after a refusal all are
   pub parse-clears : (text : Bytes) (lent left : Tables) (answer : reader.Answer) → Parsed text lent answer left → 0 < numberOf answer
       → AllZero lent left
-
   -- `write` leaves the text of the track, and nothing else: no blank output; "18" exactly where it does not fit
   pub write-gives : (T : track.Tables) (t : Track Bytes) (out left : Bytes) (answer : writer.Answer) → track.LongEnough (track.lengths T)
       → trackIn T ≡ some t → length (writtenOf t) ≤ length out → length (writtenOf t) ≤ 65536 → Promise wholeText T out answer left
@@ -101,7 +100,6 @@ pub record Demand2 : Type 0 where
   pub write-full : (T : track.Tables) (out left : Bytes) (answer : writer.Answer) → Promise wholeText T out answer left
       → writing.numberOf answer ≡ 18
       → (t : Track Bytes) × (trackIn T ≡ some t) × (¬ ((length (writtenOf t) ≤ length out) × (length (writtenOf t) ≤ 65536)))
-
   -- "`resolve_referenced_style` gives no style exactly if no id reachable through chains names one."
   pub resolver-follows : (value : Bytes) (T : track.Tables) (t : Track Bytes) (lent left : List ℕ) (answer : Resolved) → trackIn T ≡ some t
       → ReferencedStyle value T lent answer left → query.numberOf answer ≡ 0

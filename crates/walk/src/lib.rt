@@ -56,15 +56,7 @@ pub fn plain_text(
                 to = next;
             }
         }
-        match plain_text(
-            segments,
-            texts,
-            i + 1,
-            rows - 1,
-            room - 1,
-            out,
-            to,
-        ) {
+        match plain_text(segments, texts, i + 1, rows - 1, room - 1, out, to) {
             Written::Full => {
                 return Written::Full;
             }

@@ -107,8 +107,7 @@ returns c =
     λ p x params many.
     let heads = rw (c14 .r .given .1) at (c24 .collect-head .ensures) in
     let ready = c41 .pre .1 .ready in
-    let z = c8 .clear-head .ensures in
-    (
+    let z = c8 .clear-head .ensures in (
       heads-no _ _ _ _ _ _ _ _ _ ready x (c29 .element-at .ensures) [] [] [] [] _ heads params (c41 .args .ctx),
       cleared-as _ _ _ _ _ _ _ _ _ ready (record {
         styles = blank-as (c23 .styles .given) 0 (z .0);
@@ -193,10 +192,9 @@ returns-2 c =
     let body = rw (c26 .r2 .given .1) at (c37 .collect-body .ensures) in
     let ready = c72 .pre .1 .ready in
     let z = c20 .clear-head2 .ensures in
-    let w = c7 .clear-body .ensures in
-    (
+    let w = c7 .clear-body .ensures in (
       body-no _ _ _ _ _ _ _ _ _ ready x row _ _ _ _ _ heads (c48 .extras .given) (c72 .args .ctx) (c43 .resolve-ws .result) mode
-      (five [] [] [] [] []) _ body params,
+          (five [] [] [] [] []) _ body params,
       cleared-as _ _ _ _ _ _ _ _ _ ready (record {
         styles = blank-as (c54 .styles .given) 0 (z .0);
         regions = blank-as (c52 .regions .given) 0 (z .1);

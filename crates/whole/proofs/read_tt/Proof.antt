@@ -88,8 +88,7 @@ returns-2 c =
     let c15 = c13 .before .before in
     let c28 = c15 .before .before .before .before .before .before .before .before .before .before .before .before .before in
     λ x.
-    let params = rw (c9 .count .given .1) at (c13 .collect-params .ensures) in
-    (
+    let params = rw (c9 .count .given .1) at (c13 .collect-params .ensures) in (
       rates-no x (c15 .element-at .ensures) _ _ _ params _ (rw (c5 .r .given .1) at (c7 .timing-of .ensures)),
       params-cleared (c28 .pre .ready .zero) (blank-as (c12 .params .given) 0 (c .before .before .clear2 .ensures)),
     )

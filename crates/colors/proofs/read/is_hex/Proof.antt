@@ -89,7 +89,7 @@ returns-6 c =
     let s = e .before .before .before .before .before .before .before .args .text .now in
     let first = sym (d .before .is-hex-digit .ensures) ∙ not-false _ (d .if5 .left) in
     let last : digitsOnly 16 (drop 7 s) ≡ hexAt s 7 =
-        rw (one-step s 7 8 refl (omega (arith, eight e)), no-more s 8 (omega (arith, eight e)), and-true) in
+    rw (one-step s 7 8 refl (omega (arith, eight e)), no-more s 8 (omega (arith, eight e)), and-true) in
     c .is-hex-digit2 .ensures ∙ sym (from-seventh (e .before) ∙ (one-step s 6 7 refl (omega (arith, eight e)) ∙ rw first last))
 
 pub is-hex-spec : {M : Type 1} → statement M

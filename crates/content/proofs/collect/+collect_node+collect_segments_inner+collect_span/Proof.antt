@@ -109,16 +109,37 @@ collect-span-below t =
     collect-span.Pre
 
 abbrev node : ℕ → collect-node-lts.Claims
-node t = (collect-text-reads.Asked, collect-text-reads.Learnt, element-at-reads.Asked, element-at-reads.Learnt, is-element-reads.Asked,
-    is-element-reads.Learnt, collect-break-reads.Asked, collect-break-reads.Learnt, collect-span-below t, collect-span.Post,
-    collect-segments-inner-below t, collect-segments-inner.Post)
+node t = (
+  collect-text-reads.Asked,
+  collect-text-reads.Learnt,
+  element-at-reads.Asked,
+  element-at-reads.Learnt,
+  is-element-reads.Asked,
+  is-element-reads.Learnt,
+  collect-break-reads.Asked,
+  collect-break-reads.Learnt,
+  collect-span-below t,
+  collect-span.Post,
+  collect-segments-inner-below t,
+  collect-segments-inner.Post,
+)
 
 abbrev siblings : ℕ → collect-segments-inner-lts.Claims
 siblings t = (collect-node-below t, collect-node.Post, get-reads.Asked, get-reads.Learnt)
 
 abbrev span : ℕ → collect-span-lts.Claims
-span t = (element-at-reads.Asked, element-at-reads.Learnt, begin-of-reads.Asked, begin-of-reads.Learnt, resolve-ws-reads.Asked,
-    resolve-ws-reads.Learnt, collect-segments-inner-below t, collect-segments-inner.Post, wrap-with-style-reads.Asked, wrap-with-style-reads.Learnt)
+span t = (
+  element-at-reads.Asked,
+  element-at-reads.Learnt,
+  begin-of-reads.Asked,
+  begin-of-reads.Learnt,
+  resolve-ws-reads.Asked,
+  resolve-ws-reads.Learnt,
+  collect-segments-inner-below t,
+  collect-segments-inner.Post,
+  wrap-with-style-reads.Asked,
+  wrap-with-style-reads.Learnt,
+)
 
 collect-node-mul-if1 : (t : ℕ) → collect-node-lts.Need-mul-if1 (node t) (collect-node-at t) collect-node.Post
 collect-node-mul-if1 t c =
@@ -160,7 +181,7 @@ collect-node-returns t c =
     let a = c14 .args in
     let v = c4 .collect-text .last .1 .1 in
     text-came w (a .nodes .now) (a .attrs .now) (a .strings .now) (a .base) (a .ctx) (a .ws) (a .k) (x .own) end (a .first) (x .hi) (a .run)
-        (x .earlier)
+    (x .earlier)
     (x .before) (a .segments .now) (a .texts .now) (v .0) (v .1 .0)
     (c4 .collect-text .result) (x .forest) (x .holds, x .rows, x .placed, x .standing, x .flag) j (c7 .if1 .taken) (c4 .collect-text .ensures)
 
@@ -204,7 +225,7 @@ collect-node-returns-2 t c =
     let a = c18 .args in
     let v = c4 .collect-break .last in
     break-came w (a .nodes .now) (a .attrs .now) (a .strings .now) (a .base) (a .ctx) (a .ws) (a .k) (x .own) end (a .first) (x .hi) (a .run)
-        (x .earlier)
+    (x .earlier)
     (x .before) (a .segments .now) (a .texts .now) (v .0) (v .1 .0)
     (c4 .collect-break .result) (x .forest) (x .holds, x .rows, x .placed, x .standing, x .flag) j (c10 .element-at .result)
     (c10 .element-at .ensures)
@@ -227,8 +248,7 @@ collect-node-collect-span-requires t c κs =
     let c5 = c3 .before .before in
     let c6 = c5 .before in
     let c16 = c6 .before .before .before .before .before .before .before .before .before .before in
-    let p = c16 .pre .1 in
-    (
+    let p = c16 .pre .1 in (
       omega (arith, c16 .pre .0),
       record {
         first = c16 .args .first;
@@ -248,7 +268,7 @@ collect-node-returns-3 : (t : ℕ) → collect-node-lts.Need-returns-3 (node t) 
 collect-node-returns-3 t c =
     let c4 = c .before .before .before .before in
     let s = c4 .before .before .before .before .before .before .before .before .before .before .before .before .before .before .before .before
-        .before in
+    .before in
     rw (toZ-ofZ (s .fits .base)) at (c4 .collect-span .ensures) (s .args .first)
 
 collect-node-add-collect-segments-inner :
@@ -291,7 +311,7 @@ collect-node-returns-4 t c =
     let a = c21 .args in
     let v = c4 .collect-segments-inner .last .1 .1 .1 in
     unknown-came w (a .nodes .now) (a .attrs .now) (a .strings .now) (a .base) (a .ctx) (a .ws) (a .k) (x .own) end (a .first) (x .hi) (a .run)
-        (x .earlier)
+    (x .earlier)
     (x .before) (a .segments .now) (a .texts .now) j (c13 .element-at .result) (c13 .element-at .ensures)
     (sym (c11 .is-element .ensures) ∙ c10 .if2 .left) (x .forest) (x .holds, x .rows, x .placed, x .standing, x .flag) (c14 .if1 .left)
     (sym (c8 .is-element2 .ensures) ∙ c7 .if3 .left) (v .0) (v .1 .0) (c4 .collect-segments-inner .result)
@@ -421,8 +441,8 @@ collect-segments-inner-loop-again t c =
     let c₂ : length (v .1 .0) ≡ length (i .texts) = search needs in
     rw (c .get .ensures)
     (along-step (c .before .before .before .before .before .before .before .before .before .before .before .before .before .before .before
-        .before .before .before .pre .1) (i .inv) (c .before .before .before .before .before .before .before .before .before .before
-            .before .loop-test .taken) (v .0) (v .1 .0)
+    .before .before .before .pre .1) (i .inv) (c .before .before .before .before .before .before .before .before .before .before
+    .before .loop-test .taken) (v .0) (v .1 .0)
     (rw (c .before .before .t .given .1) at (c .before .before .before .before .before .before .before .before .collect-node .ensures)) c₁ c₂)
 
 collect-segments-inner-same-length-3 : (t : ℕ) → collect-segments-inner-lts.Need-same-length-3 (siblings t)
@@ -496,20 +516,19 @@ collect-span-enum-known-inner t c = search needs
 collect-span-wrap-with-style-requires : (t : ℕ) → collect-span-lts.Need-wrap-with-style-requires (span t) (collect-span-at t) collect-span.Post
 collect-span-wrap-with-style-requires t c κs =
     let p = c .before .before .before .before .before .before .before .before .before .before .before .before .before .before .before .before
-        .before .before .before .before .before .before .before .before .pre .1 in
+    .before .before .before .before .before .before .before .before .pre .1 in
     let q = p .node in
     let kind = element-kind _ _ _ _ (p .a-span) in
     let v = c .before .before .before .before .before .before .before .before .before .collect-segments-inner .last .1 .1 .1 in
     let asks = own-asks (c .before .before .before .before .before .before .before .before .before .before .before .before .before .before
-        .before .before .before .before .element-at .result) q kind (c .before .before .before .before .before .before .before .before .before
-            .before .before .before .before .before .before .before .before .before .element-at .ensures) in
+    .before .before .before .before .element-at .result) q kind (c .before .before .before .before .before .before .before .before .before
+    .before .before .before .before .before .before .before .before .before .element-at .ensures) in
     let more = post-more (c .before .before .before .inner .given .0 .0) asks (rw (c .before .before .before .inner .given .1) at (c .before
-        .before .before .before .before .before .before .before .before .collect-segments-inner .ensures)) in
-    let wide : 98304 ≤ length (v .0) = search (needs, q .roomy .wide) in
-    (
+    .before .before .before .before .before .before .before .before .collect-segments-inner .ensures)) in
+    let wide : 98304 ≤ length (v .0) = search (needs, q .roomy .wide) in (
       node-attrs (c .before .before .before .before .before .before .before .before .before .before .before .before .before .before .before
           .before .before .before .element-at .result) q kind (c .before .before .before .before .before .before .before .before .before
-              .before .before .before .before .before .before .before .before .before .element-at .ensures),
+          .before .before .before .before .before .before .before .before .before .element-at .ensures),
       more .0,
       more .1,
       wide,
@@ -526,7 +545,7 @@ collect-span-returns t c =
     let a = c10 .args in
     let b = rw (toZ-ofZ (c10 .fits .base)) at (c3 .begin-of .ensures) in
     span-refused w (a .nodes .now) (a .attrs .now) (a .strings .now) (a .base) (a .ctx) (a .ws) (a .k) (x .own) end first (x .hi) (a .run)
-        (x .earlier)
+    (x .earlier)
     (x .before) (a .segments .now) (a .texts .now) j (c4 .element-at .result) (c4 .element-at .ensures)
     (p .no-break)
     (p .a-span) (x .forest) (x .holds, x .rows, x .placed, x .standing, x .flag) (c .before .r .given .0 .0) (λ l o. sym

@@ -40,7 +40,7 @@ returns c =
     let y = v .1 .0 in
     let a = c15 .args in
     content-no (a .base) (a .ctx) (a .ws) s y (c .before .r .given .0 .0) (rw (c .before .r .given .1, toZ-ofZ (c15 .fits .base)) at
-        (c7 .collect-segments-inner .ensures)) s y
+    (c7 .collect-segments-inner .ensures)) s y
 
 same-length-3 : tie.Need-same-length-3
 same-length-3 c = search needs

@@ -72,7 +72,7 @@ returns-2 c =
     let w = five (a .cues .now) (a .times .now) (a .segments .now) (a .extras .now) (a .texts .now) in
     body-refused (a .nodes .now) (a .attrs .now) (a .strings .now) (a .from) (a .end) (a .ctx) (a .ws) (a .rows) w
     (c6 .k .given .0 .0) h (e .result) (e .ensures) w (c .before .r .given .0 .0) (λ l o. rw (c .before .r .given .1) at (c .before .before
-        .before .begin-of .ensures l o))
+    .before .begin-of .ensures l o))
 
 same-length : tie.Need-same-length
 same-length c = search needs

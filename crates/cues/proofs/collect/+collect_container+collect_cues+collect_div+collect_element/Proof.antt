@@ -187,7 +187,7 @@ collect-container-add-collect-cues : (t : ℕ) → collect-container-lts.Need-ad
     (collect-container-at t) collect-container.Post
 collect-container-add-collect-cues t c =
     let h = child-room (c .before .before .before .before .before .before .before .before .before .before .before .before .before .before
-        .before .pre .1 .child) in
+    .before .pre .1 .child) in
     search (needs, h)
 
 collect-container-collect-cues-requires : (t : ℕ) → collect-container-lts.Need-collect-cues-requires (container t)
@@ -288,7 +288,7 @@ collect-cues-shared-slice-read-if1 : (t : ℕ) → collect-cues-lts.Need-shared-
     (collect-cues-at t) collect-cues.Post collect-cues-Inv-loop collect-cues-μ-loop
 collect-cues-shared-slice-read-if1 t c =
     let h = walked-row (c .before .before .before .before .before .before .before .before .before .before .before .pre .1) (c .before .before
-        .before .loop .inv) (c .before .before .loop-test .taken) in
+    .before .loop .inv) (c .before .before .loop-test .taken) in
     search (needs, h)
 
 collect-cues-loop-less : (t : ℕ) → collect-cues-lts.Need-loop-less (siblings t) (collect-cues-at t) collect-cues.Post collect-cues-Inv-loop
@@ -378,7 +378,7 @@ collect-cues-loop-less-2 : (t : ℕ) → collect-cues-lts.Need-loop-less-2 (sibl
     collect-cues-μ-loop
 collect-cues-loop-less-2 t c =
     let c24 = c .before .before .before .before .before .before .before .before .before .before .before .before .before .before .before
-        .before .before .before .before .before .before .before .before .before in
+    .before .before .before .before .before .before .before .before .before in
     let c25 = c24 .before in
     let c26 = c25 .before in
     let c34 = c26 .before .before .before .before .before .before .before .before in
@@ -389,9 +389,9 @@ collect-cues-loop-again-2 : (t : ℕ) → collect-cues-lts.Need-loop-again-2 (si
     collect-cues-μ-loop
 collect-cues-loop-again-2 t c =
     let l = c .before .before .before .before .before .before .before .before .before .before .before .before .before .before .before .before
-        .before .before .before .before .before .before .before .before .before .before .loop in
+    .before .before .before .before .before .before .before .before .before .before .loop in
     let d = c .before .before .before .before .before .before .before .before .before .before .before .before .before .before .before
-        .before .collect-element in
+    .before .collect-element in
     let v = d .last .1 .1 .1 in
     let c₁ : length (v .0) ≡ length (l .cues) = search needs in
     let c₂ : length (v .1 .0) ≡ length (l .times) = search needs in
@@ -399,8 +399,8 @@ collect-cues-loop-again-2 t c =
     let c₄ : length (v .1 .1 .1 .0) ≡ length (l .extras) = search needs in
     let c₅ : length (v .1 .1 .1 .1 .0) ≡ length (l .texts) = search needs in
     let s = c .before .before .before .before .before .before .before .before .before .before .before .before .before .before .before .before
-        .before .before .before .before .before .before .before .before .before .before .before .before .before .before .before .before
-            .before .before in
+    .before .before .before .before .before .before .before .before .before .before .before .before .before .before .before .before
+    .before .before in
     let x = c .before .before .before .before .before .t .given .0 .0 in
     let f = c .before .before .following in
     let g = c .later in
@@ -468,7 +468,7 @@ collect-div-enum-known-start t c = search needs
 collect-div-collect-container-requires : (t : ℕ) → collect-div-lts.Need-collect-container-requires (div t) (collect-div-at t) collect-div.Post
 collect-div-collect-container-requires t c κs =
     let c17 = c .before .before .before .before .before .before .before .before .before .before .before .before .before .before .before
-        .before .before in
+    .before .before in
     (omega (arith, c17 .pre .0), c17 .pre .1)
 
 collect-div-enum-known-r-2 : (t : ℕ) → collect-div-lts.Need-enum-known-r-2 (div t) (collect-div-at t) collect-div.Post
@@ -480,7 +480,7 @@ collect-div-enum-known-inner t c = search needs
 collect-div-close-div-requires : (t : ℕ) → collect-div-lts.Need-close-div-requires (div t) (collect-div-at t) collect-div.Post
 collect-div-close-div-requires t c κs =
     let c22 = c .before .before .before .before .before .before .before .before .before .before .before .before .before .before .before
-        .before .before .before .before .before .before .before in
+    .before .before .before .before .before .before .before in
     let c30 = c22 .before .before .before .before .before .before .before .before in
     child-attrs (c30 .pre .1 .child) (c22 .element-at .result) (c22 .element-at .ensures)
 
@@ -619,7 +619,7 @@ collect-element-collect-paragraph-requires : (t : ℕ) → collect-element-lts.N
     (collect-element-at t) collect-element.Post
 collect-element-collect-paragraph-requires t c κs =
     let c18 = c .before .before .before .before .before .before .before .before .before .before .before .before .before .before .before
-        .before .before .before in
+    .before .before .before in
     c18 .pre .1
 
 collect-element-same-length-6 : (t : ℕ) → collect-element-lts.Need-same-length-6 (element t) (collect-element-at t) collect-element.Post
@@ -663,7 +663,7 @@ collect-element-resolve-ws-requires t c κs =
 collect-element-add-collect-cues : (t : ℕ) → collect-element-lts.Need-add-collect-cues (element t) (collect-element-at t) collect-element.Post
 collect-element-add-collect-cues t c =
     let h = child-room (c .before .before .before .before .before .before .before .before .before .before .before .before .before .before
-        .before .before .before .before .before .before .pre .1 .child) in
+    .before .before .before .before .before .before .pre .1 .child) in
     search (needs, h)
 
 collect-element-collect-cues-requires : (t : ℕ) → collect-element-lts.Need-collect-cues-requires (element t)

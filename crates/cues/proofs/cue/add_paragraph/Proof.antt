@@ -73,7 +73,7 @@ enum-known-n c = search needs
 add-t37 : tie.Need-add-t37
 add-t37 c =
     let c21 = c .before .before .before .before .before .before .before .before .before .before .before .before .before .before .before
-        .before .before .before .before .before .before in
+    .before .before .before .before .before .before in
     let c27 = c21 .before .before .before .before .before .before in
     omega (arith, c21 .collect-p-inline-extras .ensures .0, c27 .pre)
 

@@ -26,8 +26,7 @@ returns-2 : tie.Need-returns-2
 returns-2 c =
     let a = c .before .before .before .before .args in
     let t = a .segments .now in
-    let p = c .before .before .before .before .pre in
-    (
+    let p = c .before .before .before .before .pre in (
       λ pre rest f l e n.
           bare-more t pre rest f (a .first) (a .end) l e n (omega (arith, n, p .0, c .before .before .if1 .left))
           (λ g. omega (arith, g, n, c .if2 .taken, c .before .get .ensures)),
@@ -61,8 +60,7 @@ returns-4 c =
     let c7 = c5 .before .before in
     let a = c7 .args in
     let t = a .segments .now in
-    let p = c7 .pre in
-    (
+    let p = c7 .pre in (
       λ pre rest f l e n.
           bare-read t pre rest f (a .first) (a .end) l e n (omega (arith, n, p .0, c5 .if1 .left))
           (omega (arith, n, c .before .before .before .if2 .left, c .before .before .before .before .get .ensures)) (c .before .if3 .left),

@@ -30,7 +30,7 @@ put-paragraph-requires c κs =
     let c9 = c5 .before .before .before .before in
     let p = c9 .pre in
     let w = rw (c .before .before .before .w .given .1) at
-        (c5 .wrappers-of .ensures .0) in
+    (c5 .wrappers-of .ensures .0) in
     let f = c .around .ensures .0 in
     (p .1, p .2, p .3, rw f (omega (arith, w, p .4), omega (arith, w, p .4)))
 
@@ -56,17 +56,17 @@ returns-2 c =
     let z = a .strings .now in
     let w = c7 .w .given .0 .0 in
     let e = rw (c7 .w .given .1) at
-        (c9 .wrappers-of .ensures .1
-        l o) in
+    (c9 .wrappers-of .ensures .1
+    l o) in
     let fits = rw (c7 .w .given .1) at
-        (c9 .wrappers-of .ensures
-        .0) in
+    (c9 .wrappers-of .ensures
+    .0) in
     let v = c .before .before .before .put-paragraph .last in
     rw (c .answer .ensures)
     (wrap-dressed (attrsIn z l) (wrappersIn z w) (a .e .place) (a .first) (a .end) (a .segments .now)
     (v .0) (c .before .before .before .put-paragraph .result) e
     (rw (c .before .before .before .before .around .ensures .1 z fits) at
-        (c .before .before .before .put-paragraph .ensures)))
+    (c .before .before .before .put-paragraph .ensures)))
 
 pub wrap-paragraph-spec : {M : Type 1} → statement M
 wrap-paragraph-spec =

@@ -129,7 +129,7 @@ put-digits-requires-2 c κs =
         arith,
         room-point (c14 .args .s .negative)
             (c14 .args .s .digits) (c14 .args .s .scale) (c14 .args .at) (c14 .args .out .now) (c12 .if1 .start) (c12 .if1 .out) (begun (c12))
-                (c14 .pre .0)
+            (c14 .pre .0)
             (c7 .put-digits .last .0) (c7 .put-digits .result) (wrote (c7)) (c3 .if2 .left),
         long-two (c14 .args .s .negative) (c14 .args .s .digits)
             (c14 .args .s .scale) (c14 .args .at) (c14 .args .out .now) (c12 .if1 .start) (c12 .if1 .out) (begun (c12)) (c14 .pre .0)

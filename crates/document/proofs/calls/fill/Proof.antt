@@ -61,11 +61,11 @@ same-length-2 c = search needs
 returns-2 : tie.Need-returns-2
 returns-2 c =
     let p = rw (c .before .before .before .before .before .enum-told .given .1) at
-        (c .before .before .before .before .before .before .before .before .before .write-document .ensures) in
+    (c .before .before .before .before .before .before .before .before .before .write-document .ensures) in
     fit-full _ _ _ (c .before .before .before .before .before .before .before .before .before .before .before .before .before .before .before
-        .before .before .before .before .before .before .before .before .pre .1)
-        (c .before .before .before .before .before .before .before .before .before .before .before .limit .ensures) _ _ _ (c .refused .ensures) p
-        (c .before .before .before .clear-bytes .ensures)
+    .before .before .before .before .before .before .before .before .pre .1)
+    (c .before .before .before .before .before .before .before .before .before .before .before .limit .ensures) _ _ _ (c .refused .ensures) p
+    (c .before .before .before .clear-bytes .ensures)
 
 pub fill-spec : {M : Type 1} → statement M
 fill-spec =

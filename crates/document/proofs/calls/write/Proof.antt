@@ -33,10 +33,12 @@ enum-told c = search needs
 fill-requires : tie.Need-fill-requires
 fill-requires c κs =
     let t = checked _ _ _ (c .before .before .before .check-track .ensures) (c .before .enum-told .given .1) in
-    let a = accepted _ t in
-    (whole-ready _ (a .0) (a .1), clear-self _ (length (c .before .before .before .before .before .before .before .before .before .before .before
-        .before .before .before .before .before .before .before .before .args .out .now))
-        (c .before .before .before .before .before .before .clear-bytes .ensures))
+    let a = accepted _ t in (
+      whole-ready _ (a .0) (a .1),
+      clear-self _ (length (c .before .before .before .before .before .before .before .before .before .before .before
+          .before .before .before .before .before .before .before .before .args .out .now))
+          (c .before .before .before .before .before .before .clear-bytes .ensures),
+    )
 
 -- src/calls.rt:118:1
 same-length : tie.Need-same-length
@@ -56,10 +58,10 @@ same-length-2 c = search needs
 returns-2 : tie.Need-returns-2
 returns-2 c =
     let t = checked _ _ _ (c .before .before .before .before .before .before .check-track .ensures)
-        (c .before .before .before .before .enum-told .given .1) in
+    (c .before .before .before .before .enum-told .given .1) in
     let a = accepted _ t in
     let e = ap length (c .before .before .before .before .before .before .before .before .before .clear-bytes .ensures) ∙ length-replicate {A = ℕ}
-        _ 0 in
+    _ 0 in
     promise-done _ _ _ _ (a .0) (a .1) _ refl _ _ e (c .before .before .fill .ensures)
 
 pub write-spec : {M : Type 1} → statement M

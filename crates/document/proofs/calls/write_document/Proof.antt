@@ -34,11 +34,15 @@ get-requires-2 c κs = search needs
 
 -- src/calls.rt:46:9
 write-head-requires : tie.Need-write-head-requires
-write-head-requires c κs = (rw (c .before .before .get .ensures) (c .before .before .before .before .before .before .before .before .before .before
-    .before .before .before .before .before .before .before .before .before .before .before .before .before .pre .0 .styles), rw
-    (c .before .get2 .ensures) (c .before .before .before .before .before .before .before .before .before .before .before .before .before .before
-    .before .before .before .before .before .before .before .before .before .pre .0 .regions), c .before .before .before .before .before
-    .write-root .ensures .room)
+write-head-requires c κs = (
+  rw (c .before .before .get .ensures) (c .before .before .before .before .before .before .before .before .before .before
+      .before .before .before .before .before .before .before .before .before .before .before .before .before .pre .0 .styles),
+  rw
+      (c .before .get2 .ensures) (c .before .before .before .before .before .before .before .before .before .before .before .before .before .before
+      .before .before .before .before .before .before .before .before .before .pre .0 .regions),
+  c .before .before .before .before .before
+      .write-root .ensures .room,
+)
 
 -- src/calls.rt:47:33
 slice-aggregate-put-2 : tie.Need-slice-aggregate-put-2
@@ -52,14 +56,17 @@ put-requires-2 c κs = search needs
 get-requires-3 : tie.Need-get-requires-3
 get-requires-3 c κs =
     let h = c .before .before .before .before .before .before .before .before .before .before .before .before .before .before .before .before
-        .before .before .before .before .before .before .before .before .before .before .before .before .before .before .before .pre .0 .root .head in
+    .before .before .before .before .before .before .before .before .before .before .before .before .before .before .before .pre .0 .root .head in
     search (needs, h)
 
 -- src/calls.rt:48:9
 write-cues-requires : tie.Need-write-cues-requires
-write-cues-requires c κs = (rw (c .before .get3 .ensures) (c .before .before .before .before .before .before .before .before .before .before
-    .before .before .before .before .before .before .before .before .before .before .before .before .before .before .before .before .before .before
-    .before .before .before .before .before .pre .0 .cues), c .before .before .before .before .put2 .ensures .room)
+write-cues-requires c κs = (
+  rw (c .before .get3 .ensures) (c .before .before .before .before .before .before .before .before .before .before
+      .before .before .before .before .before .before .before .before .before .before .before .before .before .before .before .before .before .before
+      .before .before .before .before .before .pre .0 .cues),
+  c .before .before .before .before .put2 .ensures .room,
+)
 
 -- src/calls.rt:61:25
 slice-aggregate-put-3 : tie.Need-slice-aggregate-put-3
@@ -73,33 +80,36 @@ put-requires-3 c κs = search needs
 same-length : tie.Need-same-length
 same-length c =
     let p = puts-then (c .before .before .before .before .before .before .before .before .before .before .before .before .before .before .before
-        .before .before .before .before .before .before .before .before .before .before .before .before .put .ensures)
-        (puts-then (c .before .before .before .before .before .before .before .before .before .before .before .before .before .before .before
-        .before .before .before .before .before .before .before .before .write-root .ensures)
-        (puts-then (c .before .before .before .before .before .before .before .before .before .before .before .before .before .before .before
-        .before .before .write-head .ensures) (puts-then (c .before .before .before .before .before .before .before .before .before .before .before
-        .before .put2 .ensures)
-      (puts-then (c .before .before .before .before .before .before .before .write-cues .ensures) (c .before .before .put3 .ensures))))) in
+    .before .before .before .before .before .before .before .before .before .before .before .before .put .ensures)
+    (puts-then (c .before .before .before .before .before .before .before .before .before .before .before .before .before .before .before
+    .before .before .before .before .before .before .before .before .write-root .ensures)
+    (puts-then (c .before .before .before .before .before .before .before .before .before .before .before .before .before .before .before
+    .before .before .write-head .ensures) (puts-then (c .before .before .before .before .before .before .before .before .before .before .before
+    .before .put2 .ensures)
+    (puts-then (c .before .before .before .before .before .before .before .write-cues .ensures) (c .before .before .put3 .ensures))))) in
     let q = p .kept in
     search (needs, q)
 
 -- src/calls.rt:15:1
 returns : tie.Need-returns
 returns c =
-    let h = rw (c .before .before .before .before .before .before .before .before .before .before .before .before .before .before .before .before
-        .before .before .before .before .get .ensures, c .before .before .before .before .before .before .before .before .before .before .before
-        .before .before .before .before .before .before .before .before .get2 .ensures) at
-        (c .before .before .before .before .before .before .before .before .before .before .before .before .before .before .before .before .before
-        .write-head .ensures) in
+    let h = rw (
+      c .before .before .before .before .before .before .before .before .before .before .before .before .before .before .before .before
+          .before .before .before .before .get .ensures,
+      c .before .before .before .before .before .before .before .before .before .before .before
+          .before .before .before .before .before .before .before .before .get2 .ensures,
+    ) at
+    (c .before .before .before .before .before .before .before .before .before .before .before .before .before .before .before .before .before
+    .write-head .ensures) in
     let l = rw (c .before .before .before .before .before .before .before .before .before .get3 .ensures) at
-        (c .before .before .before .before .before .before .before .write-cues .ensures) in
+    (c .before .before .before .before .before .before .before .write-cues .ensures) in
     whole-puts _ _ _ _ _
     (puts-then (c .before .before .before .before .before .before .before .before .before .before .before .before .before .before .before .before
-        .before .before .before .before .before .before .before .before .before .before .before .put .ensures)
-        (puts-then (c .before .before .before .before .before .before .before .before .before .before .before .before .before .before .before
-        .before .before .before .before .before .before .before .before .write-root .ensures)
-        (puts-then h (puts-then (c .before .before .before .before .before .before .before .before .before .before .before .before .put2 .ensures)
-        (puts-then l (c .before .before .put3 .ensures))))))
+    .before .before .before .before .before .before .before .before .before .before .before .put .ensures)
+    (puts-then (c .before .before .before .before .before .before .before .before .before .before .before .before .before .before .before
+    .before .before .before .before .before .before .before .before .write-root .ensures)
+    (puts-then h (puts-then (c .before .before .before .before .before .before .before .before .before .before .before .before .put2 .ensures)
+    (puts-then l (c .before .before .put3 .ensures))))))
 
 pub write-document-spec : {M : Type 1} → statement M
 write-document-spec =

@@ -38,8 +38,12 @@ add-get c =
 
 -- src/itts.rt:69:13
 get-requires : tie.Need-get-requires Inv-loop μ-loop
-get-requires c κs = omega (arith, row-within _ _ _ _ (c .loop-test .taken) (c .before .before .before .before .before .pre .rows), c .before
-    .before .before .before .before .pre .two)
+get-requires c κs = omega (
+  arith,
+  row-within _ _ _ _ (c .loop-test .taken) (c .before .before .before .before .before .pre .rows),
+  c .before
+      .before .before .before .before .pre .two,
+)
 
 -- src/itts.rt:70:38
 mul-get-2 : tie.Need-mul-get-2 Inv-loop μ-loop
@@ -63,8 +67,12 @@ add-get-3 c =
 
 -- src/itts.rt:70:13
 get-requires-2 : tie.Need-get-requires-2 Inv-loop μ-loop
-get-requires-2 c κs = omega (arith, row-within _ _ _ _ (c .before .loop-test .taken)
-    (c .before .before .before .before .before .before .pre .rows), c .before .before .before .before .before .before .pre .two)
+get-requires-2 c κs = omega (
+  arith,
+  row-within _ _ _ _ (c .before .loop-test .taken)
+      (c .before .before .before .before .before .before .pre .rows),
+  c .before .before .before .before .before .before .pre .two,
+)
 
 -- src/itts.rt:71:12
 holds-itts-requires : tie.Need-holds-itts-requires Inv-loop μ-loop
@@ -78,9 +86,9 @@ returns : tie.Need-returns Inv-loop μ-loop
 unfolding ittsRow cell
 returns c =
     let e = rw (c .before .before .before .get .ensures, c .before .before .get2 .ensures) at
-        (sym (c .before .holds-itts .ensures) ∙ c .if1 .taken) in
+    (sym (c .before .holds-itts .ensures) ∙ c .if1 .taken) in
     sym (searching-found _ _ _ _ (c .before .before .before .before .before .loop .inv)
-        (omega (arith, c .before .before .before .before .loop-test .taken)) e)
+    (omega (arith, c .before .before .before .before .loop-test .taken)) e)
 
 -- src/itts.rt:74:9
 add-i : tie.Need-add-i Inv-loop μ-loop
@@ -96,7 +104,7 @@ unfolding ittsRow cell
 loop-again c =
     let e = rw (c .before .before .before .get .ensures, c .before .before .get2 .ensures) at (sym (c .before .holds-itts .ensures) ∙ c .if1 .left) in
     searching-step _ _ _ _ (c .before .before .before .before .before .loop .inv)
-        (omega (arith, c .before .before .before .before .loop-test .taken)) e
+    (omega (arith, c .before .before .before .before .loop-test .taken)) e
 
 -- src/itts.rt:55:1
 returns-2 : tie.Need-returns-2 Inv-loop μ-loop

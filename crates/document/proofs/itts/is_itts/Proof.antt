@@ -24,14 +24,14 @@ itts-from-requires c κs = search needs
 returns : tie.Need-returns
 returns c =
     let n = c .before .before .before .before .before .before .pre .named (c .before .before .before .before .before .before .args .i)
-        (omega arith) (omega arith) in
+    (omega arith) (omega arith) in
     sym (name-itts _ _ _ _ n (rw (c .before .before .itts-from .ensures, c .before .before .before .extra-at .ensures) at (c .if1 .taken)))
 
 -- src/itts.rt:35:35
 add-find-seq : tie.Need-add-find-seq
 add-find-seq c =
     let h = rw (← (c .before .before .before .extra-at .ensures)) at (c .before .before .before .before .before .before .pre .within
-        (c .before .before .before .before .before .before .args .i) (omega arith) (omega arith)) in
+    (c .before .before .before .before .before .before .args .i) (omega arith) (omega arith)) in
     search (needs, h)
 
 -- src/itts.rt:35:20
@@ -46,7 +46,7 @@ part-find-seq-start c = search needs
 part-find-seq-end : tie.Need-part-find-seq-end
 part-find-seq-end c =
     let h = rw (← (c .before .before .before .extra-at .ensures)) at (c .before .before .before .before .before .before .pre .within
-        (c .before .before .before .before .before .before .args .i) (omega arith) (omega arith)) in
+    (c .before .before .before .before .before .before .args .i) (omega arith) (omega arith)) in
     search (needs, h)
 
 -- src/itts.rt:35:51
@@ -62,11 +62,14 @@ returns-2 : tie.Need-returns-2
 unfolding stringAt
 returns-2 c =
     let n = c .before .before .before .before .before .before .before .before .before .pre .named
-        (c .before .before .before .before .before .before .before .before .before .args .i) (omega arith) (omega arith) in
+    (c .before .before .before .before .before .before .before .before .before .args .i) (omega arith) (omega arith) in
     let w = c .before .before .before .before .before .before .before .before .before .pre .within
-        (c .before .before .before .before .before .before .before .before .before .args .i) (omega arith) (omega arith) in
-    let g = rw (c .before .before .before .before .before .itts-from .ensures, c .before .before .before .before .before .before .extra-at
-        .ensures) at (c .before .before .before .if1 .left) in
+    (c .before .before .before .before .before .before .before .before .before .args .i) (omega arith) (omega arith) in
+    let g = rw (
+      c .before .before .before .before .before .itts-from .ensures,
+      c .before .before .before .before .before .before .extra-at
+          .ensures,
+    ) at (c .before .before .before .if1 .left) in
     let f = rw (c .before .before .before .before .before .before .extra-at .ensures) at (c .find-seq .ensures) in
     rw (c .before .before .before .before .before .before .extra-at .ensures) (sym (value-itts _ _ _ _ n g _ _ f (sym (string-long _ _ _ w))))
 

@@ -36,7 +36,7 @@ returns-2 : tie.Need-returns-2
 unfolding ittsText
 returns-2 c =
     let a = rw (c .before .before .before .before .before .get .ensures) at
-        (sym (c .before .before .before .before .any-itts .ensures) ∙ c .before .before .before .if1 .left) in
+    (sym (c .before .before .before .before .any-itts .ensures) ∙ c .before .before .before .if1 .left) in
     let b = rw (c .before .before .get2 .ensures) at (sym (c .before .any-itts2 .ensures) ∙ c .if2 .taken) in
     rw (a, b) refl
 
@@ -54,9 +54,9 @@ returns-3 : tie.Need-returns-3
 unfolding ittsText
 returns-3 c =
     let a = rw (c .before .before .before .before .before .before .before .get .ensures) at
-        (sym (c .before .before .before .before .before .before .any-itts .ensures) ∙ c .before .before .before .before .before .if1 .left) in
+    (sym (c .before .before .before .before .before .before .any-itts .ensures) ∙ c .before .before .before .before .before .if1 .left) in
     let b = rw (c .before .before .before .before .get2 .ensures) at (sym (c .before .before .before .any-itts2 .ensures) ∙ c .before .before .if2
-        .left) in
+    .left) in
     let d = rw (c .before .get3 .ensures) at (c .any-itts3 .ensures) in
     rw (a, b) d
 

@@ -42,7 +42,7 @@ part-put-start c = search needs
 part-put-end : tie.Need-part-put-end
 part-put-end c =
     let h = rw (← (c .before .before .before .before .before .before .before .param-at .ensures)) at
-        (c .before .before .before .before .before .before .before .before .before .before .before .before .pre .0 .name) in
+    (c .before .before .before .before .before .before .before .before .before .before .before .before .pre .0 .name) in
     search (needs, h)
 
 -- src/params.rt:67:9
@@ -55,10 +55,13 @@ slice-aggregate-span-attr c = search needs
 
 -- src/params.rt:68:5
 span-attr-requires : tie.Need-span-attr-requires
-span-attr-requires c κs = (c .before .before .before .before .put .ensures .room, rw
-    (c .before .before .before .before .before .before .before .before .before .before .before .before .before .param-at .ensures)
-    (c .before .before .before .before .before .before .before .before .before .before .before .before .before .before .before .before .before
-    .before .pre .0 .value))
+span-attr-requires c κs = (
+  c .before .before .before .before .put .ensures .room,
+  rw
+      (c .before .before .before .before .before .before .before .before .before .before .before .before .before .param-at .ensures)
+      (c .before .before .before .before .before .before .before .before .before .before .before .before .before .before .before .before .before
+      .before .pre .0 .value),
+)
 
 -- src/params.rt:57:1
 same-length : tie.Need-same-length
@@ -67,9 +70,12 @@ same-length c = search needs
 -- src/params.rt:57:1
 returns : tie.Need-returns
 unfolding paramText stringAt
-returns c =     rw (c .before .before .before .before .before .before .before .before .before .before .before .before .before .before .before
-    .before .before .is-imsc .ensures, c .before .before .before .before .before .before .before .before .before .before .before .before .before
-    .before .before .before .param-at .ensures) at (puts-then (c .before .before .before .before .before .before .before .before .before .before
+returns c = rw (
+  c .before .before .before .before .before .before .before .before .before .before .before .before .before .before .before
+      .before .before .is-imsc .ensures,
+  c .before .before .before .before .before .before .before .before .before .before .before .before .before
+      .before .before .before .param-at .ensures,
+) at (puts-then (c .before .before .before .before .before .before .before .before .before .before
     .before .before .put-prefix .ensures) (puts-then (c .before .before .before .before .before .before .before .put .ensures)
     (c .before .before .span-attr .ensures)))
 

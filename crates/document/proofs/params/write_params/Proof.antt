@@ -34,8 +34,11 @@ returns c = rowed-full _ _ _ _ _ _ _ _ (c .before .before .before .loop .inv) (c
 
 -- src/params.rt:82:9
 write-param-requires : tie.Need-write-param-requires Inv-loop μ-loop
-write-param-requires c κs = (c .before .before .before .before .before .before .before .before .pre .0 (c .before .before .before .before .loop .i)
-    (omega (arith, c .before .before .before .loop-test .taken)), c .before .before .before .before .loop .inv .puts .room)
+write-param-requires c κs = (
+  c .before .before .before .before .before .before .before .before .pre .0 (c .before .before .before .before .loop .i)
+      (omega (arith, c .before .before .before .loop-test .taken)),
+  c .before .before .before .before .loop .inv .puts .room,
+)
 
 -- src/params.rt:83:9
 add-i : tie.Need-add-i Inv-loop μ-loop

@@ -12,13 +12,19 @@ slice-aggregate-span-attr : tie.Need-slice-aggregate-span-attr
 slice-aggregate-span-attr c = search needs
 
 span-attr-requires : tie.Need-span-attr-requires
-span-attr-requires c κs = (c .before .before .before .before .before .before .before .before .before .pre .1, rw
-    (c .before .before .before .before .region-at .ensures) (c .before .before .before .before .before .before .before .before .before .pre .0 .id))
+span-attr-requires c κs = (
+  c .before .before .before .before .before .before .before .before .before .pre .1,
+  rw
+      (c .before .before .before .before .region-at .ensures) (c .before .before .before .before .before .before .before .before .before .pre .0 .id),
+)
 
 write-extras-requires : tie.Need-write-extras-requires
-write-extras-requires c κs = (c .before .before .before .span-attr .ensures .room, rw
-    (c .before .before .before .before .before .before .before .before .region-at .ensures)
-    (c .before .before .before .before .before .before .before .before .before .before .before .before .before .pre .0 .extras))
+write-extras-requires c κs = (
+  c .before .before .before .span-attr .ensures .room,
+  rw
+      (c .before .before .before .before .before .before .before .before .region-at .ensures)
+      (c .before .before .before .before .before .before .before .before .before .before .before .before .before .pre .0 .extras),
+)
 
 slice-aggregate-put : tie.Need-slice-aggregate-put
 slice-aggregate-put c = search needs

@@ -39,9 +39,12 @@ put-requires : tie.Need-put-requires Inv-loop μ-loop
 put-requires c κs = c .before .before .before .before .before .loop .inv .puts .room
 
 write-region-requires : tie.Need-write-region-requires Inv-loop μ-loop
-write-region-requires c κs = (c .before .before .before .before .before .before .before .before .before .before .before .before .before .before
-    .pre .0 (c .before .before .before .before .before .before .before .before .before .loop .i)
-    (c .before .before .before .before .before .before .before .before .loop-test .taken), c .before .before .before .put .ensures .room)
+write-region-requires c κs = (
+  c .before .before .before .before .before .before .before .before .before .before .before .before .before .before
+      .pre .0 (c .before .before .before .before .before .before .before .before .before .loop .i)
+      (c .before .before .before .before .before .before .before .before .loop-test .taken),
+  c .before .before .before .put .ensures .room,
+)
 
 slice-aggregate-put-2 : tie.Need-slice-aggregate-put-2 Inv-loop μ-loop
 slice-aggregate-put-2 c = search needs
@@ -57,8 +60,11 @@ loop-less c = search needs
 
 loop-again : tie.Need-loop-again Inv-loop μ-loop
 loop-again c = rowed-step _ _ _ _ _ _ _ _ (c .before .before .before .before .before .before .before .before .before .before .before .before
-    .before .before .before .before .before .loop .inv) (omega (arith, c .before .before .before .before .before .before .before .before .before
-    .before .before .before .before .before .before .before .loop-test .taken)) _ _
+    .before .before .before .before .before .loop .inv) (omega (
+      arith,
+      c .before .before .before .before .before .before .before .before .before
+          .before .before .before .before .before .before .before .loop-test .taken,
+    )) _ _
     (puts-then (c .before .before .before .before .before .before .before .before .before .before .before .put .ensures)
     (puts-then (c .before .before .before .before .before .before .before .write-region .ensures) (c .before .before .put2 .ensures)))
 

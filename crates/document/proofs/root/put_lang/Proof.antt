@@ -30,10 +30,12 @@ slice-aggregate-span-attr c = search needs
 -- src/root.rt:56:9
 span-attr-requires : tie.Need-span-attr-requires
 span-attr-requires c κs =
-    let e = eq-eqb _ _ (rw (c .before .before .before .before .before .get .ensures) at (c .before .before .before .before .if1 .taken)) in
-    (c .before .before .before .before .before .before .before .before .before .pre .0, rw
-        (c .before .before .before .get2 .ensures, c .before .before .get3 .ensures)
-        (c .before .before .before .before .before .before .before .before .before .pre .2 e))
+    let e = eq-eqb _ _ (rw (c .before .before .before .before .before .get .ensures) at (c .before .before .before .before .if1 .taken)) in (
+      c .before .before .before .before .before .before .before .before .before .pre .0,
+      rw
+          (c .before .before .before .get2 .ensures, c .before .before .get3 .ensures)
+          (c .before .before .before .before .before .before .before .before .before .pre .2 e),
+    )
 
 -- src/root.rt:56:9
 same-length : tie.Need-same-length
@@ -44,9 +46,9 @@ returns : tie.Need-returns
 unfolding langText
 returns c =
     let e = eq-eqb _ _ (rw (c .before .before .before .before .before .before .before .before .get .ensures) at
-        (c .before .before .before .before .before .before .before .if1 .taken)) in
+    (c .before .before .before .before .before .before .before .if1 .taken)) in
     rw e (rw (c .before .before .before .before .before .before .get2 .ensures, c .before .before .before .before .before .get3 .ensures) at
-        (c .before .before .span-attr .ensures))
+    (c .before .before .span-attr .ensures))
 
 -- src/root.rt:58:26
 slice-aggregate-put : tie.Need-slice-aggregate-put
@@ -65,7 +67,7 @@ returns-2 : tie.Need-returns-2
 unfolding langText
 returns-2 c =
     let e = ne-eqb _ _ (rw (c .before .before .before .before .before .before .get .ensures) at
-        (c .before .before .before .before .before .if1 .left)) in
+    (c .before .before .before .before .before .if1 .left)) in
     rw e (c .before .before .put .ensures)
 
 pub put-lang-spec : {M : Type 1} → statement M

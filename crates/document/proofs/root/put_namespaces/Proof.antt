@@ -52,15 +52,19 @@ returns : tie.Need-returns
 unfolding namespaces
 returns c =
     let a = rw (c .before .before .before .before .before .before .before .before .before .before .before .before .before .before .before .before
-        .before .before .before .before .get .ensures) at (c .before .before .before .before .before .before .before .before .before .before
-        .before .before .before .before .before .before .before .before .before .any-param .ensures) in
+    .before .before .before .before .get .ensures) at (c .before .before .before .before .before .before .before .before .before .before
+    .before .before .before .before .before .before .before .before .before .any-param .ensures) in
     let b = rw (c .before .before .before .before .before .before .before .before .before .before .before .before .before .before .before .before
-        .before .before .before .before .get .ensures) at (c .before .before .before .before .before .before .before .before .before .before
-        .before .before .before .before .before .before .before .before .any-param2 .ensures) in
-    rw (a, b, c .before .before .before .before .before .before .before .before .before .before .before .before .before .before .before .before
-        .before .uses-itts .ensures) at (puts-then (c .before .before .before .before .before .before .before .before .before .before .before
-        .before .before .before .put-if .ensures) (puts-then (c .before .before .before .before .before .before .before .before .put-if2 .ensures)
-        (c .before .before .put-if3 .ensures)))
+    .before .before .before .before .get .ensures) at (c .before .before .before .before .before .before .before .before .before .before
+    .before .before .before .before .before .before .before .before .any-param2 .ensures) in
+    rw (
+      a,
+      b,
+      c .before .before .before .before .before .before .before .before .before .before .before .before .before .before .before .before
+          .before .uses-itts .ensures,
+    ) at (puts-then (c .before .before .before .before .before .before .before .before .before .before .before
+    .before .before .before .put-if .ensures) (puts-then (c .before .before .before .before .before .before .before .before .put-if2 .ensures)
+    (c .before .before .put-if3 .ensures)))
 
 pub put-namespaces-spec : {M : Type 1} → statement M
 put-namespaces-spec =

@@ -47,15 +47,15 @@ same-length c = search needs
 returns-2 : tie.Need-returns-2
 returns-2 c =
     let p = puts-then (c .before .before .before .before .before .before .before .before .before .before .before .before .before .before .before
-        .put .ensures) (puts-then (c .before .before .before .before .before .before .before .before .before .before .before .write-styling
-        .ensures) (puts-then (c .before .before .before .before .before .before .before .write-layout .ensures)
-        (c .before .before .put2 .ensures))) in
+    .put .ensures) (puts-then (c .before .before .before .before .before .before .before .before .before .before .before .write-styling
+    .ensures) (puts-then (c .before .before .before .before .before .before .before .write-layout .ensures)
+    (c .before .before .put2 .ensures))) in
     rw (headed-by _ _ (c .before .before .before .before .before .before .before .before .before .before .before .before .before .before .before
-        .before .before .before .before .before .before .before .before .before .before .args .n)
-        (c .before .before .before .before .before .before .before .before .before .before .before .before .before .before .before .before .before
-        .before .before .before .before .before .before .before .before .args .m) (λ x. (x .0 .taken, x .1 .left)) (λ x. x .left)
-        (c .before .before .before .before .before .before .before .before .before .before .before .before .before .before .before .before .before
-        .before .if1 .came)) p
+    .before .before .before .before .before .before .before .before .before .before .args .n)
+    (c .before .before .before .before .before .before .before .before .before .before .before .before .before .before .before .before .before
+    .before .before .before .before .before .before .before .before .args .m) (λ x. (x .0 .taken, x .1 .left)) (λ x. x .left)
+    (c .before .before .before .before .before .before .before .before .before .before .before .before .before .before .before .before .before
+    .before .if1 .came)) p
 
 pub write-head-spec : {M : Type 1} → statement M
 write-head-spec =

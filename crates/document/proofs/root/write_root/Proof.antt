@@ -25,16 +25,22 @@ get-requires c κs = search needs
 
 -- src/root.rt:82:9
 write-params-requires : tie.Need-write-params-requires
-write-params-requires c κs = (rw (c .before .get .ensures) (c .before .before .before .before .before .before .before .before .before .before
-    .before .before .before .before .before .before .before .before .before .before .pre .0 .params), c .before .before .before .before
-    .put-namespaces .ensures .room)
+write-params-requires c κs = (
+  rw (c .before .get .ensures) (c .before .before .before .before .before .before .before .before .before .before
+      .before .before .before .before .before .before .before .before .before .before .pre .0 .params),
+  c .before .before .before .before
+      .put-namespaces .ensures .room,
+)
 
 -- src/root.rt:83:9
 put-lang-requires : tie.Need-put-lang-requires
-put-lang-requires c κs = (c .before .before .before .write-params .ensures .room, c .before .before .before .before .before .before .before .before
-    .before .before .before .before .before .before .before .before .before .before .before .before .before .before .before .before .pre .0 .head,
-    c .before .before .before .before .before .before .before .before .before .before .before .before .before .before .before .before .before
-    .before .before .before .before .before .before .before .pre .0 .lang)
+put-lang-requires c κs = (
+  c .before .before .before .write-params .ensures .room,
+  c .before .before .before .before .before .before .before .before
+      .before .before .before .before .before .before .before .before .before .before .before .before .before .before .before .before .pre .0 .head,
+  c .before .before .before .before .before .before .before .before .before .before .before .before .before .before .before .before .before
+      .before .before .before .before .before .before .before .pre .0 .lang,
+)
 
 -- src/root.rt:84:25
 slice-aggregate-put : tie.Need-slice-aggregate-put
@@ -53,11 +59,11 @@ returns : tie.Need-returns
 unfolding rootText
 returns c =
     let p = rw (c .before .before .before .before .before .before .before .before .before .before .before .before .before .get .ensures) at
-        (c .before .before .before .before .before .before .before .before .before .before .before .write-params .ensures) in
+    (c .before .before .before .before .before .before .before .before .before .before .before .write-params .ensures) in
     puts-then (c .before .before .before .before .before .before .before .before .before .before .before .before .before .before .before .before
-        .before .before .before .before .put .ensures) (puts-then (c .before .before .before .before .before .before .before .before .before
-        .before .before .before .before .before .before .before .put-namespaces .ensures)
-        (puts-then p (puts-then (c .before .before .before .before .before .before .before .put-lang .ensures) (c .before .before .put2 .ensures))))
+    .before .before .before .before .put .ensures) (puts-then (c .before .before .before .before .before .before .before .before .before
+    .before .before .before .before .before .before .before .put-namespaces .ensures)
+    (puts-then p (puts-then (c .before .before .before .before .before .before .before .put-lang .ensures) (c .before .before .put2 .ensures))))
 
 pub write-root-spec : {M : Type 1} → statement M
 write-root-spec =

@@ -86,12 +86,14 @@ span-attr-requires : tie.Need-span-attr-requires
 unfolding stringAt cell
 span-attr-requires c κs =
     let h = sym (c .before .before .before .before .before .before .before .find-chain .ensures) ∙ c .before .before .before .before .before .j
-        .given .1 in
+    .given .1 in
     let b = with-first _ _ _ 27 _ 3 _ h .within in
-    let p = c .before .before .before .before .before .before .before .before .before .before .before .before .before .pre .1 .rows in
-    (c .before .before .before .before .before .before .before .before .before .before .before .before .before .pre .0, rw
-        (c .before .before .before .get .ensures, c .before .before .get2 .ensures)
-        (c .before .before .before .before .before .before .before .before .before .before .before .before .before .pre .2 _ (omega (arith, b))))
+    let p = c .before .before .before .before .before .before .before .before .before .before .before .before .before .pre .1 .rows in (
+      c .before .before .before .before .before .before .before .before .before .before .before .before .before .pre .0,
+      rw
+          (c .before .before .before .get .ensures, c .before .before .get2 .ensures)
+          (c .before .before .before .before .before .before .before .before .before .before .before .before .before .pre .2 _ (omega (arith, b))),
+    )
 
 returns : tie.Need-returns
 unfolding chainText stringAt cell
@@ -106,9 +108,9 @@ returns-2 : tie.Need-returns-2
 unfolding chainText stringAt cell
 returns-2 c =
     let h = sym (c .before .before .before .before .before .before .before .before .before .before .find-chain .ensures) ∙ c .before .before
-        .before .before .before .before .before .before .j .given .1 in
+    .before .before .before .before .before .before .j .given .1 in
     rw h (rw (c .before .before .before .before .before .before .get .ensures, c .before .before .before .before .before .get2 .ensures) at
-        (c .before .before .span-attr .ensures))
+    (c .before .before .span-attr .ensures))
 
 pub put-chain-spec : {M : Type 1} → statement M
 put-chain-spec =

@@ -93,10 +93,12 @@ write-extras-requires : tie.Need-write-extras-requires
 unfolding stringAt cell
 write-extras-requires c κs =
     let b = row-within _ _ _ _ _ _ (sym (c .before .before .before .before .before .before .find-extras .ensures) ∙ c .before .before .before
-        .before .j .given .1) in
-    (c .before .before .before .before .before .before .before .before .before .before .before .before .before .pre .0, rw
-        (c .before .before .get .ensures, c .before .get2 .ensures) (c .before .before .before .before .before .before .before .before .before
-        .before .before .before .before .pre .2 _ b))
+    .before .j .given .1) in (
+      c .before .before .before .before .before .before .before .before .before .before .before .before .before .pre .0,
+      rw
+          (c .before .before .get .ensures, c .before .get2 .ensures) (c .before .before .before .before .before .before .before .before .before
+          .before .before .before .before .pre .2 _ b),
+    )
 
 -- src/styles.rt:92:1
 returns : tie.Need-returns
@@ -114,9 +116,9 @@ returns-2 : tie.Need-returns-2
 unfolding keptText stringAt cell
 returns-2 c =
     let h = sym (c .before .before .before .before .before .before .before .before .before .find-extras .ensures) ∙ c .before .before .before
-        .before .before .before .before .j .given .1 in
+    .before .before .before .before .j .given .1 in
     rw h (rw (c .before .before .before .before .before .get .ensures, c .before .before .before .before .get2 .ensures) at
-        (c .before .before .write-extras .ensures))
+    (c .before .before .write-extras .ensures))
 
 pub put-kept-spec : {M : Type 1} → statement M
 put-kept-spec =

@@ -51,9 +51,13 @@ put-requires c κs = c .before .before .before .before .before .loop .inv .puts 
 
 -- src/styles.rt:172:13
 write-style-requires : tie.Need-write-style-requires Inv-loop μ-loop
-write-style-requires c κs = (c .before .before .before .before .before .before .before .before .before .before .before .before .before .before
-    .before .pre .0, omega (arith, c .before .before .before .before .before .before .before .before .loop-test .taken), c .before .before .before
-    .put .ensures .room)
+write-style-requires c κs = (
+  c .before .before .before .before .before .before .before .before .before .before .before .before .before .before
+      .before .pre .0,
+  omega (arith, c .before .before .before .before .before .before .before .before .loop-test .taken),
+  c .before .before .before
+      .put .ensures .room,
+)
 
 -- src/styles.rt:173:34
 slice-aggregate-put-2 : tie.Need-slice-aggregate-put-2 Inv-loop μ-loop
@@ -75,10 +79,13 @@ loop-less c = search needs
 loop-again : tie.Need-loop-again Inv-loop μ-loop
 loop-again c =
     let p = puts-then (c .before .before .before .before .before .before .before .before .before .before .before .put .ensures)
-        (puts-then (c .before .before .before .before .before .before .before .write-style .ensures) (c .before .before .put2 .ensures)) in
+    (puts-then (c .before .before .before .before .before .before .before .write-style .ensures) (c .before .before .put2 .ensures)) in
     rowed-step _ _ _ _ _ _ _ _ (c .before .before .before .before .before .before .before .before .before .before .before .before .before .before
-        .before .before .before .loop .inv) (omega (arith, c .before .before .before .before .before .before .before .before .before .before
-        .before .before .before .before .before .before .loop-test .taken)) _ _ p
+    .before .before .before .loop .inv) (omega (
+      arith,
+      c .before .before .before .before .before .before .before .before .before .before
+          .before .before .before .before .before .before .loop-test .taken,
+    )) _ _ p
 
 -- src/styles.rt:150:1
 same-length-2 : tie.Need-same-length-2 Inv-loop μ-loop

@@ -41,10 +41,10 @@ same-length c = search needs
 returns-2 : tie.Need-returns-2
 returns-2 c =
     let p = puts-then (c .before .before .before .before .before .before .before .before .before .before .before .put .ensures)
-        (puts-then (c .before .before .before .before .before .before .before .write-styles .ensures) (c .before .before .put2 .ensures)) in
+    (puts-then (c .before .before .before .before .before .before .before .write-styles .ensures) (c .before .before .put2 .ensures)) in
     rw (styling-some _ (c .before .before .before .before .before .before .before .before .before .before .before .before .before .before .before
-        .before .before .before .before .before .args .n) (c .before .before .before .before .before .before .before .before .before .before
-        .before .before .before .before .if1 .left)) p
+    .before .before .before .before .before .args .n) (c .before .before .before .before .before .before .before .before .before .before
+    .before .before .before .before .if1 .left)) p
 
 pub write-styling-spec : {M : Type 1} → statement M
 write-styling-spec =

@@ -52,7 +52,7 @@ returns c =
       c11 .collect-style-extras .ensures .0,
       λ l y.
           styled z _ (c18 .args .name) (c8 .chain-of .result) (c7 .or-none .result) (c18 .args .look) (c18 .args .at)
-              (c11 .collect-style-extras .result)
+          (c11 .collect-style-extras .result)
           (c18 .args .n) _ _ _ _ _ _ (p .7) (c8 .chain-of .ensures .0) (p .8) (c8 .chain-of .ensures .1 l y) (c7 .or-none .ensures)
           (c11 .collect-style-extras .ensures .1 l y) (p .4) (c4 .add-style .result) (c4 .add-style .ensures .0) (c4 .add-style .ensures .1),
     )

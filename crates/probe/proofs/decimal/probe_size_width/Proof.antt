@@ -24,7 +24,7 @@ size-of-requires c κs =
 spell-requires : tie.Need-spell-requires
 spell-requires c κs =
     let w = decimal-limits 6 10 _ (sym (c .before .before .before .before .before .read-decimal .ensures .is) ∙ c .before .before .before .d .given
-        .1) in
+    .1) in
     (omega arith, size-scale _ _ (c .size-of .ensures) (w .near))
 
 enum-known-n : tie.Need-enum-known-n

@@ -32,7 +32,7 @@ same-length c = search needs
 returns : tie.Need-returns
 returns c =
     let h = check-none-asked _ ∙ (sym (checked-is _ (c .before .before .before .before .check-track .ensures)) ∙ c .before .before .enum-told
-        .given .1) in
+    .given .1) in
     cue-past _ _ _ h (rw (c .before .get .ensures) at (c .if1 .taken)) _ (c .before .before .before .before .before .before .before .clear .ensures)
 
 cue-at-requires : tie.Need-cue-at-requires

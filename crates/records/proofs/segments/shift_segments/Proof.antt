@@ -37,9 +37,12 @@ loop-less c = omega arith
 loop-again : tie.Need-loop-again Inv-loop μ-loop
 loop-again c =
     let l = c .before .before .before .before .before .loop in
-    let a = c .before .before .before .before .before .before .before .args in
-    (omega arith, omega arith, row-moved (a .segments .now) (l .segments) _ (a .end) (a .by) (l .i) (l .i - 1) (l .inv .2) (omega arith)
-    (l .inv .1) (c .before .before .move-row .ensures))
+    let a = c .before .before .before .before .before .before .before .args in (
+      omega arith,
+      omega arith,
+      row-moved (a .segments .now) (l .segments) _ (a .end) (a .by) (l .i) (l .i - 1) (l .inv .2) (omega arith)
+          (l .inv .1) (c .before .before .move-row .ensures),
+    )
 
 same-length : tie.Need-same-length Inv-loop μ-loop
 same-length c = omega arith

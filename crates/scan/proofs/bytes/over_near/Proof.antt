@@ -29,8 +29,7 @@ is-of-requires c κs = search needs
 returns : tie.Need-returns Inv-loop μ-loop
 returns c =
     let c4 = c .before .before .before .before in
-    let c6 = c4 .before .before in
-    (
+    let c6 = c4 .before .before in (
       c4 .loop .inv,
       λ h. ends-skipped _ (c6 .args .src .now) _ _ (c4 .loop .inv) (omega arith) (sym (c .before .is-of .ensures) ∙ not-true _ (c .if1 .taken)),
     )

@@ -16,8 +16,17 @@ two-digits-requires c κs = search needs
 
 add-result : tie.Need-add-result
 add-result c =
-    record { fits = omega (arith, c .before .digit .ensures, digit-most (c .before .before .args .hundreds), c .two-digits .ensures, digit-most
-    (c .before .before .args .tens), digit-most (c .before .before .args .ones)) }
+    record {
+      fits = omega (
+        arith,
+        c .before .digit .ensures,
+        digit-most (c .before .before .args .hundreds),
+        c .two-digits .ensures,
+        digit-most
+            (c .before .before .args .tens),
+        digit-most (c .before .before .args .ones),
+      );
+    }
 
 returns : tie.Need-returns
 returns c = search needs

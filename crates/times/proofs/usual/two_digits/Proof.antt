@@ -16,8 +16,16 @@ digit-requires-2 c κs = search needs
 
 add-result : tie.Need-add-result
 add-result c =
-    record { fits = omega (arith, c .before .digit .ensures, digit-most (c .before .before .args .tens), c .digit2 .ensures, digit-most
-    (c .before .before .args .ones)) }
+    record {
+      fits = omega (
+        arith,
+        c .before .digit .ensures,
+        digit-most (c .before .before .args .tens),
+        c .digit2 .ensures,
+        digit-most
+            (c .before .before .args .ones),
+      );
+    }
 
 returns : tie.Need-returns
 returns c = search needs

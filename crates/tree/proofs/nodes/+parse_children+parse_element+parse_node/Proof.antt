@@ -345,8 +345,17 @@ parse-element-put-node-requires-2 t c κs =
     let c24 = c19 .before .before .before .before .before in
     let l = rw (c .before .before .c .given .1) at (c8 .parse-children .ensures) in
     let m = rw (c12 .t2 .given .1) at (c16 .parse-start .ensures) in
-    omega (arith, l .most, m .most, m .counted, c18 .over-long .ensures .within, c19 .if2 .left, c24 .pre .1 .0, c24 .pre .1 .1,
-    c8 .parse-children .kept)
+    omega (
+      arith,
+      l .most,
+      m .most,
+      m .counted,
+      c18 .over-long .ensures .within,
+      c19 .if2 .left,
+      c24 .pre .1 .0,
+      c24 .pre .1 .1,
+      c8 .parse-children .kept,
+    )
 
 parse-element-same-length : (t : ℕ) → parse-element-lts.Need-same-length (elems t) (parse-element-at t) parse-element.Post
 parse-element-same-length t c = search needs

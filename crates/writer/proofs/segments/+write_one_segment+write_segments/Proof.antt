@@ -72,13 +72,36 @@ write-segments-below t =
     write-segments.Pre
 
 abbrev one : ℕ → write-one-segment-lts.Claims
-one t = (segment-at-reads.Asked, segment-at-reads.Learnt, open-segment-reads.Asked, open-segment-reads.Learnt, is-wrapper-reads.Asked,
-    is-wrapper-reads.Learnt, get-reads.Asked, get-reads.Learnt, write-segments-below t, write-segments.Post, put-reads.Asked, put-reads.Learnt)
+one t = (
+  segment-at-reads.Asked,
+  segment-at-reads.Learnt,
+  open-segment-reads.Asked,
+  open-segment-reads.Learnt,
+  is-wrapper-reads.Asked,
+  is-wrapper-reads.Learnt,
+  get-reads.Asked,
+  get-reads.Learnt,
+  write-segments-below t,
+  write-segments.Post,
+  put-reads.Asked,
+  put-reads.Learnt,
+)
 
 abbrev siblings : ℕ → write-segments-lts.Claims
-siblings t = (is-full-reads.Asked, is-full-reads.Learnt, time-from-reads.Asked, time-from-reads.Learnt, open-stamp-reads.Asked,
-    open-stamp-reads.Learnt, write-one-segment-below t, write-one-segment.Post, get-reads.Asked, get-reads.Learnt, close-if-reads.Asked,
-    close-if-reads.Learnt)
+siblings t = (
+  is-full-reads.Asked,
+  is-full-reads.Learnt,
+  time-from-reads.Asked,
+  time-from-reads.Learnt,
+  open-stamp-reads.Asked,
+  open-stamp-reads.Learnt,
+  write-one-segment-below t,
+  write-one-segment.Post,
+  get-reads.Asked,
+  get-reads.Learnt,
+  close-if-reads.Asked,
+  close-if-reads.Learnt,
+)
 
 write-one-segment-segment-at-requires : (t : ℕ) → write-one-segment-lts.Need-segment-at-requires (one t)
     (write-one-segment-at t) write-one-segment.Post

@@ -86,7 +86,7 @@ returns c =
     let e = value-long (a .args .src .now) (a .args .attrs .now) (a .args .k) _ _ _ (c10 .get3 .ensures) (c8 .get4 .ensures) (w .next) in (
       rw e at (c .before .before .put .ensures),
       attr-wrote _ _ _ _ _ _ _ _ _ _ (c19 .get .ensures) (c17 .get2 .ensures) (c10 .get3 .ensures) (c8 .get4 .ensures)
-    (c14 .copy .ensures .laid) (w .laid),
+          (c14 .copy .ensures .laid) (w .laid),
     )
 
 pub read-attr-spec : {M : Type 1} → statement M
