@@ -15,7 +15,7 @@ use base.Fml.{Lft, Share, ftrue, flft}
 use prog.Wp.{Heap}
 use ghost.Atoms.{Atoms, sem}
 use contract.Monad.{fact}
-use types.Kit.{Given, mean, ‵, _⊛_, ⋆, _$_, _∵_, !, qed, move, drop, keep, fjoin, suffices, frame, done}
+use types.Kit.{Given, mean, ‵, _⊛_, ⋆, _$_, _∵_, !, qed, move, fjoin, suffices, frame, done}
 use denote.Laws.{Is}
 use denote.Plain.{uint-makes}
 use denote.Builtin.{u8, bool}

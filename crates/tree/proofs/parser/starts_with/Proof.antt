@@ -47,7 +47,7 @@ use Rattle.tree.specs.declared.parser.XmlParser.{XmlParser}
 use Rattle.tree.proofs.PrologLaws.{Here, pair-off, pair-on}
 use Rattle.tree.proofs.Held.{B, Within, Own, Slice, twice, slice-too, slice, typed, Gives, gives, Looking, On}
 use Rattle.tree.proofs.Held as H′
-use Rattle.tree.proofs.Pairs.{Stands, paired, stayed, clauses, Tells, Entry, Post, exits}
+use Rattle.tree.proofs.Pairs.{paired, stayed, clauses, Tells, Entry, Post, exits}
 use Rattle.tree.proofs.parser.XmlParser as T
 use Rattle.tree.proofs.parser.XmlParser.Laws as T′
 use Rattle.tree.proofs.parser.peek.Symbol as peek-def
