@@ -1,6 +1,6 @@
 -- Functions over a parser, a struct that holds a reference: what their walks of MIR by hand share, and the one walk that `skip_blanks` and
 -- `over_prolog` have. The struct is Copy: what it owns is had as often as it is wanted, and one copy is kept whole for the exit. Assumes nothing.
---     Own, Slice       what a parser owns, and what its slice owns.        twice, slice-too     the one gives itself again, and the other
+--     Own, Slice       what a parser owns, and what its slice owns.        twice, thrice, slice-too     the one gives itself again, and the other
 --     typed            a parser's machine value has the struct's type, at any lifetime: in a local MIR erases it
 --     Gives, gives     what a call answers, with what it says of it: what is said of last values is dropped, since there is no `&mut`
 --     Back, back       the same of a parser of the text s, with its place
@@ -19,7 +19,7 @@ use mir.Syntax.{Name, Lifetime, Fn, Ty, place, copy, field, rvOpd, aggregate, as
 use mir.Syntax.{w64, tyInt, tyRef}
 use mir.Val.{Val, WT, hasTy, vint}
 use base.Logic.{SProp, ent, sep, via, snd∗, exE}
-use base.Fml.{Lft, Share, Fml, ftrue, flft, fat}
+use base.Fml.{Lft, Share, Fml, ftrue, fsep, flft, fat}
 use prog.Model.{Model}
 use prog.Routine.{Routine, Env}
 use prog.Wp.{Heap, Calls, Loops, WpFn, Closed}
@@ -27,7 +27,7 @@ use ghost.Atoms.{Atoms, sem}
 use contract.Lifetimes.{Lfts}
 use contract.Monad.{fact}
 use contract.Running.{GhostRules, Running, givenOf, tables, tablesOf}
-use types.Kit.{Given, Item, mean, ‵, raw, _⊛_, given, ⋆, some, later, _$_, _∵_, !, qed, by, move, drop, use1, use2, split, learn, pick, rewrite}
+use types.Kit.{Given, Item, mean, ‵, raw, _⊛_, given, ⋆, some, later, _$_, _∵_, !, qed, by, move, drop, keep, use1, use2, split, learn, pick, rewrite}
 use types.Kit.{fsplit, fjoin, suffices, frame, await, updating, now as at-once, show, check, done}
 use types.Part.{whole, sub, look-in, agg}
 use types.Run.{look, init, forget, stop, fld, from, load, of-opd, and-then, no-more, assigns, land, returns, enter, alloc1, alloc0, params1, pass1}
@@ -85,6 +85,14 @@ module _ {M : Type 1} {𝓤 : URA M} {H : Heap 𝓤} {A : Atoms 𝓤} (W : Given
 
   pub twice : ent 𝓤 (sem 𝓤 H A (Own κ d)) (⋆ 𝓤 H A (‵ (Own κ d) ∷ ‵ (Own κ d) ∷ []))
   twice = LL.copy D (T′.the-copy α) 𝓤 H A W .twice d (T′.lowered d ∷ [])
+
+  -- what is had on entry, with the struct's part three times
+  pub thrice : (q : Share) (rest : Fml) → ent 𝓤 (⋆ 𝓤 H A ((‵ (flft κ q) ⊛ ‵ ftrue) ∷ ‵ (fsep (Own κ d) rest) ∷ []))
+      (⋆ 𝓤 H A (‵ (Own κ d) ∷ (‵ (flft κ q) ⊛ ‵ ftrue) ∷ (‵ (Own κ d) ⊛ ‵ (Own κ d)) ∷ []))
+  thrice q rest =
+      qed W ((‵ (flft κ q) ⊛ ‵ ftrue) ∷ ‵ (fsep (Own κ d) rest) ∷ []) ∵
+      move ! (1 ∷ []) $ fsplit ! $ use1 W (‵ (Own κ d) ⊛ ‵ (Own κ d)) twice $ split ! $
+      use1 W (‵ (Own κ d) ⊛ ‵ (Own κ d)) twice $ move ! (1 ∷ 3 ∷ 0 ∷ []) $ keep ! (0 ∷ 1 ∷ 2 ∷ []) $ done !
 
   pub slice-too : ent 𝓤 (sem 𝓤 H A (Own κ d)) (⋆ 𝓤 H A (‵ (Slice κ d) ∷ ‵ (Own κ d) ∷ []))
   slice-too =

@@ -12,7 +12,7 @@ use base.Fml.{Lft, Share, ftrue, flft, fat}
 use prog.Wp.{Heap, Calls, Loops, WpFn}
 use ghost.Atoms.{Atoms}
 use contract.Running.{givenOf, tables}
-use types.Kit.{Given, atRet, ‵, raw, _⊛_, ⋆, _$_, _∵_, !, qed, by, move, drop, keep, use1, use2, split, learn, pick, rewrite, fsplit, await, done}
+use types.Kit.{Given, atRet, ‵, raw, _⊛_, _$_, _∵_, !, qed, by, move, drop, use1, use2, split, learn, pick, rewrite, await}
 use types.Run.{look, init, forget, stop, from, load, lit, of-opd, and-then, no-more, assigns, land, first, branches, skips, exec, returns}
 use types.Run.{returns-within, enter, alloc1, alloc0, params1, pass1, pass0, free1, free0}
 use native.Mathlib.Omega.{arith}
@@ -28,7 +28,8 @@ use denote.Triple.Call.{calls-at}
 use denote.Triple.Table.{cited}
 use Rattle.tree.specs.declared.parser.XmlParser.{XmlParser}
 use Rattle.tree.proofs.PrologLaws.{Begun, root}
-use Rattle.tree.proofs.Held.{B, at, Within, Own, twice, typed, Gives, Back, Entry, Post, exits, to-call, goes-in, walk-on, Moving, Moves, comes-back}
+use Rattle.tree.proofs.Held.{B, at, Within, Own, thrice, typed, Gives, Back, Entry, Post, exits, to-call, goes-in}
+use Rattle.tree.proofs.Held.{walk-on, Moving, Moves, comes-back}
 use Rattle.tree.proofs.Pairs.{Stands, Tells}
 use Rattle.tree.proofs.Pairs as P
 use Rattle.tree.proofs.parser.XmlParser.Laws as T′
@@ -49,12 +50,6 @@ module _ {M : Type 1} (𝓤 : URA M) (H : Heap 𝓤) (A : Atoms 𝓤) (W : Given
   abbrev Ends : Val → SProp 𝓤
   Ends = Post B (Moving Begun) W κ q d
 
-  thrice : ent 𝓤 (Entry B (Moving Begun) W κ q d) (⋆ 𝓤 H A (‵ (Own κ d) ∷ (‵ (flft κ q) ⊛ ‵ ftrue) ∷ (‵ (Own κ d) ⊛ ‵ (Own κ d)) ∷ []))
-  thrice =
-      qed W ((‵ (flft κ q) ⊛ ‵ ftrue) ∷ ‵ (owns (B (κ, tt) ∷ []) (d, tt) (mach ∷ [], tt)) ∷ []) ∵
-      move ! (1 ∷ []) $ fsplit ! $ use1 W (‵ (Own κ d) ⊛ ‵ (Own κ d)) (twice W κ d) $ split ! $
-      use1 W (‵ (Own κ d) ⊛ ‵ (Own κ d)) (twice W κ d) $ move ! (1 ∷ 3 ∷ 0 ∷ []) $ keep ! (0 ∷ 1 ∷ 2 ∷ []) $ done !
-
   module _ (C : Calls 𝓤 H) (Λ : Loops 𝓤 H) (known-starts : Triple 𝓤 (C #tree·parser·starts-with) (Tells 𝓤 H A))
       (known-over : Triple 𝓤 (C #tree·parser·over-prolog) (Moves Begun 𝓤 H A)) (fm : FmC 𝓤 H (W .laws) C) where
     walk : Is (B (κ, tt)) d (mach ∷ []) → Within d → ent 𝓤 (Entry B (Moving Begun) W κ q d) (WpFn 𝓤 H C Λ code.function (mach ∷ []) Ends)
@@ -64,7 +59,7 @@ module _ {M : Type 1} (𝓤 : URA M) (H : Heap 𝓤) (A : Atoms 𝓤) (W : Given
         params1 ! $ pass1 ! (init ! 6 refl (typed W κ d mach is-d (named 0))) $ pass0 ! $
         -- [room for _4; …; _3; …; _2; …; _1; …; room for _0; …; what is had on entry]: `starts_with`
         assigns ! (of-opd ! (load ! (from ! (stop !)) (look ! 6 refl))) (from ! (stop !)) (init ! 2 refl (typed W κ d mach is-d erased)) $
-        move ! (10 ∷ []) $ use1 W (‵ (Own κ d) ⊛ (‵ (flft κ q) ⊛ ‵ ftrue) ⊛ (‵ (Own κ d) ⊛ ‵ (Own κ d))) thrice $
+        move ! (10 ∷ []) $ use1 W (‵ (Own κ d) ⊛ (‵ (flft κ q) ⊛ ‵ ftrue) ⊛ (‵ (Own κ d) ⊛ ‵ (Own κ d))) (thrice W κ d q (owns [] tt tt)) $
         split ! $ move ! (1 ∷ []) $ split ! $ move ! (2 ∷ 0 ∷ []) $
         use2 W (raw (Tells 𝓤 H A .pre (P.to-call W κ q d 60 116))) (P.goes-in W κ q d 60 116 (omega arith) (omega arith) within) $
         calls-at ! fm (Tells 𝓤 H A) known-starts (P.to-call W κ q d 60 116)
@@ -85,8 +80,8 @@ module _ {M : Type 1} (𝓤 : URA M) (H : Heap 𝓤) (A : Atoms 𝓤) (W : Given
         move ! (3 ∷ 4 ∷ []) $ free1 ! $ free0 ! $ move ! (0 ∷ 2 ∷ 1 ∷ []) $
         by ! (exits B (Moving Begun) W κ q d d mach (refl, (sym (root (now (d .src)) (d .pos) r here e), within))))
         -- something else: `over_prolog`
-        (λ away. skips ! $ exec ! C Λ ((T′.mir (named 0), l₀) ∷ (T′.mir (named 0), l₁) ∷ (tyBool, l₂) ∷ (T′.mir erased, l₃) ∷ (T′.mir erased, l₄) ∷ [])
-        code.Mir.t-4 (atRet _ Ends) $
+        (λ away. skips ! $ exec ! C Λ ((T′.mir (named 0), l₀) ∷ (T′.mir (named 0), l₁) ∷ (tyBool, l₂)
+        ∷ (T′.mir erased, l₃) ∷ (T′.mir erased, l₄) ∷ []) code.Mir.t-4 (atRet _ Ends) $
         assigns ! (of-opd ! (load ! (from ! (stop !)) (look ! 9 refl))) (from ! (stop !)) (init ! 3 refl (typed W κ d mach is-d erased)) $
         move ! (0 ∷ 2 ∷ []) $
         use2 W (raw (Moves Begun 𝓤 H A .pre (to-call B (Moving Begun) W κ q d mach))) (goes-in B (Moving Begun) W κ q d mach within) $

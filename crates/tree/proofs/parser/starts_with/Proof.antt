@@ -19,7 +19,7 @@ use prog.Wp.{Heap, Calls, Loops, WpFn}
 use ghost.Atoms.{Atoms, sem}
 use contract.Monad.{Fun, fact}
 use contract.Running.{givenOf, tables, tablesOf}
-use types.Kit.{Given, atRet, mean, ‵, raw, _⊛_, ⋆, _$_, _∵_, !, qed, by, move, drop, keep, use1, use2, split, learn, pick, rewrite, fsplit, fjoin}
+use types.Kit.{Given, atRet, mean, ‵, raw, _⊛_, ⋆, _$_, _∵_, !, qed, by, move, drop, keep, use1, use2, split, learn, pick, rewrite, fjoin}
 use types.Kit.{frame, await, done}
 use types.Part.{whole, sub, look-in}
 use types.Run.{look, init, forget, stop, fld, from, load, false-lit, bin, of-opd, and-then, no-more, assigns, land, first, branches, skips, exec}
@@ -45,7 +45,7 @@ use denote.Triple.Clauses.{ensured, lasts}
 use Rattle.scan.specs.Marks.{startsAt}
 use Rattle.tree.specs.declared.parser.XmlParser.{XmlParser}
 use Rattle.tree.proofs.PrologLaws.{Here, pair-off, pair-on}
-use Rattle.tree.proofs.Held.{B, Within, Own, Slice, twice, slice-too, slice, typed, Gives, gives, Looking, On}
+use Rattle.tree.proofs.Held.{B, Within, Own, Slice, thrice, slice-too, slice, typed, Gives, gives, Looking, On}
 use Rattle.tree.proofs.Held as H′
 use Rattle.tree.proofs.Pairs.{paired, stayed, clauses, Tells, Entry, Post, exits}
 use Rattle.tree.proofs.parser.XmlParser as T
@@ -78,13 +78,6 @@ module _ {M : Type 1} (𝓤 : URA M) (H : Heap 𝓤) (A : Atoms 𝓤) (W : Given
 
   abbrev Ends : Val → SProp 𝓤
   Ends = Post W κ q d b c
-
-  thrice : ent 𝓤 (Entry W κ q d b c) (⋆ 𝓤 H A (‵ (Own κ d) ∷ (‵ (flft κ q) ⊛ ‵ ftrue) ∷ (‵ (Own κ d) ⊛ ‵ (Own κ d)) ∷ []))
-  thrice =
-      qed W ((‵ (flft κ q) ⊛ ‵ ftrue)
-      ∷ ‵ (owns (B (κ, tt) ∷ u8 ∷ u8 ∷ []) (d, (b, (c, tt))) (mach ∷ [], (vint w8 b ∷ [], (vint w8 c ∷ [], tt)))) ∷ []) ∵
-      move ! (1 ∷ []) $ fsplit ! $ use1 W (‵ (Own κ d) ⊛ ‵ (Own κ d)) (twice W κ d) $ split ! $
-      use1 W (‵ (Own κ d) ⊛ ‵ (Own κ d)) (twice W κ d) $ move ! (1 ∷ 3 ∷ 0 ∷ []) $ keep ! (0 ∷ 1 ∷ 2 ∷ []) $ done !
 
   -- what `follows` is passed
   abbrev a : Args work.signature (κ, tt)
@@ -126,7 +119,8 @@ module _ {M : Type 1} (𝓤 : URA M) (H : Heap 𝓤) (A : Atoms 𝓤) (W : Given
         pass1 ! (init ! 10 refl (tt, record { fits = c-fits })) $ pass0 ! $
         -- [room for _8; …; _7; …; _6; …; _5; …; _4; …; _3; …; _2; …; _1; …; room for _0; …; what is had on entry]: `peek`
         assigns ! (of-opd ! (load ! (from ! (stop !)) (look ! 14 refl))) (from ! (stop !)) (init ! 6 refl (typed W κ d mach is-d erased)) $
-        move ! (18 ∷ []) $ use1 W (‵ (Own κ d) ⊛ (‵ (flft κ q) ⊛ ‵ ftrue) ⊛ (‵ (Own κ d) ⊛ ‵ (Own κ d))) thrice $
+        move ! (18 ∷ []) $ use1 W (‵ (Own κ d) ⊛ (‵ (flft κ q) ⊛ ‵ ftrue) ⊛ (‵ (Own κ d) ⊛ ‵ (Own κ d)))
+        (thrice W κ d q (owns (u8 ∷ u8 ∷ []) (b, (c, tt)) (vint w8 b ∷ [], (vint w8 c ∷ [], tt)))) $
         split ! $ move ! (1 ∷ []) $ split ! $ move ! (2 ∷ 0 ∷ []) $
         use2 W (raw (Peek 𝓤 H A .pre (H′.to-call (λ _. u8) (Looking Here) W κ q d mach)))
         (H′.goes-in (λ _. u8) (Looking Here) W κ q d mach within) $
