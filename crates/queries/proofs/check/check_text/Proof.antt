@@ -24,7 +24,7 @@ returns-2 : tie.Need-returns-2
 unfolding checkText checkRest
 returns-2 c =
     let q = sym (c .before .before .before .is-short .ensures) ∙ c .before .before .if1 .left in
-    c .refused2 .ensures ∙ rw (q, lt-leb _ _ (c .before .if2 .taken))
+    c .refused2 .ensures ∙ rw (q, lt-leb _ 65536 (c .before .if2 .taken))
 
 utf8-end-requires : tie.Need-utf8-end-requires
 utf8-end-requires c κs = search needs
@@ -37,14 +37,14 @@ unfolding checkText checkRest
 returns-3 c =
     let c3 = c .before .before .before in
     let q = sym (c3 .before .before .is-short .ensures) ∙ c3 .before .if1 .left in
-    c .refused3 .ensures ∙ rw (q, le-leb _ _ (c3 .if2 .left), not-utf8 _ _ (c .before .before .utf8-end .ensures) (c .before .if3 .taken))
+    c .refused3 .ensures ∙ rw (q, le-leb _ 65536 (c3 .if2 .left), not-utf8 _ _ (c .before .before .utf8-end .ensures) (c .before .if3 .taken))
 
 returns-4 : tie.Need-returns-4
 unfolding checkText checkRest
 returns-4 c =
     let c2 = c .before .before in
     let q = sym (c2 .before .before .is-short .ensures) ∙ c2 .before .if1 .left in
-    rw (q, le-leb _ _ (c2 .if2 .left), is-utf8 _ _ (c .before .utf8-end .ensures) (c .if3 .left))
+    rw (q, le-leb _ 65536 (c2 .if2 .left), is-utf8 _ _ (c .before .utf8-end .ensures) (c .if3 .left))
 
 pub check-text-spec : {M : Type 1} → statement M
 check-text-spec =
