@@ -3,6 +3,7 @@ use mathlib.Core.Path.{_≡_, refl, _∙_}
 use mathlib.Core.Bool.{true, false}
 use mathlib.Core.Logic.{inl, inr}
 use native.Mathlib.Omega.{arith}
+use lib.IntN.{negsuc}
 use lib.Ieee.{ofInt, mul, div, le, toSigned, round}
 use Rattle.scan.proofs.Every.{by-test}
 use Rattle.scan.specs.Text.{ascii}
@@ -27,7 +28,7 @@ use Rattle.times.specs.Written.{clockText}
 use Rattle.meaning.proofs.Computing.{computing}
 use Rattle.meaning.proofs.Examples.{below-zero}
 use Rattle.promised.proofs.Cases.{parsed-case}
-use Rattle.ttml.specs.Marked.{NoFrames, Holds, All, marked}
+use Rattle.ttml.specs.Marked.{NoFrames, oneCue, film, Holds, All, marked}
 
 -- five frames, counted by whatever rate there is
 five : (ctx : TimingCtx) → timeIn (ascii "5f") ctx ≡ counted (float 5) (frameRate ctx)
@@ -37,6 +38,10 @@ five ctx = refl
 no-frames : (ctx : TimingCtx) → NoFrames ctx → timeIn (ascii "5f") ctx ≡ Nothing
 no-frames ctx (inl e) = five ctx ∙ rw e refl
 no-frames ctx (inr l) = five ctx ∙ by-test (ctx .«has_frame_rate») (λ e. rw (e, l) refl) (λ e. rw e refl)
+
+below : Holds (film (ascii "<tt><body><div begin=\"3s\"><p begin=\"-5s\" dur=\"1s\"/></div></body></tt>") (oneCue (negsuc 1999999) (negsuc 999999)))
+unfolding Holds computing
+below lent left answer long p = parsed-case _ lent long (omega arith) refl p below-zero
 
 pub marked-hold : All marked
 unfolding Holds decoded reference sameBytes scalar encode decodeTree decodeForest decodeAttrs timeIn offsetTime trimmed whiteAt whiteBefore isWhite

@@ -32,7 +32,6 @@ use Rattle.writer.specs.declared.calls.Answer as writer
 use Rattle.writer.specs.Promise.{Promise, wholeText}
 use Rattle.rewritten.proofs.Fitting.{bytes-fit}
 use Rattle.ttml.specs.declared.back.Back as call
-use Rattle.ttml.specs.Demands.{SignedTimes}
 use Rattle.ttml.specs.ReadBack.{Signed, Returned}
 use Rattle.ttml.specs.Steps.{countOf, outcomeOf}
 use Rattle.ttml.proofs.Demands.{demand-3}
@@ -59,7 +58,7 @@ nothing-read {lent} {left} {answer} p = p .cleared (by (decided whole whole-numb
         let l = some-number whole whole-numbers [] lent (w .2) in
         omega (arith, l, p .refused (w .0) (w .1) l .1 (w .2) .0)
 
-module _ {T : track.Tables} {out written : Bytes} {lent left : Tables} {n : ℕ} {r : call.Back} (signed : SignedTimes T) where
+module _ {T : track.Tables} {out written : Bytes} {lent left : Tables} {n : ℕ} {r : call.Back} (signed : Signed (T .times)) where
   pub returned : (answer : writer.Answer) (reading : reader.Answer) → n ≡ countOf answer → r ≡ outcomeOf answer reading
       → Promise wholeText T out answer written → Parsed (take n written) lent reading left → Returned T out lent r written left
   unfolding countOf outcomeOf

@@ -16,7 +16,7 @@ use Rattle.times.specs.Written.{clockText}
 use Rattle.track.specs.Track.{Bytes, Track, done}
 use Rattle.track.specs.Meaning.{trackIn}
 use Rattle.grammar.specs.Tree.{Forest, text, element, more}
-use Rattle.grammar.specs.Tree as tree
+use Rattle.grammar.specs.Tree as trees
 use Rattle.grammar.specs.Demand.{Derives, decodeForest}
 use Rattle.promised.specs.declared.Answer as reader
 use Rattle.promised.specs.Promise.{Tables, LongEnough, Parsed}
@@ -76,7 +76,7 @@ abbrev pub marked : List Case
 marked =
     -- "A comment directly before `</` […]: d holds one p; the second p is d's sibling."
     tree (ascii "<d><p>a<!--c--></p><p>b</p></d>")
-    (plain (ascii "d") (plain (ascii "p") (more (text (ascii "a")) tree.none) tree.none) (plain (ascii "p") (more (text (ascii "b")) tree.none) tree.none))
+    (plain (ascii "d") (plain (ascii "p") (more (text (ascii "a")) trees.none) trees.none) (plain (ascii "p") (more (text (ascii "b")) trees.none) trees.none))
     ∷ entities (ascii "&#+65;") (ascii "A")
     ∷ entities (ascii "&AMP;") (ascii "&AMP;")
     -- "`00:05` is hours and minutes"
