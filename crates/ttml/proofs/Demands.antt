@@ -1,17 +1,17 @@
 -- The demands hold. Assumes nothing.
-use Prim.Native.Nat.{ℕ, _-_, _≤_, _<_}
+use Prim.Native.Nat.{ℕ, _-_, _*_, _≤_, _<_}
 use mathlib.Core.Path.{_≡_, refl, sym, ap, subst, _∙_}
-use mathlib.Core.Bool.{Bool, true, false, cond, _&&_, true≢false}
+use mathlib.Core.Bool.{Bool, true, false, cond, _&&_, _||_, true≢false}
 use mathlib.Core.List.{List, [], _∷_, _++_}
 use mathlib.Core.Option.{Option, none, some}
 use mathlib.Core.Logic.{_↔_, _⊎_, inl, inr}
 use native.Mathlib.Omega.{arith}
-use lib.Dec.{leb}
+use lib.Dec.{leb, ltb}
 use lib.Ieee.{Float}
 use lib.ListN.{length, take, replicate}
 use lib.Seq.{sets}
 use native.Mathlib.Nat.{sub-zero}
-use borrow.Author.Tests.{le-leb, leb-true, leb-false}
+use borrow.Author.Tests.{le-leb, leb-true, leb-false, eq-eqb, ltb-true, lt-ltb}
 use Rattle.unicode.specs.Utf8.{Utf8, utf8End}
 use Rattle.scan.proofs.Every.{by-test}
 use Rattle.unicode.proofs.Utf8Laws.{utf8-end}
@@ -27,7 +27,8 @@ use Rattle.tree.specs.Posts.{Fits}
 use Rattle.track.specs.Track.{Bytes, Cue, Track}
 use Rattle.track.specs.Tables as track
 use Rattle.track.specs.Tables.{zeroFloat}
-use Rattle.track.specs.Meaning.{isTrack, trackAt, trackIn}
+use Rattle.track.specs.Meaning.{isTrack, isUtf8, trackAt, trackIn}
+use Rattle.track.proofs.Answers.{long-full}
 use Rattle.track.specs.Layout.{each}
 use Rattle.track.specs.Plain.{isPlainTrack}
 use Rattle.track.specs.Check.{Checked}
@@ -58,7 +59,14 @@ use Rattle.writer.specs.Promise.{numberOf, placeOf, bytesOf, cueNumber}
 use Rattle.writer.proofs.Promised as writing
 use Rattle.queries.specs.declared.query.Resolved.{Resolved}
 use Rattle.queries.specs.declared.query.Resolved.the-variants.{Style, NoStyle, Refused}
-use Rattle.queries.specs.Promise.{EqualButOrder}
+use Rattle.styles.specs.Own as styles
+use Rattle.styles.specs.Resolve.{Resolution, resolve}
+use Rattle.styles.specs.Reaches.{Exactly}
+use Rattle.styles.proofs.Members.{same-count}
+use Rattle.styles.proofs.Theorem.{resolve-answers}
+use Rattle.queries.specs.Promise.{EqualButOrder, Asked, askedValue, askedRegion, askedCue, numberFor, trackNumber, lastNumber, isOver}
+use Rattle.queries.specs.Promise as query-promise
+use Rattle.queries.proofs.Reaching.{region-exactly, cue-exactly}
 use Rattle.queries.proofs.Determined as query
 use Rattle.told.specs.Told.{told, treeTold, checkTold, Tells}
 use Rattle.told.specs.Trees.{countCells, ReadInC}
@@ -67,7 +75,7 @@ use Rattle.rewritten.specs.Recaption.{ThenWritten, Recaptioned}
 use Rattle.ttml.specs.declared.back.Back as call
 use Rattle.ttml.specs.ReadBack.{Back, Signed, Went, Returned}
 use Rattle.ttml.specs.Demands.{Determined, DeterminedButOrder, DeterminedBoth, QueryInC, Demand1, meansTrack, meansCue, HasRoom, Leaves}
-use Rattle.ttml.specs.Demands.{Demand2, Demand3, Demands}
+use Rattle.ttml.specs.Demands.{Askable, Overflows, Demand2, Demand3, Demands}
 
 -- ---- 1
 
@@ -318,6 +326,56 @@ cue-of : (m : Answer (Cue Bytes)) (t : Track Bytes) → answered alone m ≡ is 
 cue-of (is c) t e = (c, refl, cc)
 cue-of (refused n p) t e = absurd (let z : _≡_ {A = ℕ} 0 1 = cc in omega arith)
 
+-- 18, or no number
+either : (a : Bool) (b : Bool) (n : ℕ) → n ≡ cond (a || b) 18 0 → (n ≡ 18) ↔ ((a ≡ true) ⊎ (b ≡ true))
+either true b n e = ((λ _. inl refl), (λ _. e))
+either false true n e = ((λ _. inr refl), (λ _. e))
+either false false n e = (
+  (λ f. absurd (omega (arith, e, f))),
+  (λ o. elim o [
+    | inl f ↦ absurd (true≢false (sym f))
+    | inr f ↦ absurd (true≢false (sym f))
+  ]),
+)
+
+over-tests : (lent : List ℕ) (ids : List Bytes) → ((ltb (length lent) (length ids * 4) ≡ true) ⊎ (ltb 65536 (length ids) ≡ true)) ↔ Overflows lent ids
+over-tests lent ids = (
+  (λ o. elim o [
+    | inl e ↦ inl (ltb-true _ _ e)
+    | inr e ↦ inr (ltb-true _ _ e)
+  ]),
+  (λ o. elim o [
+    | inl h ↦ inl (lt-ltb _ _ h)
+    | inr h ↦ inr (lt-ltb _ _ h)
+  ]),
+)
+
+-- the number of a query that meets none of 1, 2, 3 and 17
+module _ {text : Bytes} {T : track.Tables} {t : Track Bytes} (a : Askable text T t) (lent : List ℕ) (ask : Asked) where
+  valid : isUtf8 text ≡ true
+  unfolding isUtf8
+  valid = eq-eqb (utf8End text) (length text) (utf8-end text (a .valid))
+
+  asked-number : numberFor text T lent ask ≡ lastNumber lent (ask t)
+  unfolding numberFor trackNumber
+  asked-number = rw (long-full T (a .long-enough), le-leb (length text) 65536 (a .short), valid, a .means) refl
+
+  module _ (answer : Resolved) (number : query-promise.numberOf answer ≡ numberFor text T lent ask) where
+    refuses : (n : ℕ) → ask t ≡ styles.refused n → query-promise.numberOf answer ≡ n
+    unfolding lastNumber
+    refuses n e = number ∙ (asked-number ∙ rw e refl)
+
+    overflows : {P : Bytes → Type 0} (r : Resolution) (ids : List Bytes) → ask t ≡ styles.is r → Exactly P (r .ids) → Exactly P ids
+        → (query-promise.numberOf answer ≡ 18) ↔ Overflows lent ids
+    unfolding lastNumber isOver
+    overflows r ids e x y =
+        let c : length (r .ids) ≡ length ids = same-count (r .ids) ids x y in
+        let n : query-promise.numberOf answer ≡ cond (ltb (length lent) (length ids * 4) || ltb 65536 (length ids)) 18 0 =
+        number ∙ (asked-number ∙ rw (e, sym c) refl) in
+        let k = either _ _ _ n in
+        let o = over-tests lent ids in
+        ((λ f. o .0 (k .0 f)), (λ f. k .1 (o .1 f)))
+
 pub demand-2 : Demand2
 demand-2 = record {
   parse-gives = λ text lent left answer f t l u d m p.
@@ -346,6 +404,16 @@ demand-2 = record {
   check-refuses = λ T answer n p c h. c .refused n p h;
   resolver-follows = λ value T t lent left answer e p z. p .no-style z t e;
   resolver-counts = λ value T t lent left answer e p z. p .queried .ids z t e;
+  region-gives = λ id T t r lent left answer e s p z. (p .style z t e r s, p .ids z t e);
+  effective-gives = λ i T t r lent left answer e s p z. (p .style z t e r s, p .ids z t e);
+  region-refused = λ id T t n lent left answer a e p. refuses a lent (askedRegion id) answer (p .number) n e;
+  effective-refused = λ i T t n lent left answer a e p. refuses a lent (askedCue i) answer (p .number) n e;
+  resolver-full = λ value T t ids lent left answer a x p.
+      overflows a lent (askedValue value) answer (p .queried .number) (resolve (t .styles) value) ids refl (resolve-answers (t .styles) value .ids-reached) x;
+  region-full = λ id T t r ids lent left answer a e x p.
+      overflows a lent (askedRegion id) answer (p .number) r ids e (region-exactly t id r e) x;
+  effective-full = λ i T t r ids lent left answer a e x p.
+      overflows a lent (askedCue i) answer (p .number) r ids e (cue-exactly t i r e) x;
 }
 
 -- ---- 3

@@ -14,11 +14,11 @@
 --     written and read   `read_back`           Returned T out lent answer written left
 --     each in C          `pg_…`                Tells, ReadInC, AnswersInC of the above: 64 bits, counts, 27 cells and a float
 -- None of them asks anything of its caller.
-use Prim.Native.Nat.{ℕ, _-_, _≤_, _<_}
+use Prim.Native.Nat.{ℕ, _-_, _*_, _≤_, _<_}
 use mathlib.Core.Path.{_≡_}
 use mathlib.Core.Bool.{true}
 use mathlib.Core.Logic.{_↔_, _⊎_}
-use mathlib.Core.List.{List, _++_}
+use mathlib.Core.List.{List, [], _++_}
 use mathlib.Core.Option.{none, some}
 use lib.ListN.{length, take, replicate}
 use lib.Ieee.{Float}
@@ -49,10 +49,13 @@ use Rattle.promised.specs.Promise.{Tables, LongEnough, AllZero, Parsed, CuePars
 use Rattle.writer.specs.declared.calls.Answer as writer
 use Rattle.writer.specs.Promise.{Promise, wholeText, cueNumber}
 use Rattle.writer.specs.Promise as writing
+use Rattle.styles.specs.Own as styles
+use Rattle.styles.specs.Resolve.{Resolution}
+use Rattle.styles.specs.Queries.{regionStyle, effectiveStyle}
 use Rattle.styles.specs.Reaches.{Reaches, Exactly}
 use Rattle.styles.specs.Ids.{idsIn}
 use Rattle.queries.specs.declared.query.Resolved.{Resolved}
-use Rattle.queries.specs.Promise.{ReferencedStyle, RegionStyle, EffectiveStyle, EqualButOrder, styleIn, countOf}
+use Rattle.queries.specs.Promise.{ReferencedStyle, RegionStyle, EffectiveStyle, EqualButOrder, ByRegion, ByCue, styleIn, countOf}
 use Rattle.queries.specs.Promise as query
 use Rattle.told.specs.Told.{Tells, checkTold, readTold, writtenTold}
 use Rattle.told.specs.Trees.{ReadInC}
@@ -120,6 +123,17 @@ meansCue f c = cueOf bare (nodesOf (decodeForest decoded f)) ≡ is c
 abbrev pub HasRoom : (w out : Bytes) → Type 0
 HasRoom w out = (length w ≤ length out) × (length w ≤ 65536)
 
+-- a query meets none of 1, 2, 3 and 17: the tables are long enough and mean t, and its text is UTF-8 of at most 65,536 bytes
+pub record Askable (text : Bytes) (T : track.Tables) (t : Track Bytes) : Type 0 where
+  pub long-enough : track.LongEnough (track.lengths T)
+  pub means : trackIn T ≡ some t
+  pub short : length text ≤ 65536
+  pub valid : Utf8 text
+
+-- more ids than rows of four cells are lent, or than 65,536
+abbrev pub Overflows : (lent : List ℕ) → List Bytes → Type 0
+Overflows lent ids = (length lent < length ids * 4) ⊎ (65536 < length ids)
+
 abbrev pub Leaves : (w out : Bytes) → writer.Answer → (left : Bytes) → Type 0
 Leaves w out answer left = (answer ≡ writer.Answer.Bytes (length w)) × (left ≡ w ++ replicate (length out - length w) 0)
 
@@ -168,6 +182,27 @@ pub record Demand2 : Type 0 where
   pub resolver-counts : (value : Bytes) (T : track.Tables) (t : Track Bytes) (lent left : List ℕ) (answer : Resolved) → trackIn T ≡ some t
       → ReferencedStyle value T lent answer left → query.numberOf answer ≡ 0
       → Exactly (Reaches (t .styles) value) (idsIn value (T .strings) left (countOf answer))
+  -- `region_style` and `effective_style_for_cue_index` give the style that the definition resolves, and exactly the ids reached; or 14 or 15
+  pub region-gives : (id : Bytes) (T : track.Tables) (t : Track Bytes) (r : Resolution) (lent left : List ℕ) (answer : Resolved) → trackIn T ≡ some t
+      → regionStyle t id ≡ styles.is r → RegionStyle id T lent answer left → query.numberOf answer ≡ 0
+      → (styleIn (T .strings) answer ≡ r .style) × Exactly (ByRegion t id) (idsIn id (T .strings) left (countOf answer))
+  pub effective-gives : (i : ℕ) (T : track.Tables) (t : Track Bytes) (r : Resolution) (lent left : List ℕ) (answer : Resolved) → trackIn T ≡ some t
+      → effectiveStyle t i ≡ styles.is r → EffectiveStyle T i lent answer left → query.numberOf answer ≡ 0
+      → (styleIn (T .strings) answer ≡ r .style) × Exactly (ByCue t i) (idsIn [] (T .strings) left (countOf answer))
+  pub region-refused : (id : Bytes) (T : track.Tables) (t : Track Bytes) (n : ℕ) (lent left : List ℕ) (answer : Resolved) → Askable id T t
+      → regionStyle t id ≡ styles.refused n → RegionStyle id T lent answer left → query.numberOf answer ≡ n
+  pub effective-refused : (i : ℕ) (T : track.Tables) (t : Track Bytes) (n : ℕ) (lent left : List ℕ) (answer : Resolved) → Askable [] T t
+      → effectiveStyle t i ≡ styles.refused n → EffectiveStyle T i lent answer left → query.numberOf answer ≡ n
+  -- "18" exactly where the ids reached, whatever their order, are more than the rows that are lent, or than 65,536
+  pub resolver-full : (value : Bytes) (T : track.Tables) (t : Track Bytes) (ids : List Bytes) (lent left : List ℕ) (answer : Resolved)
+      → Askable value T t → Exactly (Reaches (t .styles) value) ids → ReferencedStyle value T lent answer left
+      → (query.numberOf answer ≡ 18) ↔ Overflows lent ids
+  pub region-full : (id : Bytes) (T : track.Tables) (t : Track Bytes) (r : Resolution) (ids : List Bytes) (lent left : List ℕ) (answer : Resolved)
+      → Askable id T t → regionStyle t id ≡ styles.is r → Exactly (ByRegion t id) ids → RegionStyle id T lent answer left
+      → (query.numberOf answer ≡ 18) ↔ Overflows lent ids
+  pub effective-full : (i : ℕ) (T : track.Tables) (t : Track Bytes) (r : Resolution) (ids : List Bytes) (lent left : List ℕ) (answer : Resolved)
+      → Askable [] T t → effectiveStyle t i ≡ styles.is r → Exactly (ByCue t i) ids → EffectiveStyle T i lent answer left
+      → (query.numberOf answer ≡ 18) ↔ Overflows lent ids
 
 -- ---- 3. the grammar, and reading back
 
