@@ -1,5 +1,5 @@
 -- The demands hold. Assumes nothing.
-use Prim.Native.Nat.{ℕ, _-_, _*_, _≤_, _<_}
+use Prim.Native.Nat.{ℕ, zero, suc, _-_, _*_, _≤_, _<_}
 use mathlib.Core.Path.{_≡_, refl, sym, ap, subst, _∙_}
 use mathlib.Core.Bool.{Bool, true, false, cond, _&&_, _||_, true≢false}
 use mathlib.Core.List.{List, [], _∷_, _++_}
@@ -40,7 +40,7 @@ use Rattle.meaning.specs.Answers.{Answer, is, refused, answered}
 use Rattle.laid.specs.Laid.{alone}
 use Rattle.meaning.specs.Steps.{parsed, cueParsed}
 use Rattle.meaning.proofs.Theorem.{placeless, track-means, cue-means}
-use Rattle.written.specs.Written.{writtenOf}
+use Rattle.written.specs.Written.{writtenOf, cueWritten}
 use Rattle.written.specs.Shape.{treeOf, plainTreeOf}
 use Rattle.written.proofs.Theorem.{derives, decoded-tree}
 use Rattle.written.proofs.Handed.{names-fit}
@@ -53,14 +53,15 @@ use Rattle.promised.specs.Promise.{Tables, LongEnough, AllZero, Parsed, CuePars
 use Rattle.promised.proofs.Theorem.{parsed-determined, cue-determined, parsed-track, cue-track}
 use Rattle.promised.proofs.Cases.{parsed-case, cue-case}
 use Rattle.writer.specs.declared.calls.Answer as writer
-use Rattle.writer.specs.Promise.{Promise, Outcome, gives, meets, Comes, short-table, no-track, of-track, fits, ofText, wholeText, numberIn, countIn}
-use Rattle.writer.specs.Promise.{textIn}
-use Rattle.writer.specs.Promise.{numberOf, placeOf, bytesOf, cueNumber}
+use Rattle.writer.specs.Promise.{Promise, Outcome, gives, meets, Comes, short-table, no-track, of-track, fits, within, wholeText, numberIn, countIn}
+use Rattle.writer.specs.Promise.{placeIn, textIn}
+use Rattle.writer.specs.Promise.{numberOf, placeOf, bytesOf, cueNumbered, cueNumber}
 use Rattle.writer.proofs.Promised as writing
 use Rattle.queries.specs.declared.query.Resolved.{Resolved}
 use Rattle.queries.specs.declared.query.Resolved.the-variants.{Style, NoStyle, Refused}
 use Rattle.styles.specs.Own as styles
 use Rattle.styles.specs.Resolve.{Resolution, resolve}
+use Rattle.styles.specs.Queries.{nth}
 use Rattle.styles.specs.Reaches.{Exactly}
 use Rattle.styles.proofs.Members.{same-count}
 use Rattle.styles.proofs.Theorem.{resolve-answers}
@@ -263,8 +264,8 @@ same-some {a = a} {b = b} e f = let g : some a ≡ some b = sym e ∙ f in cc
 no-some : {A B : Type 0} {a : A} {o : Option A} → o ≡ some a → o ≡ none → B
 no-some {A} {B} {a} e f = let g : some a ≡ none = sym e ∙ f in absurd (let z : _≡_ {A = ℕ} 0 1 = cc in omega arith)
 
-fits-both : (lent : ℕ) (w : Bytes) → length w ≤ lent → length w ≤ 65536 → ofText lent (some w) ≡ gives w
-unfolding ofText fits
+fits-both : (lent : ℕ) (w : Bytes) → length w ≤ lent → length w ≤ 65536 → within lent (gives w) ≡ gives w
+unfolding within fits
 fits-both lent w h g = rw (le-leb (length w) lent h, le-leb (length w) 65536 g)
 
 bytes-said : (a : writer.Answer) (n : ℕ) → bytesOf a ≡ some n → a ≡ writer.Answer.Bytes n
@@ -273,12 +274,12 @@ bytes-said (writer.Answer.Bytes m) n e = let q : m ≡ n = cc in ap writer.Answe
 bytes-said (writer.Answer.Refused r) n e = absurd (let z : _≡_ {A = ℕ} 0 1 = cc in omega arith)
 
 -- 18 says that it does not fit
-meets-eighteen : (lent : ℕ) (w : Bytes) → numberIn (ofText lent (some w)) ≡ 18 → (length w ≤ lent) × (length w ≤ 65536) → ⊥
+meets-eighteen : (lent : ℕ) (w : Bytes) → numberIn (within lent (gives w)) ≡ 18 → (length w ≤ lent) × (length w ≤ 65536) → ⊥
 unfolding numberIn
 meets-eighteen lent w e h = let z : numberIn (gives w) ≡ 18 = ap numberIn (sym (fits-both lent w (h .0) (h .1))) ∙ e in omega (arith, z)
 
-too-long : (lent : ℕ) (w : Bytes) → ¬ ((length w ≤ lent) × (length w ≤ 65536)) → numberIn (ofText lent (some w)) ≡ 18
-unfolding numberIn ofText fits
+too-long : (lent : ℕ) (w : Bytes) → ¬ ((length w ≤ lent) × (length w ≤ 65536)) → numberIn (within lent (gives w)) ≡ 18
+unfolding numberIn within fits
 too-long lent w n =
     by-test (leb (length w) lent)
     (λ x. by-test (leb (length w) 65536) (λ y. absurd (n (leb-true _ _ x, leb-true _ _ y))) (λ y. rw (x, y) refl))
@@ -290,17 +291,17 @@ refused-said (writer.Answer.Bytes m) n e h p = absurd (omega (arith, e, h))
 refused-said (writer.Answer.Refused r) n e h p = rw (sym e, sym p) refl
 
 -- what a call that writes comes to, of a track that is handed and the text that is asked for
-module _ (asked : Track Bytes → Option Bytes) (T : track.Tables) (t : Track Bytes) (l : track.LongEnough (track.lengths T)) (e : trackIn T ≡ some t)
+module _ (asked : Track Bytes → Outcome) (T : track.Tables) (t : Track Bytes) (l : track.LongEnough (track.lengths T)) (e : trackIn T ≡ some t)
     where
-  comes-of : (lent : ℕ) (o : Outcome) → Comes asked T lent o → o ≡ ofText lent (asked t)
+  comes-of : (lent : ℕ) (o : Outcome) → Comes asked T lent o → o ≡ within lent (asked t)
   comes-of lent _ (short-table h) = absurd (h l)
   comes-of lent _ (no-track h n) = no-some e n
-  comes-of lent _ (of-track k h s) = ap (λ (x : Track Bytes). ofText lent (asked x)) (same-some s e)
+  comes-of lent _ (of-track k h s) = ap (λ (x : Track Bytes). within lent (asked x)) (same-some s e)
 
   module _ (out left : Bytes) (answer : writer.Answer) (p : Promise asked T out answer left) where
-    module _ (w : Bytes) (a : asked t ≡ some w) where
-      outcome-is : p .outcome ≡ ofText (length out) (some w)
-      outcome-is = comes-of (length out) (p .outcome) (p .comes) ∙ ap (ofText (length out)) a
+    module _ (w : Bytes) (a : asked t ≡ gives w) where
+      outcome-is : p .outcome ≡ within (length out) (gives w)
+      outcome-is = comes-of (length out) (p .outcome) (p .comes) ∙ ap (within (length out)) a
 
       leaves : HasRoom w out → Leaves w out answer left
       unfolding countIn textIn
@@ -314,12 +315,26 @@ module _ (asked : Track Bytes → Option Bytes) (T : track.Tables) (t : Track By
         (λ n. p .number ∙ (ap numberIn outcome-is ∙ too-long (length out) w n)),
       )
 
-    past : asked t ≡ none → (answer ≡ writer.Answer.Refused (record { number = 17; place = 0 })) × (left ≡ replicate (length out) 0)
-    unfolding numberIn textIn ofText
+    past : asked t ≡ meets 17 0 → (answer ≡ writer.Answer.Refused (record { number = 17; place = 0 })) × (left ≡ replicate (length out) 0)
+    unfolding numberIn placeIn textIn within
     past a =
-        let o : p .outcome ≡ meets 17 = comes-of (length out) (p .outcome) (p .comes) ∙ ap (ofText (length out)) a in
+        let o : p .outcome ≡ meets 17 0 = comes-of (length out) (p .outcome) (p .comes) ∙ ap (within (length out)) a in
         let b : left ≡ replicate (length out - 0) 0 = rw o at (p .bytes) in
-        (refused-said answer 17 (p .number ∙ ap numberIn o) (omega arith) (p .place), rw (sub-zero (length out)) at b)
+        (refused-said answer 17 (p .number ∙ ap numberIn o) (omega arith) (p .place ∙ ap placeIn o), rw (sub-zero (length out)) at b)
+
+-- the cue of an index, and none past the end
+asked-cue : (i : ℕ) (l : List (Cue Bytes)) (c : Cue Bytes) → nth l i ≡ some c → cueNumbered i l ≡ gives (cueWritten c)
+unfolding nth cueNumbered
+asked-cue zero [] c e = no-some e refl
+asked-cue (suc i) [] c e = no-some e refl
+asked-cue zero (x ∷ l) c e = let q : x ≡ c = cc in ap (λ (y : Cue Bytes). gives (cueWritten y)) q
+asked-cue (suc i) (x ∷ l) c e = asked-cue i l c e
+
+asked-past : (i : ℕ) (l : List (Cue Bytes)) → length l ≤ i → cueNumbered i l ≡ meets 17 0
+unfolding cueNumbered
+asked-past i [] h = refl
+asked-past zero (x ∷ l) h = absurd (omega (arith, h))
+asked-past (suc i) (x ∷ l) h = asked-past i l (omega (arith, h))
 
 -- a single cue as a track
 cue-of : (m : Answer (Cue Bytes)) (t : Track Bytes) → answered alone m ≡ is t → (c : Cue Bytes) × (m ≡ is c) × (alone c ≡ t)
@@ -397,9 +412,9 @@ demand-2 = record {
   cue-clears = λ text lent left answer p h. p .cleared h;
   write-gives = λ T t out left answer l e f p. leaves wholeText T t l e out left answer p (writtenOf t) refl f;
   write-full = λ T t out left answer l e p. full wholeText T t l e out left answer p (writtenOf t) refl;
-  cue-written = λ i T t w out left answer l e a f p. leaves (cueNumber i) T t l e out left answer p w a f;
-  cue-full = λ i T t w out left answer l e a p. full (cueNumber i) T t l e out left answer p w a;
-  cue-past = λ i T t out left answer l e a p. past (cueNumber i) T t l e out left answer p a;
+  cue-written = λ i T t c out left answer l e a f p. leaves (cueNumber i) T t l e out left answer p (cueWritten c) (asked-cue i (t .cues) c a) f;
+  cue-full = λ i T t c out left answer l e a p. full (cueNumber i) T t l e out left answer p (cueWritten c) (asked-cue i (t .cues) c a);
+  cue-past = λ i T t out left answer l e h p. past (cueNumber i) T t l e out left answer p (asked-past i (t .cues) h);
   check-takes = λ T answer p. p .taken;
   check-refuses = λ T answer n p c h. c .refused n p h;
   resolver-follows = λ value T t lent left answer e p z. p .no-style z t e;
@@ -443,7 +458,7 @@ pub record Wrote (T : track.Tables) (n : ℕ) (written : Bytes) : Type 0 where
 
 given-text : (T : track.Tables) (lent : ℕ) (o : Outcome) (n : ℕ) → Comes wholeText T lent o → some n ≡ countIn o
     → (t : Track Bytes) × (trackIn T ≡ some t) × (o ≡ gives (writtenOf t)) × (n ≡ length (writtenOf t))
-unfolding countIn ofText
+unfolding countIn within
 given-text T lent _ n (short-table h) e = absurd (let z : _≡_ {A = ℕ} 0 1 = cc in omega arith)
 given-text T lent _ n (no-track h m) e = absurd (let z : _≡_ {A = ℕ} 0 1 = cc in omega arith)
 given-text T lent _ n (of-track t h s) e =

@@ -6,7 +6,6 @@ use Prim.Native.Nat.{ℕ, zero, suc, _+_, _≤_, _<_, _^_}
 use mathlib.Core.Path.{_≡_, refl, sym}
 use mathlib.Core.Logic.{_⊎_, inl, inr}
 use mathlib.Core.List.{List, [], _∷_}
-use mathlib.Core.Option.{Option}
 use native.Mathlib.Omega.{arith}
 use lib.Dec.{ltb}
 use lib.ListN.{length, getD, take}
@@ -29,7 +28,7 @@ use Rattle.promised.proofs.Promises.{some-number}
 use Rattle.promised.proofs.Determined.{decided}
 use Rattle.promised.proofs.Cases.{parsed-refused}
 use Rattle.writer.specs.declared.calls.Answer as writer
-use Rattle.writer.specs.Promise.{Promise, wholeText}
+use Rattle.writer.specs.Promise.{Outcome, Promise, wholeText}
 use Rattle.rewritten.proofs.Fitting.{bytes-fit}
 use Rattle.ttml.specs.declared.back.Back as call
 use Rattle.ttml.specs.ReadBack.{Signed, Returned}
@@ -37,13 +36,13 @@ use Rattle.ttml.specs.Steps.{countOf, outcomeOf}
 use Rattle.ttml.proofs.Demands.{demand-3}
 
 -- ---- what is written stands in the bytes that are lent
-module _ {text : Track Bytes → Option Bytes} {T : track.Tables} {out left : Bytes} {n : ℕ} where
-  pub count-fits : (answer : writer.Answer) → n ≡ countOf answer → Promise text T out answer left → n ≤ length left
+module _ {asked : Track Bytes → Outcome} {T : track.Tables} {out left : Bytes} {n : ℕ} where
+  pub count-fits : (answer : writer.Answer) → n ≡ countOf answer → Promise asked T out answer left → n ≤ length left
   unfolding countOf
   count-fits (writer.Answer.Bytes m) e p = rw e (bytes-fit m p)
   count-fits (writer.Answer.Refused r) e p = omega (arith, e)
 
-  pub count-stands : (answer : writer.Answer) → n ≡ countOf answer → Promise text T out answer left → n ≡ length (take n left)
+  pub count-stands : (answer : writer.Answer) → n ≡ countOf answer → Promise asked T out answer left → n ≡ length (take n left)
   count-stands answer e p = sym (length-take-le n left (count-fits answer e p))
 
 -- ---- after a track was written

@@ -43,7 +43,7 @@ use Rattle.meaning.specs.Answers.{is}
 use Rattle.meaning.specs.Kinds.{bare, nodesOf}
 use Rattle.meaning.specs.Meaning.{trackOf, cueOf}
 use Rattle.laid.specs.Laid.{alone}
-use Rattle.written.specs.Written.{writtenOf}
+use Rattle.written.specs.Written.{writtenOf, cueWritten}
 use Rattle.promised.specs.declared.Answer as reader
 use Rattle.promised.specs.Promise.{Tables, LongEnough, AllZero, Parsed, CueParsed, numberOf}
 use Rattle.writer.specs.declared.calls.Answer as writer
@@ -51,7 +51,7 @@ use Rattle.writer.specs.Promise.{Promise, wholeText, cueNumber}
 use Rattle.writer.specs.Promise as writing
 use Rattle.styles.specs.Own as styles
 use Rattle.styles.specs.Resolve.{Resolution}
-use Rattle.styles.specs.Queries.{regionStyle, effectiveStyle}
+use Rattle.styles.specs.Queries.{regionStyle, effectiveStyle, nth}
 use Rattle.styles.specs.Reaches.{Reaches, Exactly}
 use Rattle.styles.specs.Ids.{idsIn}
 use Rattle.queries.specs.declared.query.Resolved.{Resolved}
@@ -162,13 +162,15 @@ pub record Demand2 : Type 0 where
       → trackIn T ≡ some t → HasRoom (writtenOf t) out → Promise wholeText T out answer left → Leaves (writtenOf t) out answer left
   pub write-full : (T : track.Tables) (t : Track Bytes) (out left : Bytes) (answer : writer.Answer) → track.LongEnough (track.lengths T)
       → trackIn T ≡ some t → Promise wholeText T out answer left → (writing.numberOf answer ≡ 18) ↔ (¬ HasRoom (writtenOf t) out)
-  -- `cue_to_bytes` the same of the text w of a cue; one past the end meets 17
-  pub cue-written : (i : ℕ) (T : track.Tables) (t : Track Bytes) (w out left : Bytes) (answer : writer.Answer) → track.LongEnough (track.lengths T)
-      → trackIn T ≡ some t → cueNumber i t ≡ some w → HasRoom w out → Promise (cueNumber i) T out answer left → Leaves w out answer left
-  pub cue-full : (i : ℕ) (T : track.Tables) (t : Track Bytes) (w out left : Bytes) (answer : writer.Answer) → track.LongEnough (track.lengths T)
-      → trackIn T ≡ some t → cueNumber i t ≡ some w → Promise (cueNumber i) T out answer left → (writing.numberOf answer ≡ 18) ↔ (¬ HasRoom w out)
+  -- `cue_to_bytes` the same of the text of a cue; an index past the end meets 17
+  pub cue-written : (i : ℕ) (T : track.Tables) (t : Track Bytes) (c : Cue Bytes) (out left : Bytes) (answer : writer.Answer)
+      → track.LongEnough (track.lengths T) → trackIn T ≡ some t → nth (t .cues) i ≡ some c → HasRoom (cueWritten c) out
+      → Promise (cueNumber i) T out answer left → Leaves (cueWritten c) out answer left
+  pub cue-full : (i : ℕ) (T : track.Tables) (t : Track Bytes) (c : Cue Bytes) (out left : Bytes) (answer : writer.Answer)
+      → track.LongEnough (track.lengths T) → trackIn T ≡ some t → nth (t .cues) i ≡ some c → Promise (cueNumber i) T out answer left
+      → (writing.numberOf answer ≡ 18) ↔ (¬ HasRoom (cueWritten c) out)
   pub cue-past : (i : ℕ) (T : track.Tables) (t : Track Bytes) (out left : Bytes) (answer : writer.Answer) → track.LongEnough (track.lengths T)
-      → trackIn T ≡ some t → cueNumber i t ≡ none → Promise (cueNumber i) T out answer left
+      → trackIn T ≡ some t → length (t .cues) ≤ i → Promise (cueNumber i) T out answer left
       → (answer ≡ writer.Answer.Refused (record { number = 17; place = 0 })) × (left ≡ replicate (length out) 0)
   -- `check_track` takes exactly the tables that are long enough and mean a track; any other is 1 or 17, at place 0
   pub check-takes : (T : track.Tables) (answer : Check) → Checked T answer
