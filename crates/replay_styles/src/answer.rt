@@ -1,4 +1,4 @@
-// An answer in bytes. A refusal is its number and 0. A style, or none, is 0; 1, or 0 for none; of a style
+// An answer held to the bytes that are told. A refusal is its number and 0. A style, or none, is 0; 1, or 0 for none; of a style
 //
 //     its name: 2 bytes of its length, and itself
 //     colour, and background: 1, red, green, blue, alpha; or 0
@@ -6,8 +6,8 @@
 //     size: 1, 2 for a minus and else 1, 4 bytes of its digits, its scale, 4 bytes of the f32; or 0
 //     bold, italic, underline, strike, alignment
 //
-// then 2 bytes of how many ids there are, and the ids, each as the name. Last comes 1, if all cells behind the ids are zero. A part
-// that is absent and not zero, and a place that is not 0, is 9.
+// then 2 bytes of how many ids there are, and the ids, each as the name. Last comes 1: all cells behind the ids must be zero. An
+// answer with a part that is absent and not zero, or a place that is not 0, is never told.
 ghost use Prim.Native.Nat.{_+_, _≤_};
 ghost use lib.ListN.{length};
 use colors::Rgba;
@@ -19,102 +19,110 @@ use track::Look;
 use track::Span;
 use tree::Refusal;
 
-// What does not fit is not written, and where nothing was written the place stays.
-fn put(out: &mut [u8], at: usize, b: u8) -> usize {
-    if at < out.len() {
-        out[at] = b;
-        return at + 1;
+// No place: something else is told.
+fn nowhere(told: &[u8]) -> usize {
+    told.len() + 1
+}
+
+// The place after a byte, if it is told there. Each function that follows gives the place after all of its bytes.
+fn after(told: &[u8], at: usize, b: u8) -> usize {
+    if at < told.len() {
+        if told[at] == b {
+            return at + 1;
+        }
     }
-    at
+    nowhere(told)
 }
 
-fn put_flag(out: &mut [u8], at: usize, flag: bool) -> usize {
-    if flag {
-        put(out, at, 1)
-    } else {
-        put(out, at, 0)
+fn after_two(told: &[u8], at: usize, n: usize) -> usize {
+    let next = after(told, at, (n / 256 % 256) as u8);
+    after(told, next, (n % 256) as u8)
+}
+
+fn after_four(told: &[u8], at: usize, n: u32) -> usize {
+    let next = after_two(told, at, (n / 65536) as usize);
+    after_two(told, next, (n % 65536) as usize)
+}
+
+fn after_bytes(told: &[u8], at: usize, bytes: &[u8]) -> usize {
+    let start = after_two(told, at, bytes.len());
+    if told.len() < start {
+        return start;
     }
-}
-
-fn put_two(out: &mut [u8], at: usize, n: usize) -> usize {
-    let next = put(out, at, (n / 256 % 256) as u8);
-    put(out, next, (n % 256) as u8)
-}
-
-fn put_four(out: &mut [u8], at: usize, n: u32) -> usize {
-    let next = put_two(out, at, (n / 65536) as usize);
-    put_two(out, next, (n % 65536) as usize)
-}
-
-fn put_bytes(out: &mut [u8], at: usize, bytes: &[u8]) -> usize {
-    let mut to = put_two(out, at, bytes.len());
-    let mut i = 0;
-    while i < bytes.len() {
-        to = put(out, to, bytes[i]);
-        i += 1;
+    if told.len() - start < bytes.len() {
+        return nowhere(told);
     }
-    to
+    if scan::starts_with(told, start, bytes) {
+        return start + bytes.len();
+    }
+    nowhere(told)
 }
 
 // A string of a table.
-fn put_part(out: &mut [u8], at: usize, bytes: &[u8], place: usize, len: usize) -> usize {
+fn after_part(told: &[u8], at: usize, bytes: &[u8], place: usize, len: usize) -> usize {
     if bytes.len() < place {
-        return put(out, at, 9);
+        return nowhere(told);
     }
     if bytes.len() - place < len {
-        return put(out, at, 9);
+        return nowhere(told);
     }
-    put_bytes(out, at, &bytes[place..place + len])
+    after_bytes(told, at, &bytes[place..place + len])
 }
 
-fn put_color(out: &mut [u8], at: usize, has: bool, c: Rgba) -> usize {
-    let next = put_flag(out, at, has);
+// A part that is absent.
+fn after_none(told: &[u8], at: usize, is_zero: bool) -> usize {
+    if is_zero {
+        return after(told, at, 0);
+    }
+    nowhere(told)
+}
+
+fn is_no_color(c: Rgba) -> bool {
+    c.r == 0 && c.g == 0 && c.b == 0 && c.a == 0
+}
+
+fn after_color(told: &[u8], at: usize, has: bool, c: Rgba) -> usize {
     if !has {
-        if c.r == 0 && c.g == 0 && c.b == 0 && c.a == 0 {
-            return next;
-        }
-        return put(out, next, 9);
+        return after_none(told, at, is_no_color(c));
     }
-    let green = put(out, next, c.r);
-    let blue = put(out, green, c.g);
-    let alpha = put(out, blue, c.b);
-    put(out, alpha, c.a)
+    let red = after(told, at, 1);
+    let green = after(told, red, c.r);
+    let blue = after(told, green, c.g);
+    let alpha = after(told, blue, c.b);
+    after(told, alpha, c.a)
 }
 
-fn put_family(out: &mut [u8], at: usize, has: bool, family: Span, strings: &[u8]) -> usize {
-    let next = put_flag(out, at, has);
-    if has {
-        return put_part(out, next, strings, family.place, family.len);
+fn after_family(told: &[u8], at: usize, has: bool, family: Span, strings: &[u8]) -> usize {
+    if !has {
+        return after_none(told, at, family.place == 0 && family.len == 0);
     }
-    if family.place == 0 && family.len == 0 {
-        return next;
-    }
-    put(out, next, 9)
+    after_part(told, after(told, at, 1), strings, family.place, family.len)
 }
 
-fn put_float(out: &mut [u8], at: usize, value: f32) -> usize {
+fn after_float(told: &[u8], at: usize, value: f32) -> usize {
     if value != value {
-        return put(out, at, 9);
+        return nowhere(told);
     }
-    put_four(out, at, f32::to_bits(value))
+    after_four(told, at, f32::to_bits(value))
 }
 
 fn sign(negative: bool) -> u8 {
     if negative { 2 } else { 1 }
 }
 
-fn put_size(out: &mut [u8], at: usize, has: bool, size: Size) -> usize {
-    let next = put_flag(out, at, has);
+fn is_no_size(size: Size) -> bool {
+    size.digits == 0 && size.scale == 0 && !size.negative
+}
+
+fn after_size(told: &[u8], at: usize, has: bool, size: Size) -> usize {
     if !has {
-        if size.digits == 0 && size.scale == 0 && !size.negative {
-            return next;
-        }
-        return put(out, next, 9);
+        return after_none(told, at, is_no_size(size));
     }
-    let digits = put(out, next, sign(size.negative));
-    let scale = put_four(out, digits, size.digits);
-    let float = put(out, scale, (size.scale % 256) as u8);
-    put_float(out, float, size.value)
+    let start = after(told, at, 1);
+    let digits = after(told, start, sign(size.negative));
+    let scale = after_four(told, digits, size.digits);
+    let float = after(told, scale, (size.scale % 256) as u8);
+    after_float(told, float, size.value)
 }
 
 fn number_of(x: Align) -> u8 {
@@ -127,34 +135,38 @@ fn number_of(x: Align) -> u8 {
     }
 }
 
-fn put_flags(out: &mut [u8], at: usize, look: Look) -> usize {
-    let italic = put_flag(out, at, look.bold);
-    let underline = put_flag(out, italic, look.italic);
-    let strike = put_flag(out, underline, look.underline);
-    let align = put_flag(out, strike, look.strike);
-    let side = look.align;
-    put(out, align, number_of(side))
+fn digit(flag: bool) -> u8 {
+    if flag { 1 } else { 0 }
 }
 
-fn put_look(out: &mut [u8], at: usize, look: Look, strings: &[u8]) -> usize {
+fn after_flags(told: &[u8], at: usize, look: Look) -> usize {
+    let italic = after(told, at, digit(look.bold));
+    let underline = after(told, italic, digit(look.italic));
+    let strike = after(told, underline, digit(look.underline));
+    let align = after(told, strike, digit(look.strike));
+    let side = look.align;
+    after(told, align, number_of(side))
+}
+
+fn after_look(told: &[u8], at: usize, look: Look, strings: &[u8]) -> usize {
     let color = look.color;
     let back = look.back;
     let family = look.family;
     let size = look.size;
-    let a = put_color(out, at, look.has_color, color);
-    let b = put_color(out, a, look.has_back, back);
-    let c = put_family(out, b, look.has_family, family, strings);
-    let d = put_size(out, c, look.has_size, size);
-    put_flags(out, d, look)
+    let a = after_color(told, at, look.has_color, color);
+    let b = after_color(told, a, look.has_back, back);
+    let c = after_family(told, b, look.has_family, family, strings);
+    let d = after_size(told, c, look.has_size, size);
+    after_flags(told, d, look)
 }
 
-fn put_style(out: &mut [u8], style: Styled, text: &[u8], strings: &[u8]) -> usize {
+fn after_style(told: &[u8], style: Styled, text: &[u8], strings: &[u8]) -> usize {
     let name = style.name;
     let look = style.look;
-    let a = put(out, 0, 0);
-    let b = put(out, a, 1);
-    let c = put_part(out, b, text, name.place, name.len);
-    put_look(out, c, look, strings)
+    let a = after(told, 0, 0);
+    let b = after(told, a, 1);
+    let c = after_part(told, b, text, name.place, name.len);
+    after_look(told, c, look, strings)
 }
 
 // Are all cells from one on zero?
@@ -170,65 +182,57 @@ fn is_clear(ids: &[u32], from: usize) -> bool {
 }
 
 // The id whose row begins at a cell.
-fn put_id(out: &mut [u8], at: usize, ids: &[u32], cell: usize, text: &[u8], strings: &[u8]) -> usize
+fn after_id(told: &[u8], at: usize, ids: &[u32], cell: usize, text: &[u8], strings: &[u8]) -> usize
     requires { ⌜ cell + 4 ≤ length (now ids) ⌝ }
 {
     if ids[cell + 3] != 0 {
-        return put(out, at, 9);
+        return nowhere(told);
     }
     let place = scan::get(ids, cell + 1);
     let len = scan::get(ids, cell + 2);
     match ids[cell] {
-        0 => put_part(out, at, text, place, len),
-        1 => put_part(out, at, strings, place, len),
-        _ => put(out, at, 9),
+        0 => after_part(told, at, text, place, len),
+        1 => after_part(told, at, strings, place, len),
+        _ => nowhere(told),
     }
 }
 
-// So many ids.
-fn put_ids(
-    out: &mut [u8],
-    at: usize,
-    count: usize,
-    ids: &[u32],
-    text: &[u8],
-    strings: &[u8],
-) -> usize {
-    let mut to = put_two(out, at, count);
+// Do so many ids end what is told?
+fn ids_end(told: &[u8], at: usize, count: usize, ids: &[u32], text: &[u8], strings: &[u8]) -> bool {
+    let mut to = after_two(told, at, count);
     let mut left = count;
     let mut cell = 0;
     while 0 < left {
         if ids.len() - cell < 4 {
-            return put(out, to, 9);
+            return false;
         }
-        to = put_id(out, to, ids, cell, text, strings);
+        to = after_id(told, to, ids, cell, text, strings);
         cell += 4;
         left -= 1;
     }
-    put_flag(out, to, is_clear(ids, cell))
+    after(told, to, 1) == told.len() && is_clear(ids, cell)
 }
 
-fn put_refusal(out: &mut [u8], refusal: Refusal, ids: &[u32]) -> usize {
-    let a = put(out, 0, (refusal.number % 256) as u8);
-    if refusal.place == 0 && is_clear(ids, 0) {
-        return put(out, a, 0);
-    }
-    put(out, a, 9)
+fn is_refusal(told: &[u8], refusal: Refusal, ids: &[u32]) -> bool {
+    let a = after(told, 0, (refusal.number % 256) as u8);
+    after(told, a, 0) == told.len() && refusal.place == 0 && is_clear(ids, 0)
 }
 
-// How many bytes the answer has, which stand at the start of out.
-pub fn encode(answer: Resolved, text: &[u8], strings: &[u8], ids: &[u32], out: &mut [u8]) -> usize {
+// Is it what is told?
+pub fn is_told(answer: Resolved, text: &[u8], strings: &[u8], ids: &[u32], told: &[u8]) -> bool {
     match answer {
-        Resolved::Refused(r) => put_refusal(out, r, ids),
-        Resolved::NoStyle(n) => {
-            let a = put(out, 0, 0);
-            let b = put(out, a, 0);
-            put_ids(out, b, n, ids, text, strings)
-        }
+        Resolved::Refused(r) => is_refusal(told, r, ids),
+        Resolved::NoStyle(n) => ids_end(told, after_two(told, 0, 0), n, ids, text, strings),
         Resolved::Style(s) => {
             let n = s.ids;
-            let a = put_style(out, s, text, strings);
-            put_ids(out, a, n, ids, text, strings)
+            ids_end(
+                told,
+                after_style(told, s, text, strings),
+                n,
+                ids,
+                text,
+                strings,
+            )
         }
     }
 }

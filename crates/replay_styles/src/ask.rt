@@ -1,22 +1,13 @@
 // A query asked.
-ghost use Prim.Native.Nat.{_≤_};
-ghost use lib.ListN.{length};
 use queries::Resolved;
-use tree::Refusal;
-
-fn too_short() -> Resolved {
-    Resolved::Refused(Refusal {
-        number: 1,
-        place: 0,
-    })
-}
 
 // The index of a cue: 2 bytes.
 fn index(text: &[u8]) -> usize {
     crate::fields::byte(text, 0) as usize * 256 + crate::fields::byte(text, 1) as usize
 }
 
-fn asked(
+// What a query of this kind answers.
+fn ask(
     kind: u8,
     text: &[u8],
     head: &[u32],
@@ -81,26 +72,25 @@ fn asked(
     }
 }
 
-// Strings and texts are one table.
-fn asked_bytes(
+// Is what is told the answer? No line has times, segments or texts: no query looks at them, and they are zero.
+pub fn is_answer(
     kind: u8,
     text: &[u8],
-    head: &[u32],
-    params: &[u32],
-    styles: &[u32],
-    regions: &[u32],
-    cues: &[u32],
-    times: &[i64],
-    segments: &[u32],
-    sizes: &[f32],
-    extras: &[u32],
-    bytes: &[u8],
+    told: &[u8],
     ids: &mut [u32],
-) -> Resolved {
-    if bytes.len() < 131072 {
-        return too_short();
-    }
-    asked(
+    head: &[u32; 10],
+    params: &[u32; 256],
+    styles: &[u32; 6912],
+    regions: &[u32; 1024],
+    cues: &[u32; 22528],
+    sizes: &[f32; 256],
+    extras: &[u32; 24576],
+    strings: &[u8; 65536],
+) -> bool {
+    let times = [0i64; 4096];
+    let segments = [0u32; 98304];
+    let texts = [0u8; 65536];
+    let answer = ask(
         kind,
         text,
         head,
@@ -108,42 +98,13 @@ fn asked_bytes(
         styles,
         regions,
         cues,
-        times,
-        segments,
+        &times,
+        &segments,
         sizes,
         extras,
-        &bytes[0..65536],
-        &bytes[65536..131072],
+        strings,
+        &texts,
         ids,
-    )
-}
-
-// What a query of this kind answers. The tables of 32 bits are one.
-pub fn ask(
-    kind: u8,
-    text: &[u8],
-    cells: &[u32],
-    times: &[i64],
-    sizes: &[f32],
-    bytes: &[u8],
-    ids: &mut [u32],
-) -> Resolved {
-    if cells.len() < 153610 {
-        return too_short();
-    }
-    asked_bytes(
-        kind,
-        text,
-        &cells[0..10],
-        &cells[10..266],
-        &cells[266..7178],
-        &cells[7178..8202],
-        &cells[8202..30730],
-        times,
-        &cells[30730..129034],
-        sizes,
-        &cells[129034..153610],
-        bytes,
-        ids,
-    )
+    );
+    crate::answer::is_told(answer, text, strings, ids, told)
 }

@@ -1,18 +1,19 @@
 -- `replay` is safe and ends. The loop's invariant: no more lines are counted than bytes are passed. The measure is what is left of the list.
 use Prim.Native.Nat.{_+_, _-_, _≤_}
-use mathlib.Core.Path.{_≡_}
+use native.Mathlib.Omega.{arith}
 use lib.ListN.{length}
 use borrow.Author.Needs.{needs}
 use Rattle.replay_styles.proofs.replay.Statement.{statement}
 use Rattle.replay_styles.proofs.replay.Tie as tie
 
 abbrev Inv-loop : tie.InvT-loop
-Inv-loop list cells₀ times sizes₀ bytes₀ tally₀ pos₀ cells sizes bytes tally pos =
-    (pos ≤ length list + 1) × (tally .agree + tally .differ ≤ pos)
-    × (length cells ≡ length cells₀) × (length sizes ≡ length sizes₀) × (length bytes ≡ length bytes₀)
+Inv-loop list _ _ _ _ _ _ _ _ _ _ _ _ _ _ _ _ _ _ tally pos = (pos ≤ length list + 1) × (tally .agree + tally .differ ≤ pos)
 
 abbrev μ-loop : tie.MeasureT-loop
-μ-loop list cells₀ times sizes₀ bytes₀ tally₀ pos₀ cells sizes bytes tally pos = length list + 1 - pos
+μ-loop list _ _ _ _ _ _ _ _ _ _ _ _ _ _ _ _ _ _ _ pos = length list + 1 - pos
+
+no-lines-requires : tie.Need-no-lines-requires Inv-loop μ-loop
+no-lines-requires c κs = search needs
 
 loop-holds : tie.Need-loop-holds Inv-loop μ-loop
 loop-holds c = search needs
@@ -45,22 +46,46 @@ counted-requires : tie.Need-counted-requires Inv-loop μ-loop
 counted-requires c κs = search needs
 
 add-pos : tie.Need-add-pos Inv-loop μ-loop
-add-pos c = search needs
+add-pos c =
+    let late = c .before .before .before .before .before .before .before .before .before .before
+    in let found = late .before .before .before .before .before .before .before .before .before .before
+    in let looped = found .before .before
+    in omega (
+      arith,
+      found .find-byte .ensures .after,
+      found .find-byte .ensures .within,
+      looped .loop .inv .0,
+      looped .loop .inv .1,
+      found .before .loop-test .taken,
+    )
 
 loop-less : tie.Need-loop-less Inv-loop μ-loop
-loop-less c = search needs
+loop-less c =
+    let late = c .before .before .before .before .before .before .before .before .before .before
+    in let found = late .before .before .before .before .before .before .before .before .before .before
+    in let looped = found .before .before
+    in omega (
+      arith,
+      found .find-byte .ensures .after,
+      found .find-byte .ensures .within,
+      looped .loop .inv .0,
+      looped .loop .inv .1,
+      found .before .loop-test .taken,
+    )
 
 loop-again : tie.Need-loop-again Inv-loop μ-loop
-loop-again c = search needs
-
-same-length : tie.Need-same-length Inv-loop μ-loop
-same-length c = search needs
-
-same-length-2 : tie.Need-same-length-2 Inv-loop μ-loop
-same-length-2 c = search needs
-
-same-length-3 : tie.Need-same-length-3 Inv-loop μ-loop
-same-length-3 c = search needs
+loop-again c =
+    let late = c .before .before .before .before .before .before .before .before .before .before
+    in let found = late .before .before .before .before .before .before .before .before .before .before
+    in let looped = found .before .before
+    in omega (
+      arith,
+      found .find-byte .ensures .after,
+      found .find-byte .ensures .within,
+      looped .loop .inv .0,
+      looped .loop .inv .1,
+      found .before .loop-test .taken,
+    )
 
 returns : tie.Need-returns Inv-loop μ-loop
 returns c = search needs
@@ -71,6 +96,7 @@ replay-spec =
     (tie.spec
     Inv-loop
     μ-loop
+    no-lines-requires
     loop-holds
     find-byte-requires
     sub-fill
@@ -84,7 +110,4 @@ replay-spec =
     add-pos
     loop-less
     loop-again
-    same-length
-    same-length-2
-    same-length-3
     returns)

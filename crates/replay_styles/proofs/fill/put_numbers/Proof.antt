@@ -1,4 +1,4 @@
--- `put_numbers` is safe and ends. The table keeps its length. The measure is what is left of the words.
+-- `put_numbers` is safe and ends. The table keeps its length. The measure is what is left of the line.
 use Prim.Native.Nat.{_+_, _-_, _≤_}
 use mathlib.Core.Path.{_≡_}
 use native.Mathlib.Omega.{arith}
@@ -8,10 +8,10 @@ use Rattle.replay_styles.proofs.fill.put_numbers.Statement.{statement}
 use Rattle.replay_styles.proofs.fill.put_numbers.Tie as tie
 
 abbrev Inv-loop : tie.InvT-loop
-Inv-loop words start cells₀ pos₀ at₀ cells pos at = (pos ≤ length words + 1) × (length cells ≡ length cells₀)
+Inv-loop line cells₀ pos₀ at₀ cells pos at = (pos ≤ length line + 2) × (length cells ≡ length cells₀)
 
 abbrev μ-loop : tie.MeasureT-loop
-μ-loop words start cells₀ pos₀ at₀ cells pos at = length words + 1 - pos
+μ-loop line cells₀ pos₀ at₀ cells pos at = length line + 2 - pos
 
 loop-holds : tie.Need-loop-holds Inv-loop μ-loop
 loop-holds c = search needs
