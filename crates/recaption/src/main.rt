@@ -1,4 +1,5 @@
 // Reads TTML on standard input and writes it anew on standard output; on a refusal only the number, a blank, the place and LF.
+// It takes up to 1,330 KB of stack, most of it the tables of `main`: a shell's default of 8 MB is enough.
 use libc::STDERR_FILENO;
 use libc::STDIN_FILENO;
 use libc::STDOUT_FILENO;
@@ -48,6 +49,9 @@ fn main() {
 // A program has no exit status: what cannot be written is told on standard error.
 fn send(printed: &[u8]) {
     if !io::write_all(STDOUT_FILENO, printed) {
-        io::write_all(STDERR_FILENO, b"recaption: standard output cannot be written\n");
+        io::write_all(
+            STDERR_FILENO,
+            b"recaption: standard output cannot be written\n",
+        );
     }
 }
