@@ -73,12 +73,14 @@ enum-known-n c = search needs
 array-share-prefix-out : tie.Need-array-share-prefix-out
 array-share-prefix-out c =
     let d = c .before .before .before .before in
-    fitting _ _ (d .before .before .before .before .before .before .before .before .before .before .before .before .before .before .before .before .recaption .ensures) (d .print .ensures) (c .before .n .given .1)
+    let e = d .before .before .before .before .before .before .before .before .before .before .before .before .before .before .before .before in
+    fitting _ _ (e .recaption .ensures) (d .print .ensures) (c .before .n .given .1)
 
 slice-aggregate-send : tie.Need-slice-aggregate-send
 slice-aggregate-send c =
     let d = c .before .before .before .before .before in
-    counted _ _ (d .before .before .before .before .before .before .before .before .before .before .before .before .before .before .before .before .recaption .ensures) (d .print .ensures) (c .before .before .n .given .1)
+    let e = d .before .before .before .before .before .before .before .before .before .before .before .before .before .before .before .before in
+    counted _ _ (e .recaption .ensures) (d .print .ensures) (c .before .before .n .given .1)
 
 send-requires : tie.Need-send-requires
 send-requires c κs = search needs
