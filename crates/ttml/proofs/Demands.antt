@@ -292,35 +292,35 @@ refused-said (writer.Answer.Refused r) n e h p = rw (sym e, sym p) refl
 
 -- what a call that writes comes to, of a track that is handed and the text that is asked for
 module _ (asked : Track Bytes → Outcome) (T : track.Tables) (t : Track Bytes) (l : track.LongEnough (track.lengths T)) (e : trackIn T ≡ some t)
-    where
-  comes-of : (lent : ℕ) (o : Outcome) → Comes asked T lent o → o ≡ within lent (asked t)
-  comes-of lent _ (short-table h) = absurd (h l)
-  comes-of lent _ (no-track h n) = no-some e n
-  comes-of lent _ (of-track k h s) = ap (λ (x : Track Bytes). within lent (asked x)) (same-some s e)
+  where
+    comes-of : (lent : ℕ) (o : Outcome) → Comes asked T lent o → o ≡ within lent (asked t)
+    comes-of lent _ (short-table h) = absurd (h l)
+    comes-of lent _ (no-track h n) = no-some e n
+    comes-of lent _ (of-track k h s) = ap (λ (x : Track Bytes). within lent (asked x)) (same-some s e)
 
-  module _ (out left : Bytes) (answer : writer.Answer) (p : Promise asked T out answer left) where
-    module _ (w : Bytes) (a : asked t ≡ gives w) where
-      outcome-is : p .outcome ≡ within (length out) (gives w)
-      outcome-is = comes-of (length out) (p .outcome) (p .comes) ∙ ap (within (length out)) a
+    module _ (out left : Bytes) (answer : writer.Answer) (p : Promise asked T out answer left) where
+      module _ (w : Bytes) (a : asked t ≡ gives w) where
+        outcome-is : p .outcome ≡ within (length out) (gives w)
+        outcome-is = comes-of (length out) (p .outcome) (p .comes) ∙ ap (within (length out)) a
 
-      leaves : HasRoom w out → Leaves w out answer left
-      unfolding countIn textIn
-      leaves f =
-          let o = outcome-is ∙ fits-both (length out) w (f .0) (f .1) in
-          (bytes-said answer (length w) (p .count ∙ ap countIn o), rw o at (p .bytes))
+        leaves : HasRoom w out → Leaves w out answer left
+        unfolding countIn textIn
+        leaves f =
+            let o = outcome-is ∙ fits-both (length out) w (f .0) (f .1) in
+            (bytes-said answer (length w) (p .count ∙ ap countIn o), rw o at (p .bytes))
 
-      full : (numberOf answer ≡ 18) ↔ (¬ HasRoom w out)
-      full = (
-        (λ x f. meets-eighteen (length out) w (sym (ap numberIn outcome-is) ∙ (sym (p .number) ∙ x)) f),
-        (λ n. p .number ∙ (ap numberIn outcome-is ∙ too-long (length out) w n)),
-      )
+        full : (numberOf answer ≡ 18) ↔ (¬ HasRoom w out)
+        full = (
+          (λ x f. meets-eighteen (length out) w (sym (ap numberIn outcome-is) ∙ (sym (p .number) ∙ x)) f),
+          (λ n. p .number ∙ (ap numberIn outcome-is ∙ too-long (length out) w n)),
+        )
 
-    past : asked t ≡ meets 17 0 → (answer ≡ writer.Answer.Refused (record { number = 17; place = 0 })) × (left ≡ replicate (length out) 0)
-    unfolding numberIn placeIn textIn within
-    past a =
-        let o : p .outcome ≡ meets 17 0 = comes-of (length out) (p .outcome) (p .comes) ∙ ap (within (length out)) a in
-        let b : left ≡ replicate (length out - 0) 0 = rw o at (p .bytes) in
-        (refused-said answer 17 (p .number ∙ ap numberIn o) (omega arith) (p .place ∙ ap placeIn o), rw (sub-zero (length out)) at b)
+      past : asked t ≡ meets 17 0 → (answer ≡ writer.Answer.Refused (record { number = 17; place = 0 })) × (left ≡ replicate (length out) 0)
+      unfolding numberIn placeIn textIn within
+      past a =
+          let o : p .outcome ≡ meets 17 0 = comes-of (length out) (p .outcome) (p .comes) ∙ ap (within (length out)) a in
+          let b : left ≡ replicate (length out - 0) 0 = rw o at (p .bytes) in
+          (refused-said answer 17 (p .number ∙ ap numberIn o) (omega arith) (p .place ∙ ap placeIn o), rw (sub-zero (length out)) at b)
 
 -- the cue of an index, and none past the end
 asked-cue : (i : ℕ) (l : List (Cue Bytes)) (c : Cue Bytes) → nth l i ≡ some c → cueNumbered i l ≡ gives (cueWritten c)
@@ -400,6 +400,7 @@ demand-2 = record {
   parse-only = λ text lent left p.
       let s = parsed-track p in
       (s .tree, s .track, s .derives, s .meant-so, s .means);
+  parse-refuses = λ text lent left answer n p q h. q .refused n p h;
   parse-clears = λ text lent left answer p h. p .cleared h;
   cue-gives = λ text lent left answer f c l u d m p.
       let k = cue-case text lent l (d .size) (utf8-end text u) p (cue-is text f u d c m) in
@@ -409,6 +410,7 @@ demand-2 = record {
       let s = cue-track p in
       let c = cue-of _ (s .track) (s .meant-so) in
       (s .tree, c .0, s .derives, c .1, s .means ∙ ap some (sym (c .2)));
+  cue-refuses = λ text lent left answer n p q h. q .refused n p h;
   cue-clears = λ text lent left answer p h. p .cleared h;
   write-gives = λ T t out left answer l e f p. leaves wholeText T t l e out left answer p (writtenOf t) refl f;
   write-full = λ T t out left answer l e p. full wholeText T t l e out left answer p (writtenOf t) refl;

@@ -42,10 +42,11 @@ use Rattle.xml.specs.Promise as xml
 use Rattle.meaning.specs.Answers.{is}
 use Rattle.meaning.specs.Kinds.{bare, nodesOf}
 use Rattle.meaning.specs.Meaning.{trackOf, cueOf}
-use Rattle.laid.specs.Laid.{alone}
+use Rattle.laid.specs.Laid.{alone, whole, single}
 use Rattle.written.specs.Written.{writtenOf, cueWritten}
 use Rattle.promised.specs.declared.Answer as reader
 use Rattle.promised.specs.Promise.{Tables, LongEnough, AllZero, Parsed, CueParsed, numberOf}
+use Rattle.promised.specs.Promise as reading
 use Rattle.writer.specs.declared.calls.Answer as writer
 use Rattle.writer.specs.Promise.{Promise, wholeText, cueNumber}
 use Rattle.writer.specs.Promise as writing
@@ -94,7 +95,6 @@ pub record Demand1 : Type 0 where
   pub resolve-referenced-style : (value : Bytes) (T : track.Tables) (lent : List ℕ) → DeterminedButOrder (ReferencedStyle value T lent)
   pub region-style : (id : Bytes) (T : track.Tables) (lent : List ℕ) → DeterminedButOrder (RegionStyle id T lent)
   pub effective-style-for-cue-index : (T : track.Tables) (i : ℕ) (lent : List ℕ) → DeterminedButOrder (EffectiveStyle T i lent)
-
   pub recaption : (text : Bytes) (lent : Tables) (out : Bytes) → DeterminedBoth (Recaptioned text lent out)
   pub read-back : (T : track.Tables) (out : Bytes) (lent : Tables) → DeterminedBoth (Returned T out lent)
   -- the calls in C
@@ -119,9 +119,12 @@ meansTrack f t = trackOf bare (nodesOf (decodeForest decoded f)) ≡ is t
 abbrev pub meansCue : Forest → Cue Bytes → Type 0
 meansCue f c = cueOf bare (nodesOf (decodeForest decoded f)) ≡ is c
 
--- the text w is asked for: whatever it is, it is left in the bytes, or does not fit into them
+-- a text w that is asked for has room in the bytes that are lent; and it is left in them, with zeros behind it
 abbrev pub HasRoom : (w out : Bytes) → Type 0
 HasRoom w out = (length w ≤ length out) × (length w ≤ 65536)
+
+abbrev pub Leaves : (w out : Bytes) → writer.Answer → (left : Bytes) → Type 0
+Leaves w out answer left = (answer ≡ writer.Answer.Bytes (length w)) × (left ≡ w ++ replicate (length out - length w) 0)
 
 -- a query meets none of 1, 2, 3 and 17: the tables are long enough and mean t, and its text is UTF-8 of at most 65,536 bytes
 pub record Askable (text : Bytes) (T : track.Tables) (t : Track Bytes) : Type 0 where
@@ -134,9 +137,6 @@ pub record Askable (text : Bytes) (T : track.Tables) (t : Track Bytes) : Type 0 
 abbrev pub Overflows : (lent : List ℕ) → List Bytes → Type 0
 Overflows lent ids = (length lent < length ids * 4) ⊎ (65536 < length ids)
 
-abbrev pub Leaves : (w out : Bytes) → writer.Answer → (left : Bytes) → Type 0
-Leaves w out answer left = (answer ≡ writer.Answer.Bytes (length w)) × (left ≡ w ++ replicate (length out - length w) 0)
-
 pub record Demand2 : Type 0 where
   -- `parse` gives the track that the derived tree means, and no other: it calls no film malformed, nor gives an empty track for one that has
   -- cues. What it leaves passes `check_track`.
@@ -146,15 +146,20 @@ pub record Demand2 : Type 0 where
   -- and takes nothing else
   pub parse-only : (text : Bytes) (lent left : Tables) → Parsed text lent reader.Answer.Track left
       → (f : Forest) × (t : Track Bytes) × Derives text f × meansTrack f t × (trackIn (left .track) ≡ some t)
+  -- "Limits and what is turned away": with that number and place, and with no other
+  pub parse-refuses : (text : Bytes) (lent left : Tables) (answer : reader.Answer) (n p : ℕ) → Parsed text lent answer left → 0 < n
+      → reading.Says answer n p ↔ reading.TurnsAway whole text lent n p
   -- "unused cells are zero": after a refusal all are
   pub parse-clears : (text : Bytes) (lent left : Tables) (answer : reader.Answer) → Parsed text lent answer left → 0 < numberOf answer
       → AllZero lent left
-  -- `bytes_to_cue` gives the cue that the derived tree means, as a track of one cue and nothing else; it takes nothing else, and clears as `parse` does
+  -- `bytes_to_cue` gives the cue that the derived tree means, as a track of one cue and nothing else; it takes nothing else
   pub cue-gives : (text : Bytes) (lent left : Tables) (answer : reader.Answer) (f : Forest) (c : Cue Bytes) → LongEnough lent → Utf8 text
       → Derives text f → meansCue f c → CueParsed text lent answer left
       → (answer ≡ reader.Answer.Track) × (trackIn (left .track) ≡ some (alone c)) × Checked (left .track) Check.Track
   pub cue-only : (text : Bytes) (lent left : Tables) → CueParsed text lent reader.Answer.Track left
       → (f : Forest) × (c : Cue Bytes) × Derives text f × meansCue f c × (trackIn (left .track) ≡ some (alone c))
+  pub cue-refuses : (text : Bytes) (lent left : Tables) (answer : reader.Answer) (n p : ℕ) → CueParsed text lent answer left → 0 < n
+      → reading.Says answer n p ↔ reading.TurnsAway single text lent n p
   pub cue-clears : (text : Bytes) (lent left : Tables) (answer : reader.Answer) → CueParsed text lent answer left → 0 < numberOf answer
       → AllZero lent left
   -- `write` leaves the text of the track, and nothing else: no blank output; "18" exactly where it does not fit
@@ -220,7 +225,8 @@ pub record Demand3 : Type 0 where
       × (left .nodes ≡ xml.thenZeros (placed.rows 0 0 g) (length (lent .nodes)))
       × (left .attrs ≡ xml.thenZeros (placed.attrRows (placed.attrsOf g)) (length (lent .attrs)))
   -- "the tree reader meets none above 11"
-  pub none-above-11 : (text : Bytes) (lent left : xml.Tables) (answer : tree.Answer) (n p : ℕ) → xml.Parsed text lent answer left → Says answer n p → n ≤ 11
+  pub none-above-11 : (text : Bytes) (lent left : xml.Tables) (answer : tree.Answer) (n p : ℕ) → xml.Parsed text lent answer left
+      → Says answer n p → n ≤ 11
   -- no text has two trees
   pub no-two : NoTwo
   -- for every plain track: its writing meets no number, nor does its written text

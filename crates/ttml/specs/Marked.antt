@@ -42,6 +42,10 @@ oneCue a b = record {
   cues = record { start = a; end = b; style = none; region = none; preserve = false; extras = []; segments = done } ∷ [];
 }
 
+-- no node
+abbrev pub empty : Forest
+empty = trees.none
+
 -- an element without attributes
 abbrev pub plain : Bytes → Forest → Forest → Forest
 plain name content after = more (element name [] content) after
@@ -56,8 +60,8 @@ pub data Case : Type 0 where
   written : ℤ → Bytes → Case
   film : Bytes → Track Bytes → Case
 
--- what each says: the grammar derives the tree, whose texts have no entities; whatever `parse` leaves of the film, lent tables that are long enough, is its
--- track; the others by the definitions of the readers and the writer
+-- what each says: the grammar derives the tree, whose texts have no entities; `parse`, lent tables that are long enough, leaves the film's track; the
+-- others by the definitions of the readers and the writer
 unfoldable pub Holds : Case → Type 0
 Holds (tree s f) = Derives s f × (decodeForest decoded f ≡ f)
 Holds (entities s read) = decoded s ≡ read
@@ -76,7 +80,7 @@ abbrev pub marked : List Case
 marked =
     -- "A comment directly before `</` […]: d holds one p; the second p is d's sibling."
     tree (ascii "<d><p>a<!--c--></p><p>b</p></d>")
-    (plain (ascii "d") (plain (ascii "p") (more (text (ascii "a")) trees.none) trees.none) (plain (ascii "p") (more (text (ascii "b")) trees.none) trees.none))
+    (plain (ascii "d") (plain (ascii "p") (more (text (ascii "a")) empty) empty) (plain (ascii "p") (more (text (ascii "b")) empty) empty))
     ∷ entities (ascii "&#+65;") (ascii "A")
     ∷ entities (ascii "&AMP;") (ascii "&AMP;")
     -- "`00:05` is hours and minutes"
