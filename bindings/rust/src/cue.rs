@@ -126,6 +126,7 @@ impl fmt::Debug for Cue<'_> {
 /// # Ok::<(), postgarlic::Refusal>(())
 /// ```
 #[derive(Clone, Debug)]
+#[non_exhaustive]
 pub enum Segment<'t> {
     /// A text.
     Text(&'t str),

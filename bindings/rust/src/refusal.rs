@@ -3,10 +3,13 @@
 use std::error::Error;
 use std::fmt;
 
-/// Document 01's numbers; docs/REFUSALS.md has an example and a cure for each.
+/// Document 01's numbers; docs/REFUSALS.md has an example and a cure for each. Later libraries may know more of them.
 #[derive(Clone, Copy, Debug, PartialEq, Eq, Hash)]
 #[repr(u32)]
+#[non_exhaustive]
 pub enum Reason {
+    /// A number that this crate does not know: the library that is linked is a later one. [`Refusal::number`] tells it.
+    Unknown = 0,
     /// A lent table is shorter than its fixed length. [`Tables`](crate::Tables) never are.
     ShortTable = 1,
     /// The text is longer than 65,536 bytes.
@@ -56,6 +59,7 @@ impl Reason {
     /// In words.
     pub fn cause(self) -> &'static str {
         match self {
+            Unknown => "refused, for a reason that this crate does not know",
             ShortTable => "a lent table is shorter than its fixed length",
             LongText => "the text is longer than 65,536 bytes",
             NotUtf8 => "the text is not UTF-8 from here on",
@@ -80,6 +84,7 @@ impl Reason {
     /// What to do about it.
     pub fn cure(self) -> &'static str {
         match self {
+            Unknown => "look the number up in docs/REFUSALS.md of the library that is linked",
             ShortTable => "lend tables of the lengths of `Tables`",
             LongText => "split the film",
             NotUtf8 => "save the file as UTF-8",
@@ -122,38 +127,42 @@ impl Reason {
 /// ```
 #[derive(Clone, Copy, Debug, PartialEq, Eq, Hash)]
 pub struct Refusal {
+    number: u32,
     reason: Reason,
     place: usize,
     position: Option<(usize, usize)>,
 }
 
+/// The numbers whose place is a cue of the track that was handed in, and no byte.
+const OF_A_CUE: [u32; 2] = [21, 23];
+
 /// What a call told, in its 64 bits: what it counts, or a refusal. `text` is what was read, empty if a track was handed in.
 pub(crate) fn told(answer: u64, text: &[u8]) -> Result<usize, Refusal> {
-    let (number, high) = (answer as u32 as usize, (answer >> 32) as usize);
+    let (number, high) = (answer as u32, (answer >> 32) as usize);
     if number == 0 {
         return Ok(high);
     }
-    let reason = *REASONS.get(number - 1).expect("the library answers 0 to 18");
-    let position = (reason.names_place() && !text.is_empty()).then(|| position(text, high));
-    Err(Refusal { reason, place: high, position })
+    let reason = REASONS.get(number as usize - 1).copied().unwrap_or(Unknown);
+    let position = if reason.names_place() && !text.is_empty() { position(text, high) } else { None };
+    Err(Refusal { number, reason, place: high, position })
 }
 
 /// Line and column, each from 1 on. What stands before a place that is answered is UTF-8.
-fn position(text: &[u8], place: usize) -> (usize, usize) {
-    let before = &text[..place];
+fn position(text: &[u8], place: usize) -> Option<(usize, usize)> {
+    let before = text.get(..place)?;
     let line = before.iter().filter(|&&b| b == b'\n').count();
     let begin = before.iter().rposition(|&b| b == b'\n').map_or(0, |at| at + 1);
     let column = before[begin..].iter().filter(|&&b| b & 0xC0 != 0x80).count();
-    (line + 1, column + 1)
+    Some((line + 1, column + 1))
 }
 
 impl Refusal {
-    /// Document 01's number, 1 to 18.
+    /// Document 01's number, from 1 on.
     pub fn number(&self) -> u32 {
-        self.reason as u32
+        self.number
     }
 
-    /// The same as a name.
+    /// The same as a name, [`Reason::Unknown`] if this crate has none for it.
     pub fn reason(&self) -> Reason {
         self.reason
     }
@@ -161,6 +170,11 @@ impl Refusal {
     /// Which byte of the text, from 0 on; 0 also if none is named, or if a track was handed in.
     pub fn place(&self) -> usize {
         self.place
+    }
+
+    /// The cue of the track that was handed in, from 0 on, if the number names one and no byte.
+    pub fn cue(&self) -> Option<usize> {
+        OF_A_CUE.contains(&self.number).then_some(self.place)
     }
 
     /// The line of the place, from 1 on, if one is named. Lines end at line feeds.
@@ -179,8 +193,35 @@ impl fmt::Display for Refusal {
         if let Some((line, column)) = self.position {
             write!(f, "line {line}, column {column}: ")?;
         }
+        if let Some(cue) = self.cue() {
+            write!(f, "cue {cue}: ")?;
+        }
         write!(f, "{} (number {})", self.reason.cause(), self.number())
     }
 }
 
 impl Error for Refusal {}
+
+#[cfg(test)]
+mod tests {
+    use super::*;
+
+    /// What a later library answers is told and does not panic.
+    #[test]
+    fn unknown_numbers() {
+        for number in 19..=40u32 {
+            let refusal = told(u64::from(number) | 7 << 32, b"<tt>").unwrap_err();
+            assert_eq!((refusal.number(), refusal.place(), refusal.reason()), (number, 7, Reason::Unknown));
+            assert_eq!((refusal.line(), refusal.cue()), (None, (number == 21 || number == 23).then_some(7)));
+            assert!(refusal.to_string().ends_with(&format!("(number {number})")));
+        }
+        assert!(told(21 | 2 << 32, b"").unwrap_err().to_string().starts_with("cue 2: "));
+    }
+
+    /// A place past the end of the text names no line.
+    #[test]
+    fn place_past_the_end() {
+        assert_eq!(told(8 | 9 << 32, b"<tt>").unwrap_err().line(), None);
+        assert_eq!(told(8 | 4 << 32, b"<tt>").unwrap_err().column(), Some(5));
+    }
+}

@@ -89,6 +89,7 @@ pub struct Size {
 
 /// How text is aligned.
 #[derive(Clone, Copy, Debug, Default, PartialEq, Eq, Hash)]
+#[non_exhaustive]
 pub enum Align {
     /// Where a line starts.
     #[default]

@@ -22,6 +22,7 @@ fn words(segments: Segments) -> String {
                 words(children)
             )
         }
+        other => unreachable!("{other:?}"),
     };
     segments.map(word).collect::<Vec<_>>().join(" ")
 }

@@ -1,10 +1,9 @@
 // Reads TTML on standard input and writes it anew on standard output; on a refusal only the number, a blank, the place and LF.
-ghost use lib.ListN.{length};
-ghost use Rattle.recaption.specs.Fits.{Fits};
+// It takes up to 1,330 KB of stack, most of it the tables of `main`: a shell's default of 8 MB is enough.
+use libc::STDERR_FILENO;
 use libc::STDIN_FILENO;
 use libc::STDOUT_FILENO;
-use tree::Refusal;
-use writer::Answer;
+use scan::Written;
 
 fn main() {
     // one byte more than a text may have: longer input meets 2
@@ -41,26 +40,18 @@ fn main() {
         &mut texts,
         &mut out,
     );
-    say(answer, &out);
-}
-
-// What stands in `out`, or the refusal.
-fn say(answer: Answer, out: &[u8])
-    requires { ⌜ Fits answer (length (now out)) ⌝ }
-{
-    match answer {
-        Answer::Bytes(n) => {
-            io::write_all(STDOUT_FILENO, &out[..n]);
-        }
-        Answer::Refused(r) => {
-            refuse(r);
-        }
+    // the line of a refusal has at most 32 bytes, and so always fits
+    if let Written::At(n) = printed::print(answer, &mut out) {
+        send(&out[..n]);
     }
 }
 
-fn refuse(r: Refusal) {
-    io::print_decimal(STDOUT_FILENO, r.number as u64);
-    io::write_all(STDOUT_FILENO, b" ");
-    io::print_decimal(STDOUT_FILENO, r.place as u64);
-    io::write_all(STDOUT_FILENO, b"\n");
+// A program has no exit status: what cannot be written is told on standard error.
+fn send(printed: &[u8]) {
+    if !io::write_all(STDOUT_FILENO, printed) {
+        io::write_all(
+            STDERR_FILENO,
+            b"recaption: standard output cannot be written\n",
+        );
+    }
 }

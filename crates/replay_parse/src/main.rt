@@ -1,14 +1,15 @@
 // Replays recorded answers of the Rust to whole calls: the list on standard input says how it was made. Prints each
 // question that these libraries answer otherwise, and the counts.
 //
-//     p IN OUT    parse, c bytes_to_cue, w parse and then write: of the text IN
+//     p IN OUT    parse, c bytes_to_cue, w what program `recaption` prints: of the text IN
 //     P IN OUT    the same, C and W, of a text in pieces: IN is for each piece 2 bytes of how often it stands, a byte of
 //                 its length, and itself
 //     + IN -      pieces that stand before those of the next line
 //     # ...       a remark
 //
 // IN and OUT are bytes in hexadecimal. OUT is a byte of the number, 0 for none; 4 bytes of its place, or of how many bytes
-// were written; 4 bytes of the sum over all cells (`sums`), for `w` over all bytes lent for what is written.
+// were written; 4 bytes of the sum over all cells (`sums`), for `w` over all bytes lent for what is printed: the text, or the
+// line of a refusal.
 mod answer;
 mod question;
 mod sums;

@@ -60,27 +60,31 @@ fn ask(
             strings,
             texts,
         )),
-        Call::Recaption => answer::of_written(rewritten::recaption(
-            text,
-            nodes,
-            attrs,
-            head,
-            params,
-            styles,
-            regions,
-            cues,
-            times,
-            segments,
-            sizes,
-            extras,
-            strings,
-            texts,
-            out,
-        )),
+        Call::Recaption => {
+            let written = rewritten::recaption(
+                text,
+                nodes,
+                attrs,
+                head,
+                params,
+                styles,
+                regions,
+                cues,
+                times,
+                segments,
+                sizes,
+                extras,
+                strings,
+                texts,
+                out,
+            );
+            printed::print(written, out);
+            answer::of_written(written)
+        }
     }
 }
 
-// All cells are summed; of `recaption` all bytes lent for what is written: those after it are 0.
+// All cells are summed; of `recaption` all bytes lent for what is printed: those after it are 0.
 fn call_agrees(call: Call, text: &[u8], told: &[u8]) -> bool {
     let mut nodes = [7u32; 49152];
     let mut attrs = [7u32; 32768];

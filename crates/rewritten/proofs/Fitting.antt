@@ -3,7 +3,7 @@
 --     recaption-fits     what `recaption` writes
 use Prim.Native.Nat.{ℕ, _+_, _-_, _≤_}
 use mathlib.Core.Path.{_≡_, ap, _∙_}
-use mathlib.Core.Option.{Option, some}
+use mathlib.Core.Option.{some}
 use native.Mathlib.Omega.{arith}
 use lib.ListN.{length, replicate, length-append}
 use Rattle.track.specs.Track.{Bytes, Track}
@@ -17,10 +17,10 @@ use Rattle.rewritten.specs.Recaption.{ThenWritten, Recaptioned}
 count-text : (o : Outcome) (n : ℕ) → some n ≡ countIn o → n ≡ length (textIn o)
 unfolding countIn textIn
 count-text (gives w) n e = cc
-count-text (meets k) n e = absurd (let z : _≡_ {A = ℕ} 0 1 = cc in omega arith)
+count-text (meets k p) n e = absurd (let z : _≡_ {A = ℕ} 0 1 = cc in omega arith)
 
-pub bytes-fit : {text : Track Bytes → Option Bytes} {T : track.Tables} {out left : Bytes} (n : ℕ)
-    → Promise text T out (writer.Answer.Bytes n) left → n ≤ length left
+pub bytes-fit : {asked : Track Bytes → Outcome} {T : track.Tables} {out left : Bytes} (n : ℕ)
+    → Promise asked T out (writer.Answer.Bytes n) left → n ≤ length left
 unfolding bytesOf
 bytes-fit {out = out} {left = left} n p =
     let w : Bytes = textIn (p .outcome) in

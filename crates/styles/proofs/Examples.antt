@@ -1,4 +1,4 @@
--- Worked cases, each as the Rust answers it (run by `refmodel`). Assumes nothing.
+-- Worked cases, each as the Rust answers it. Assumes nothing.
 use Prim.Native.Nat.{ℕ}
 use Prim.Native.String.{String}
 use mathlib.Core.Path.{_≡_, refl}

@@ -1,24 +1,34 @@
 -- The demands hold. Assumes nothing.
-use Prim.Native.Nat.{ℕ, _-_, _≤_, _<_}
+use Prim.Native.Nat.{ℕ, zero, suc, _-_, _*_, _≤_, _<_}
 use mathlib.Core.Path.{_≡_, refl, sym, ap, subst, _∙_}
-use mathlib.Core.Bool.{Bool, true, false, cond, _&&_, true≢false}
+use mathlib.Core.Bool.{Bool, true, false, cond, _&&_, _||_, true≢false}
 use mathlib.Core.List.{List, [], _∷_, _++_}
 use mathlib.Core.Option.{Option, none, some}
+use mathlib.Core.Logic.{_↔_, _⊎_, inl, inr}
 use native.Mathlib.Omega.{arith}
-use lib.Dec.{leb}
+use lib.Dec.{leb, ltb}
+use lib.Ieee.{Float}
 use lib.ListN.{length, take, replicate}
-use borrow.Author.Tests.{le-leb, leb-true}
+use lib.Seq.{sets}
+use native.Mathlib.Nat.{sub-zero}
+use borrow.Author.Tests.{le-leb, leb-true, leb-false, eq-eqb, ltb-true, lt-ltb}
 use Rattle.unicode.specs.Utf8.{Utf8, utf8End}
 use Rattle.scan.proofs.Every.{by-test}
 use Rattle.unicode.proofs.Utf8Laws.{utf8-end}
 use Rattle.entities.specs.Decode.{decoded}
 use Rattle.grammar.specs.Tree.{Forest}
 use Rattle.grammar.specs.Demand.{Derives, decodeForest}
+use Rattle.grammar.specs.Refusals.{Meets, too-deep, too-many-nodes, no-tag-name, too-many-attributes, slash, no-value, end-in-tag, open-close-tag}
 use Rattle.grammar.proofs.Theorem as grammar
+use Rattle.tree.specs.Answers.{Says}
+use Rattle.tree.specs.declared.answers.Answer as tree-answer
+use Rattle.tree.specs.declared.answers.Refusal as tree-refusal
 use Rattle.tree.specs.Posts.{Fits}
-use Rattle.track.specs.Track.{Bytes, Track}
+use Rattle.track.specs.Track.{Bytes, Cue, Track}
 use Rattle.track.specs.Tables as track
-use Rattle.track.specs.Meaning.{isTrack, trackAt, trackIn}
+use Rattle.track.specs.Tables.{zeroFloat}
+use Rattle.track.specs.Meaning.{isTrack, isUtf8, trackAt, trackIn}
+use Rattle.track.proofs.Answers.{long-full}
 use Rattle.track.specs.Layout.{each}
 use Rattle.track.specs.Plain.{isPlainTrack}
 use Rattle.track.specs.Check.{Checked}
@@ -26,10 +36,11 @@ use Rattle.track.specs.declared.check.Check.{Check}
 use Rattle.track.proofs.Exactly as check
 use Rattle.xml.specs.Promise as xml
 use Rattle.xml.proofs.Determined as tree
-use Rattle.meaning.specs.Answers.{Answer, is, refused}
-use Rattle.meaning.specs.Steps.{parsed}
-use Rattle.meaning.proofs.Theorem.{placeless, track-means}
-use Rattle.written.specs.Written.{writtenOf}
+use Rattle.meaning.specs.Answers.{Answer, is, refused, answered}
+use Rattle.laid.specs.Laid.{alone}
+use Rattle.meaning.specs.Steps.{parsed, cueParsed}
+use Rattle.meaning.proofs.Theorem.{placeless, track-means, cue-means}
+use Rattle.written.specs.Written.{writtenOf, cueWritten}
 use Rattle.written.specs.Shape.{treeOf, plainTreeOf}
 use Rattle.written.proofs.Theorem.{derives, decoded-tree}
 use Rattle.written.proofs.Handed.{names-fit}
@@ -38,18 +49,171 @@ use Rattle.readback.specs.Steps.{CuesPlain}
 use Rattle.readback.proofs.CheckedCues.{cues-checked, cues-plain}
 use Rattle.readback.proofs.Theorem.{read-back}
 use Rattle.promised.specs.declared.Answer as reader
-use Rattle.promised.specs.Promise.{Tables, LongEnough, Parsed}
-use Rattle.promised.proofs.Theorem.{parsed-determined, cue-determined, parsed-track}
-use Rattle.promised.proofs.Cases.{parsed-case}
+use Rattle.promised.specs.Promise.{Tables, LongEnough, AllZero, Parsed, CueParsed}
+use Rattle.promised.proofs.Theorem.{parsed-determined, cue-determined, parsed-track, cue-track}
+use Rattle.promised.proofs.Cases.{parsed-case, cue-case}
 use Rattle.writer.specs.declared.calls.Answer as writer
-use Rattle.writer.specs.Promise.{Promise, Outcome, gives, meets, Comes, short-table, no-track, of-track, fits, ofText, wholeText, numberIn, countIn}
-use Rattle.writer.specs.Promise.{textIn}
-use Rattle.writer.specs.Promise.{bytesOf, cueNumber}
+use Rattle.writer.specs.Promise.{Promise, Outcome, gives, meets, Comes, short-table, no-track, of-track, fits, within, wholeText, numberIn, countIn}
+use Rattle.writer.specs.Promise.{placeIn, textIn}
+use Rattle.writer.specs.Promise.{numberOf, placeOf, bytesOf, cueNumbered, cueNumber}
 use Rattle.writer.proofs.Promised as writing
+use Rattle.queries.specs.declared.query.Resolved.{Resolved}
+use Rattle.queries.specs.declared.query.Resolved.the-variants.{Style, NoStyle, Refused}
+use Rattle.styles.specs.Own as styles
+use Rattle.styles.specs.Resolve.{Resolution, resolve}
+use Rattle.styles.specs.Queries.{nth}
+use Rattle.styles.specs.Reaches.{Exactly}
+use Rattle.styles.proofs.Members.{same-count}
+use Rattle.styles.proofs.Theorem.{resolve-answers}
+use Rattle.queries.specs.Promise.{EqualButOrder, Asked, askedValue, askedRegion, askedCue, numberFor, trackNumber, lastNumber, isOver}
+use Rattle.queries.specs.Promise as query-promise
+use Rattle.queries.proofs.Reaching.{region-exactly, cue-exactly}
 use Rattle.queries.proofs.Determined as query
-use Rattle.ttml.specs.Demands.{Demand1, meansTrack, Demand2, Back, SignedTimes, Demand3, Demands}
+use Rattle.told.specs.Told.{told, treeTold, checkTold, Tells}
+use Rattle.told.specs.Trees.{countCells, ReadInC}
+use Rattle.told.specs.Queries.{AnswerPut, ToldAs, NoRoom, AnswersInC}
+use Rattle.rewritten.specs.Recaption.{ThenWritten, Recaptioned}
+use Rattle.ttml.specs.declared.back.Back as call
+use Rattle.ttml.specs.ReadBack.{Back, Signed, Went, Returned}
+use Rattle.ttml.specs.Demands.{Determined, DeterminedButOrder, DeterminedBoth, QueryInC, Demand1, meansTrack, meansCue, HasRoom, Leaves}
+use Rattle.ttml.specs.Demands.{Askable, Overflows, Demand2, Demand3, Demands}
 
 -- ---- 1
+
+-- what is told of an answer that is determined
+tells : {A L : Type 0} (tell : A → ℕ) (P : A → L → Type 0) → Determined P → Determined (λ (r : ℕ) (left : L). Tells tell (λ a. P a left) r)
+tells tell P d r s a b p q =
+    let e = d (p .answer) (q .answer) a b (p .promised) (q .promised) in
+    (p .is ∙ (ap tell (e .0) ∙ sym (q .is)), e .1)
+
+tables-same : {a b : xml.Tables} → a .nodes ≡ b .nodes → a .attrs ≡ b .attrs → a .strings ≡ b .strings → a ≡ b
+tables-same {a} {b} n m z =
+    ap (λ (x : List ℕ). xml.tables x (a .attrs) (a .strings)) n
+    ∙ ap (λ (x : List ℕ). xml.tables (b .nodes) x (a .strings)) m
+    ∙ ap (λ (x : List ℕ). xml.tables (b .nodes) (b .attrs) x) z
+
+module _ (text : Bytes) (lent : xml.Tables) (counts : List ℕ) where
+  tree-in-C : DeterminedBoth (λ (r : ℕ) left counted. ReadInC text lent counts left counted r)
+  tree-in-C r s a b c d p q = by-test (leb 2 (length counts)) long short
+    where
+      long : leb 2 (length counts) ≡ true → (r ≡ s) × (a ≡ b) × (c ≡ d)
+      long t =
+          let x = p .reads (leb-true 2 (length counts) t) in
+          let y = q .reads (leb-true 2 (length counts) t) in
+          let e = tree.determined (x .promised .0) (y .promised .0) in (
+            x .is ∙ (ap treeTold (e .0) ∙ sym (y .is)),
+            e .1,
+            x .promised .1 ∙ (ap (λ (o : tree-answer.Answer). sets (replicate (length counts) 0) 0 (countCells o)) (e .0) ∙ sym (y .promised .1)),
+          )
+
+      short : leb 2 (length counts) ≡ false → (r ≡ s) × (a ≡ b) × (c ≡ d)
+      short t =
+          let x = p .short (leb-false 2 (length counts) t) in
+          let y = q .short (leb-false 2 (length counts) t) in (
+            x .0 ∙ sym (y .0),
+            tables-same (x .1 .of-nodes ∙ sym (y .1 .of-nodes)) (x .1 .of-attrs ∙ sym (y .1 .of-attrs)) (x .1 .of-strings ∙ sym (y .1 .of-strings)),
+            x .2 ∙ sym (y .2),
+          )
+
+-- an answer to a query, as it stands in its cells
+told-same : (w : Resolved) (o c d : List ℕ) (z x y : List Float) (n m : ℕ) → ToldAs w o c z x n → ToldAs w o d z y m
+    → (n ≡ m) × (c ≡ d) × (x ≡ y)
+told-same (Style a) o c d z x y n m p q = (p .0 ∙ sym (q .0), p .1 .cells ∙ sym (q .1 .cells), p .1 .float ∙ sym (q .1 .float))
+told-same (NoStyle k) o c d z x y n m p q = (p .0 ∙ sym (q .0), p .1 .cells ∙ sym (q .1 .cells), p .1 .float ∙ sym (q .1 .float))
+told-same (Refused k) o c d z x y n m p q = (p .0 ∙ sym (q .0), p .1 .cells ∙ sym (q .1 .cells), p .1 .float ∙ sym (q .1 .float))
+
+module _ (promise : Resolved → List ℕ → Type 0) (lent : List ℕ) (det : DeterminedButOrder promise) where
+  query-in-C : QueryInC promise lent
+  query-in-C r s a b out c d size x y p q =
+      by-test (leb 27 (length out)) (λ t. by-test (leb 1 (length size)) (roomy t) (λ u. bare (p .no-float (leb-false 1 _ u)) (q .no-float (leb-false 1 _ u))))
+      (λ t. bare (p .no-cells (leb-false 27 _ t)) (q .no-cells (leb-false 27 _ t)))
+    where
+      Same : Type 0
+      Same = (r ≡ s) × (c ≡ d) × (x ≡ y) × ((a ≡ b) ⊎ ((answer : Resolved) × EqualButOrder answer answer a b))
+
+      bare : NoRoom lent a out c size x r → NoRoom lent b out d size y s → Same
+      bare f g = (f .is ∙ sym (g .is), f .cells ∙ sym (g .cells), f .floats ∙ sym (g .floats), inl (f .ids ∙ sym (g .ids)))
+
+      roomy : leb 27 (length out) ≡ true → leb 1 (length size) ≡ true → Same
+      roomy t u =
+          let f = p .room (leb-true 27 _ t) (leb-true 1 _ u) in
+          let g = q .room (leb-true 27 _ t) (leb-true 1 _ u) in
+          let e = det (f .answer) (g .answer) a b (f .promised) (g .promised) in
+          let o : List ℕ = replicate (length out) 0 in
+          let z : List Float = replicate (length size) zeroFloat in
+          let h = subst (λ (w : Resolved). ToldAs w o d z y (g .number)) (sym (e .answer)) (g .stands) in
+          let k = told-same (f .answer) o c d z x y (f .number) (g .number) (f .stands) h in (
+            f .is ∙ (ap (λ (n : ℕ). told n 0) (k .0) ∙ sym (g .is)),
+            k .1,
+            k .2,
+            inr (f .answer, subst (λ (w : Resolved). EqualButOrder (f .answer) w a b) (sym (e .answer)) e),
+          )
+
+-- a text read and written anew
+then-same : (u : reader.Answer) (T : track.Tables) (out : Bytes) (x y : writer.Answer) (c d : Bytes) → ThenWritten u T out x c
+    → ThenWritten u T out y d → (x ≡ y) × (c ≡ d)
+then-same reader.Answer.Track T out x y c d p q = writing.determined wholeText T out x y c d p q
+then-same (reader.Answer.Refused r) T out x y c d p q = (p .0 ∙ sym (q .0), p .1 ∙ sym (q .1))
+
+recaptioned : (text : Bytes) (lent : Tables) (out : Bytes) → DeterminedBoth (Recaptioned text lent out)
+recaptioned text lent out x y a b c d p q =
+    let e = parsed-determined (p .read) (q .read) in
+    let v = subst (λ (u : reader.Answer). ThenWritten u (b .track) out y d) (sym (e .0)) (q .writes) in
+    let w = subst (λ (T : Tables). ThenWritten (p .reading) (T .track) out y d) (sym (e .1)) v in
+    let k = then-same (p .reading) (a .track) out x y c d (p .writes) w in
+    (k .0, e .1, k .1)
+
+-- a track written and read back
+module _ (T : track.Tables) (out : Bytes) (lent : Tables) where
+  written-same : {x y : writer.Answer} {a b : Bytes} → Promise wholeText T out x a → Promise wholeText T out y b → (x ≡ y) × (a ≡ b)
+  written-same {x} {y} {a} {b} p q = writing.determined wholeText T out x y a b p q
+
+  no-both : {n : ℕ} {r : tree-refusal.Refusal} {A : Type 0} → writer.Answer.Bytes n ≡ writer.Answer.Refused r → A
+  no-both e = absurd (let z : _≡_ {A = ℕ} 0 1 = cc in omega arith)
+
+  read-same : {n m : ℕ} {a b : Bytes} {u v : reader.Answer} {c d : Tables} → writer.Answer.Bytes n ≡ writer.Answer.Bytes m → a ≡ b
+      → Parsed (take n a) lent u c → Parsed (take m b) lent v d → (n ≡ m) × (u ≡ v) × (c ≡ d)
+  read-same {n} {m} {a} {b} {u} {v} {c} {d} e f p q =
+      let k : n ≡ m = cc in
+      let w : take n a ≡ take m b = rw (k, f) refl in
+      let h = parsed-determined (subst (λ (z : Bytes). Parsed z lent u c) w p) q in
+      (k, h .0, h .1)
+
+  zero-same : {a b : Tables} → AllZero lent a → AllZero lent b → a ≡ b
+  zero-same {a} {b} h k =
+      ap (λ (x : List ℕ). record { nodes = x; attrs = a .attrs; track = a .track }) (h .of-tree .of-nodes ∙ sym (k .of-tree .of-nodes))
+      ∙ ap (λ (x : List ℕ). record { nodes = b .nodes; attrs = x; track = a .track }) (h .of-tree .of-attrs ∙ sym (k .of-tree .of-attrs))
+      ∙ ap (λ (x : track.Tables). record { nodes = b .nodes; attrs = b .attrs; track = x }) (h .of-track ∙ sym (k .of-track))
+
+  went : DeterminedBoth (Went T out lent)
+  went (call.Back.Track n) (call.Back.Track m) a b c d p q =
+      let e = written-same (p .0) (q .0) in
+      let k = read-same (e .0) (e .1) (p .1) (q .1) in
+      (ap call.Back.Track (k .0), e .1, k .2)
+  went (call.Back.Track n) (call.Back.Unread m s) a b c d p q =
+      let e = written-same (p .0) (q .0) in
+      let k = read-same (e .0) (e .1) (p .1) (q .1) in
+      absurd (let g : reader.Answer.Track ≡ reader.Answer.Refused s = k .1 in let z : _≡_ {A = ℕ} 0 1 = cc in omega arith)
+  went (call.Back.Track n) (call.Back.Unwritten s) a b c d p q = no-both (written-same (p .0) (q .0) .0)
+  went (call.Back.Unread n r) (call.Back.Track m) a b c d p q =
+      let e = written-same (p .0) (q .0) in
+      let k = read-same (e .0) (e .1) (p .1) (q .1) in
+      absurd (let g : reader.Answer.Refused r ≡ reader.Answer.Track = k .1 in let z : _≡_ {A = ℕ} 0 1 = cc in omega arith)
+  went (call.Back.Unread n r) (call.Back.Unread m s) a b c d p q =
+      let e = written-same (p .0) (q .0) in
+      let k = read-same (e .0) (e .1) (p .1) (q .1) in
+      let f : reader.Answer.Refused r ≡ reader.Answer.Refused s = k .1 in
+      let g : r ≡ s = cc in
+      (rw (k .0, g) refl, e .1, k .2)
+  went (call.Back.Unread n r) (call.Back.Unwritten s) a b c d p q = no-both (written-same (p .0) (q .0) .0)
+  went (call.Back.Unwritten r) (call.Back.Track m) a b c d p q = no-both (sym (written-same (p .0) (q .0) .0))
+  went (call.Back.Unwritten r) (call.Back.Unread m s) a b c d p q = no-both (sym (written-same (p .0) (q .0) .0))
+  went (call.Back.Unwritten r) (call.Back.Unwritten s) a b c d p q =
+      let e = written-same (p .0) (q .0) in
+      let f : writer.Answer.Refused r ≡ writer.Answer.Refused s = e .0 in
+      let g : r ≡ s = cc in
+      (ap call.Back.Unwritten g, e .1, zero-same (p .1) (q .1))
+
 pub demand-1 : Demand1
 demand-1 = record {
   tree-reader = λ text lent x y a b p q. tree.determined p q;
@@ -61,6 +225,19 @@ demand-1 = record {
   resolve-referenced-style = λ value T lent x y a b p q. query.determined-value T lent x y a b value p q;
   region-style = λ id T lent x y a b p q. query.determined-region T lent x y a b id p q;
   effective-style-for-cue-index = λ T i lent x y a b p q. query.determined-cue T lent x y a b i p q;
+  recaption = recaptioned;
+  read-back = λ T out lent x y a b c d p q. went T out lent x y a b c d (p .went) (q .went);
+  pg-parse-xml = tree-in-C;
+  pg-parse = λ text lent. tells _ (λ a left. Parsed text lent a left) (λ x y a b p q. parsed-determined p q);
+  pg-bytes-to-cue = λ text lent. tells _ (λ a left. CueParsed text lent a left) (λ x y a b p q. cue-determined p q);
+  pg-write = λ T out. tells _ (λ a left. Promise wholeText T out a left) (λ x y a b p q. writing.determined wholeText T out x y a b p q);
+  pg-cue-to-bytes = λ i T out.
+      tells _ (λ a left. Promise (cueNumber i) T out a left) (λ x y a b p q. writing.determined (cueNumber i) T out x y a b p q);
+  pg-check-track = λ T r s p q. p .is ∙ (ap checkTold (check.determined T (p .answer) (q .answer) (p .promised) (q .promised)) ∙ sym (q .is));
+  pg-resolve-referenced-style = λ value T lent.
+      query-in-C _ lent (λ x y a b p q. query.determined-value T lent x y a b value p q);
+  pg-region-style = λ id T lent. query-in-C _ lent (λ x y a b p q. query.determined-region T lent x y a b id p q);
+  pg-effective-style-for-cue-index = λ T i lent. query-in-C _ lent (λ x y a b p q. query.determined-cue T lent x y a b i p q);
 }
 
 -- ---- 2
@@ -75,6 +252,9 @@ module _ (text : Bytes) (f : Forest) (u : Utf8 text) (d : Derives text f) where
   parsed-is : (t : Track Bytes) → meansTrack f t → parsed text ≡ is t
   parsed-is t m = no-place (parsed text) t (track-means text f fitting d ∙ m)
 
+  cue-is : (c : Cue Bytes) → meansCue f c → cueParsed text ≡ is c
+  cue-is c m = no-place (cueParsed text) c (cue-means text f fitting d ∙ m)
+
 passing : (T : track.Tables) → ((r : Check) → Checked T r → r ≡ Check.Track) → Checked T Check.Track
 passing T h = let k = check.promised T refl in subst (Checked T) (h _ k) k
 
@@ -84,15 +264,8 @@ same-some {a = a} {b = b} e f = let g : some a ≡ some b = sym e ∙ f in cc
 no-some : {A B : Type 0} {a : A} {o : Option A} → o ≡ some a → o ≡ none → B
 no-some {A} {B} {a} e f = let g : some a ≡ none = sym e ∙ f in absurd (let z : _≡_ {A = ℕ} 0 1 = cc in omega arith)
 
--- what `write` comes to, of a track that is handed
-module _ (T : track.Tables) (t : Track Bytes) (e : trackIn T ≡ some t) where
-  comes-of : (lent : ℕ) (o : Outcome) → track.LongEnough (track.lengths T) → Comes wholeText T lent o → o ≡ ofText lent (some (writtenOf t))
-  comes-of lent _ l (short-table h) = absurd (h l)
-  comes-of lent _ l (no-track h n) = no-some e n
-  comes-of lent _ l (of-track k h s) = ap (λ (x : Track Bytes). ofText lent (some (writtenOf x))) (same-some s e)
-
-fits-both : (lent : ℕ) (w : Bytes) → length w ≤ lent → length w ≤ 65536 → ofText lent (some w) ≡ gives w
-unfolding ofText fits
+fits-both : (lent : ℕ) (w : Bytes) → length w ≤ lent → length w ≤ 65536 → within lent (gives w) ≡ gives w
+unfolding within fits
 fits-both lent w h g = rw (le-leb (length w) lent h, le-leb (length w) 65536 g)
 
 bytes-said : (a : writer.Answer) (n : ℕ) → bytesOf a ≡ some n → a ≡ writer.Answer.Bytes n
@@ -101,19 +274,124 @@ bytes-said (writer.Answer.Bytes m) n e = let q : m ≡ n = cc in ap writer.Answe
 bytes-said (writer.Answer.Refused r) n e = absurd (let z : _≡_ {A = ℕ} 0 1 = cc in omega arith)
 
 -- 18 says that it does not fit
-meets-eighteen : (lent : ℕ) (w : Bytes) → numberIn (ofText lent (some w)) ≡ 18 → (length w ≤ lent) × (length w ≤ 65536) → ⊥
+meets-eighteen : (lent : ℕ) (w : Bytes) → numberIn (within lent (gives w)) ≡ 18 → (length w ≤ lent) × (length w ≤ 65536) → ⊥
 unfolding numberIn
 meets-eighteen lent w e h = let z : numberIn (gives w) ≡ 18 = ap numberIn (sym (fits-both lent w (h .0) (h .1))) ∙ e in omega (arith, z)
 
-eighteen : (T : track.Tables) (lent : ℕ) (o : Outcome) → Comes wholeText T lent o → numberIn o ≡ 18
-    → (t : Track Bytes) × (trackIn T ≡ some t) × (¬ ((length (writtenOf t) ≤ lent) × (length (writtenOf t) ≤ 65536)))
-unfolding numberIn
-eighteen T lent _ (short-table h) e = absurd (omega (arith, e))
-eighteen T lent _ (no-track h n) e = absurd (omega (arith, e))
-eighteen T lent _ (of-track t h s) e = (t, s, meets-eighteen lent (writtenOf t) e)
+too-long : (lent : ℕ) (w : Bytes) → ¬ ((length w ≤ lent) × (length w ≤ 65536)) → numberIn (within lent (gives w)) ≡ 18
+unfolding numberIn within fits
+too-long lent w n =
+    by-test (leb (length w) lent)
+    (λ x. by-test (leb (length w) 65536) (λ y. absurd (n (leb-true _ _ x, leb-true _ _ y))) (λ y. rw (x, y) refl))
+    (λ x. rw x refl)
+
+refused-said : (a : writer.Answer) (n : ℕ) → numberOf a ≡ n → 0 < n → placeOf a ≡ 0 → a ≡ writer.Answer.Refused (record { number = n; place = 0 })
+unfolding numberOf placeOf
+refused-said (writer.Answer.Bytes m) n e h p = absurd (omega (arith, e, h))
+refused-said (writer.Answer.Refused r) n e h p = rw (sym e, sym p) refl
+
+-- what a call that writes comes to, of a track that is handed and the text that is asked for
+module _ (asked : Track Bytes → Outcome) (T : track.Tables) (t : Track Bytes) (l : track.LongEnough (track.lengths T)) (e : trackIn T ≡ some t)
+  where
+    comes-of : (lent : ℕ) (o : Outcome) → Comes asked T lent o → o ≡ within lent (asked t)
+    comes-of lent _ (short-table h) = absurd (h l)
+    comes-of lent _ (no-track h n) = no-some e n
+    comes-of lent _ (of-track k h s) = ap (λ (x : Track Bytes). within lent (asked x)) (same-some s e)
+
+    module _ (out left : Bytes) (answer : writer.Answer) (p : Promise asked T out answer left) where
+      module _ (w : Bytes) (a : asked t ≡ gives w) where
+        outcome-is : p .outcome ≡ within (length out) (gives w)
+        outcome-is = comes-of (length out) (p .outcome) (p .comes) ∙ ap (within (length out)) a
+
+        leaves : HasRoom w out → Leaves w out answer left
+        unfolding countIn textIn
+        leaves f =
+            let o = outcome-is ∙ fits-both (length out) w (f .0) (f .1) in
+            (bytes-said answer (length w) (p .count ∙ ap countIn o), rw o at (p .bytes))
+
+        full : (numberOf answer ≡ 18) ↔ (¬ HasRoom w out)
+        full = (
+          (λ x f. meets-eighteen (length out) w (sym (ap numberIn outcome-is) ∙ (sym (p .number) ∙ x)) f),
+          (λ n. p .number ∙ (ap numberIn outcome-is ∙ too-long (length out) w n)),
+        )
+
+      past : asked t ≡ meets 17 0 → (answer ≡ writer.Answer.Refused (record { number = 17; place = 0 })) × (left ≡ replicate (length out) 0)
+      unfolding numberIn placeIn textIn within
+      past a =
+          let o : p .outcome ≡ meets 17 0 = comes-of (length out) (p .outcome) (p .comes) ∙ ap (within (length out)) a in
+          let b : left ≡ replicate (length out - 0) 0 = rw o at (p .bytes) in
+          (refused-said answer 17 (p .number ∙ ap numberIn o) (omega arith) (p .place ∙ ap placeIn o), rw (sub-zero (length out)) at b)
+
+-- the cue of an index, and none past the end
+asked-cue : (i : ℕ) (l : List (Cue Bytes)) (c : Cue Bytes) → nth l i ≡ some c → cueNumbered i l ≡ gives (cueWritten c)
+unfolding nth cueNumbered
+asked-cue zero [] c e = no-some e refl
+asked-cue (suc i) [] c e = no-some e refl
+asked-cue zero (x ∷ l) c e = let q : x ≡ c = cc in ap (λ (y : Cue Bytes). gives (cueWritten y)) q
+asked-cue (suc i) (x ∷ l) c e = asked-cue i l c e
+
+asked-past : (i : ℕ) (l : List (Cue Bytes)) → length l ≤ i → cueNumbered i l ≡ meets 17 0
+unfolding cueNumbered
+asked-past i [] h = refl
+asked-past zero (x ∷ l) h = absurd (omega (arith, h))
+asked-past (suc i) (x ∷ l) h = asked-past i l (omega (arith, h))
+
+-- a single cue as a track
+cue-of : (m : Answer (Cue Bytes)) (t : Track Bytes) → answered alone m ≡ is t → (c : Cue Bytes) × (m ≡ is c) × (alone c ≡ t)
+cue-of (is c) t e = (c, refl, cc)
+cue-of (refused n p) t e = absurd (let z : _≡_ {A = ℕ} 0 1 = cc in omega arith)
+
+-- 18, or no number
+either : (a : Bool) (b : Bool) (n : ℕ) → n ≡ cond (a || b) 18 0 → (n ≡ 18) ↔ ((a ≡ true) ⊎ (b ≡ true))
+either true b n e = ((λ _. inl refl), (λ _. e))
+either false true n e = ((λ _. inr refl), (λ _. e))
+either false false n e = (
+  (λ f. absurd (omega (arith, e, f))),
+  (λ o. elim o [
+    | inl f ↦ absurd (true≢false (sym f))
+    | inr f ↦ absurd (true≢false (sym f))
+  ]),
+)
+
+over-tests : (lent : List ℕ) (ids : List Bytes) → ((ltb (length lent) (length ids * 4) ≡ true) ⊎ (ltb 65536 (length ids) ≡ true)) ↔ Overflows lent ids
+over-tests lent ids = (
+  (λ o. elim o [
+    | inl e ↦ inl (ltb-true _ _ e)
+    | inr e ↦ inr (ltb-true _ _ e)
+  ]),
+  (λ o. elim o [
+    | inl h ↦ inl (lt-ltb _ _ h)
+    | inr h ↦ inr (lt-ltb _ _ h)
+  ]),
+)
+
+-- the number of a query that meets none of 1, 2, 3 and 17
+module _ {text : Bytes} {T : track.Tables} {t : Track Bytes} (a : Askable text T t) (lent : List ℕ) (ask : Asked) where
+  valid : isUtf8 text ≡ true
+  unfolding isUtf8
+  valid = eq-eqb (utf8End text) (length text) (utf8-end text (a .valid))
+
+  asked-number : numberFor text T lent ask ≡ lastNumber lent (ask t)
+  unfolding numberFor trackNumber
+  asked-number = rw (long-full T (a .long-enough), le-leb (length text) 65536 (a .short), valid, a .means) refl
+
+  module _ (answer : Resolved) (number : query-promise.numberOf answer ≡ numberFor text T lent ask) where
+    refuses : (n : ℕ) → ask t ≡ styles.refused n → query-promise.numberOf answer ≡ n
+    unfolding lastNumber
+    refuses n e = number ∙ (asked-number ∙ rw e refl)
+
+    overflows : {P : Bytes → Type 0} (r : Resolution) (ids : List Bytes) → ask t ≡ styles.is r → Exactly P (r .ids) → Exactly P ids
+        → (query-promise.numberOf answer ≡ 18) ↔ Overflows lent ids
+    unfolding lastNumber isOver
+    overflows r ids e x y =
+        let c : length (r .ids) ≡ length ids = same-count (r .ids) ids x y in
+        let n : query-promise.numberOf answer ≡ cond (ltb (length lent) (length ids * 4) || ltb 65536 (length ids)) 18 0 =
+        number ∙ (asked-number ∙ rw (e, sym c) refl) in
+        let k = either _ _ _ n in
+        let o = over-tests lent ids in
+        ((λ f. o .0 (k .0 f)), (λ f. k .1 (o .1 f)))
 
 pub demand-2 : Demand2
-unfolding countIn textIn
 demand-2 = record {
   parse-gives = λ text lent left answer f t l u d m p.
       let c = parsed-case text lent l (d .size) (utf8-end text u) p (parsed-is text f u d t m) in
@@ -122,16 +400,57 @@ demand-2 = record {
   parse-only = λ text lent left p.
       let s = parsed-track p in
       (s .tree, s .track, s .derives, s .meant-so, s .means);
+  parse-refuses = λ text lent left answer n p q h. q .refused n p h;
   parse-clears = λ text lent left answer p h. p .cleared h;
-  write-gives = λ T t out left answer l e h g p.
-      let o = comes-of T t e (length out) (p .outcome) l (p .comes) ∙ fits-both (length out) (writtenOf t) h g in
-      (bytes-said answer (length (writtenOf t)) (p .count ∙ ap countIn o), rw o at (p .bytes));
-  write-full = λ T out left answer p e. eighteen T (length out) (p .outcome) (p .comes) (sym (p .number) ∙ e);
+  cue-gives = λ text lent left answer f c l u d m p.
+      let k = cue-case text lent l (d .size) (utf8-end text u) p (cue-is text f u d c m) in
+      let q : CueParsed text lent reader.Answer.Track left = subst (λ (a : reader.Answer). CueParsed text lent a left) (k .0) p in
+      (k .0, k .1, passing (left .track) (λ r x. cue-track q .passes {r = r} x));
+  cue-only = λ text lent left p.
+      let s = cue-track p in
+      let c = cue-of _ (s .track) (s .meant-so) in
+      (s .tree, c .0, s .derives, c .1, s .means ∙ ap some (sym (c .2)));
+  cue-refuses = λ text lent left answer n p q h. q .refused n p h;
+  cue-clears = λ text lent left answer p h. p .cleared h;
+  write-gives = λ T t out left answer l e f p. leaves wholeText T t l e out left answer p (writtenOf t) refl f;
+  write-full = λ T t out left answer l e p. full wholeText T t l e out left answer p (writtenOf t) refl;
+  cue-written = λ i T t c out left answer l e a f p. leaves (cueNumber i) T t l e out left answer p (cueWritten c) (asked-cue i (t .cues) c a) f;
+  cue-full = λ i T t c out left answer l e a p. full (cueNumber i) T t l e out left answer p (cueWritten c) (asked-cue i (t .cues) c a);
+  cue-past = λ i T t out left answer l e h p. past (cueNumber i) T t l e out left answer p (asked-past i (t .cues) h);
+  check-takes = λ T answer p. p .taken;
+  check-refuses = λ T answer n p c h. c .refused n p h;
   resolver-follows = λ value T t lent left answer e p z. p .no-style z t e;
   resolver-counts = λ value T t lent left answer e p z. p .queried .ids z t e;
+  region-gives = λ id T t r lent left answer e s p z. (p .style z t e r s, p .ids z t e);
+  effective-gives = λ i T t r lent left answer e s p z. (p .style z t e r s, p .ids z t e);
+  region-refused = λ id T t n lent left answer a e p. refuses a lent (askedRegion id) answer (p .number) n e;
+  effective-refused = λ i T t n lent left answer a e p. refuses a lent (askedCue i) answer (p .number) n e;
+  resolver-full = λ value T t ids lent left answer a x p.
+      overflows a lent (askedValue value) answer (p .queried .number) (resolve (t .styles) value) ids refl (resolve-answers (t .styles) value .ids-reached) x;
+  region-full = λ id T t r ids lent left answer a e x p.
+      overflows a lent (askedRegion id) answer (p .number) r ids e (region-exactly t id r e) x;
+  effective-full = λ i T t r ids lent left answer a e x p.
+      overflows a lent (askedCue i) answer (p .number) r ids e (cue-exactly t i r e) x;
 }
 
 -- ---- 3
+
+-- the numbers of a text that is turned away
+met-low : {d k j : ℕ} {s : Bytes} {n p : ℕ} → Meets d k j s n p → n ≤ 11
+met-low (too-deep v e) = omega arith
+met-low (too-many-nodes v e) = omega arith
+met-low (no-tag-name v e x) = omega arith
+met-low (too-many-attributes v e) = omega arith
+met-low (slash v e) = omega arith
+met-low (no-value v x b c) = omega arith
+met-low (end-in-tag v e x f) = omega arith
+met-low (open-close-tag v x) = omega arith
+
+away-low : {text : Bytes} {lent : xml.Tables} {n p : ℕ} → xml.TurnsAway text lent n p → n ≤ 11
+away-low (xml.short-table h) = omega arith
+away-low (xml.long-text h g) = omega arith
+away-low (xml.not-utf8 h g u v) = omega arith
+away-low (xml.first-met r f) = met-low (f .met)
 
 -- a track that was written
 pub record Wrote (T : track.Tables) (n : ℕ) (written : Bytes) : Type 0 where
@@ -141,7 +460,7 @@ pub record Wrote (T : track.Tables) (n : ℕ) (written : Bytes) : Type 0 where
 
 given-text : (T : track.Tables) (lent : ℕ) (o : Outcome) (n : ℕ) → Comes wholeText T lent o → some n ≡ countIn o
     → (t : Track Bytes) × (trackIn T ≡ some t) × (o ≡ gives (writtenOf t)) × (n ≡ length (writtenOf t))
-unfolding countIn ofText
+unfolding countIn within
 given-text T lent _ n (short-table h) e = absurd (let z : _≡_ {A = ℕ} 0 1 = cc in omega arith)
 given-text T lent _ n (no-track h m) e = absurd (let z : _≡_ {A = ℕ} 0 1 = cc in omega arith)
 given-text T lent _ n (of-track t h s) e =
@@ -172,7 +491,7 @@ handed-is T t e =
     by-test (isTrack T) (λ h. (h, let g : some (trackAt T) ≡ some t = rw h at e in cc))
     (λ h. let g : none ≡ some t = rw h at e in absurd (let z : _≡_ {A = ℕ} 0 1 = cc in omega arith))
 
-module _ (T : track.Tables) (t : Track Bytes) (signed : SignedTimes T) (e : trackIn T ≡ some t) (plain : isPlainTrack t ≡ true) where
+module _ (T : track.Tables) (t : Track Bytes) (signed : Signed (T .times)) (e : trackIn T ≡ some t) (plain : isPlainTrack t ≡ true) where
   ok : isTrack T ≡ true
   ok = handed-is T t e .0
 
@@ -213,6 +532,8 @@ demand-3 = record {
   gives-that-tree = λ text lent left answer f l u d p.
       let h = p .tree f (takes-of text lent l u f d) in
       (xml.placesOf (d .derived), h .shown, h .node-rows, h .attr-rows);
+  none-above-11 = λ text lent left answer n p q e.
+      by-test (leb 1 n) (λ t. away-low (q .refused n p (leb-true 1 n t) .0 e)) (λ t. let z = leb-false 1 n t in omega (arith, z));
   no-two = grammar.no-two;
   reads-back = λ T t signed e plain out written n p lent left q. reads T t signed e plain out written n p lent left q;
 }

@@ -6,7 +6,6 @@ use Prim.Native.Nat.{ℕ, zero, suc, _+_, _≤_, _<_, _^_}
 use mathlib.Core.Path.{_≡_, refl, sym}
 use mathlib.Core.Logic.{_⊎_, inl, inr}
 use mathlib.Core.List.{List, [], _∷_}
-use mathlib.Core.Option.{Option}
 use native.Mathlib.Omega.{arith}
 use lib.Dec.{ltb}
 use lib.ListN.{length, getD, take}
@@ -29,22 +28,21 @@ use Rattle.promised.proofs.Promises.{some-number}
 use Rattle.promised.proofs.Determined.{decided}
 use Rattle.promised.proofs.Cases.{parsed-refused}
 use Rattle.writer.specs.declared.calls.Answer as writer
-use Rattle.writer.specs.Promise.{Promise, wholeText}
+use Rattle.writer.specs.Promise.{Outcome, Promise, wholeText}
 use Rattle.rewritten.proofs.Fitting.{bytes-fit}
 use Rattle.ttml.specs.declared.back.Back as call
-use Rattle.ttml.specs.Demands.{SignedTimes}
 use Rattle.ttml.specs.ReadBack.{Signed, Returned}
 use Rattle.ttml.specs.Steps.{countOf, outcomeOf}
 use Rattle.ttml.proofs.Demands.{demand-3}
 
 -- ---- what is written stands in the bytes that are lent
-module _ {text : Track Bytes → Option Bytes} {T : track.Tables} {out left : Bytes} {n : ℕ} where
-  pub count-fits : (answer : writer.Answer) → n ≡ countOf answer → Promise text T out answer left → n ≤ length left
+module _ {asked : Track Bytes → Outcome} {T : track.Tables} {out left : Bytes} {n : ℕ} where
+  pub count-fits : (answer : writer.Answer) → n ≡ countOf answer → Promise asked T out answer left → n ≤ length left
   unfolding countOf
   count-fits (writer.Answer.Bytes m) e p = rw e (bytes-fit m p)
   count-fits (writer.Answer.Refused r) e p = omega (arith, e)
 
-  pub count-stands : (answer : writer.Answer) → n ≡ countOf answer → Promise text T out answer left → n ≡ length (take n left)
+  pub count-stands : (answer : writer.Answer) → n ≡ countOf answer → Promise asked T out answer left → n ≡ length (take n left)
   count-stands answer e p = sym (length-take-le n left (count-fits answer e p))
 
 -- ---- after a track was written
@@ -59,7 +57,7 @@ nothing-read {lent} {left} {answer} p = p .cleared (by (decided whole whole-numb
         let l = some-number whole whole-numbers [] lent (w .2) in
         omega (arith, l, p .refused (w .0) (w .1) l .1 (w .2) .0)
 
-module _ {T : track.Tables} {out written : Bytes} {lent left : Tables} {n : ℕ} {r : call.Back} (signed : SignedTimes T) where
+module _ {T : track.Tables} {out written : Bytes} {lent left : Tables} {n : ℕ} {r : call.Back} (signed : Signed (T .times)) where
   pub returned : (answer : writer.Answer) (reading : reader.Answer) → n ≡ countOf answer → r ≡ outcomeOf answer reading
       → Promise wholeText T out answer written → Parsed (take n written) lent reading left → Returned T out lent r written left
   unfolding countOf outcomeOf

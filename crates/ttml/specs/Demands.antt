@@ -1,5 +1,5 @@
--- The customer's demands, as statements about the calls of this crate, each sentence of document 01 beside its statement. Definitions alone;
--- proofs/Demands proves every one of them.
+-- The customer's demands, as statements about the calls that a user has, in Rattle and in C, each sentence of document 01 beside its statement.
+-- Definitions alone; proofs/Demands proves every one of them.
 --
 -- What is said of a call is said of every outcome that its promise holds of: a text or a track, the tables that are lent, the answer, and the
 -- tables that are left. That the running call has such an outcome, whatever it is given, is what its contract says and the checker has proved:
@@ -10,49 +10,59 @@
 --     one cue written    `cue_to_bytes`        Promise (cueNumber i) T out answer left
 --     the check          `check_track`         Checked T answer
 --     the three queries                        ReferencedStyle, RegionStyle, EffectiveStyle
+--     read and written   `recaption`           Recaptioned text lent out answer left written
+--     written and read   `read_back`           Returned T out lent answer written left
+--     each in C          `pg_…`                Tells, ReadInC, AnswersInC of the above: 64 bits, counts, 27 cells and a float
 -- None of them asks anything of its caller.
-use Prim.Native.Nat.{ℕ, _-_, _≤_, _<_, _^_}
+use Prim.Native.Nat.{ℕ, _-_, _*_, _≤_, _<_}
 use mathlib.Core.Path.{_≡_}
 use mathlib.Core.Bool.{true}
-use mathlib.Core.Logic.{_↔_}
-use mathlib.Core.List.{List, _++_}
+use mathlib.Core.Logic.{_↔_, _⊎_}
+use mathlib.Core.List.{List, [], _++_}
 use mathlib.Core.Option.{none, some}
-use lib.ListN.{length, take, getD, replicate}
-use lib.IntN.{pos}
-use lib.Signed.{mag}
+use lib.ListN.{length, take, replicate}
+use lib.Ieee.{Float}
 use Rattle.unicode.specs.Utf8.{Utf8}
 use Rattle.entities.specs.Decode.{decoded}
 use Rattle.grammar.specs.Tree.{Forest}
-use Rattle.grammar.specs.Grammar.{Document}
 use Rattle.grammar.specs.Demand.{Derives, NoTwo, decodeForest}
 use Rattle.tree.specs.Trees as placed
 use Rattle.tree.specs.Answers.{Says}
 use Rattle.tree.specs.declared.answers.Answer as tree
 use Rattle.derivation.specs.Strings.{treeIn}
-use Rattle.track.specs.Track.{Bytes, Track}
+use Rattle.track.specs.Track.{Bytes, Cue, Track}
 use Rattle.track.specs.Tables as track
 use Rattle.track.specs.Meaning.{trackIn}
 use Rattle.track.specs.Check.{Checked}
+use Rattle.track.specs.Check as check
 use Rattle.track.specs.declared.check.Check.{Check}
-use Rattle.track.specs.Layout.{each}
 use Rattle.track.specs.Plain.{isPlainTrack}
 use Rattle.records.specs.Find.{findStyle}
 use Rattle.xml.specs.Promise as xml
 use Rattle.meaning.specs.Answers.{is}
 use Rattle.meaning.specs.Kinds.{bare, nodesOf}
-use Rattle.meaning.specs.Meaning.{trackOf}
-use Rattle.written.specs.Written.{writtenOf}
-use Rattle.readback.specs.Back.{cueBack}
+use Rattle.meaning.specs.Meaning.{trackOf, cueOf}
+use Rattle.laid.specs.Laid.{alone, whole, single}
+use Rattle.written.specs.Written.{writtenOf, cueWritten}
 use Rattle.promised.specs.declared.Answer as reader
 use Rattle.promised.specs.Promise.{Tables, LongEnough, AllZero, Parsed, CueParsed, numberOf}
+use Rattle.promised.specs.Promise as reading
 use Rattle.writer.specs.declared.calls.Answer as writer
 use Rattle.writer.specs.Promise.{Promise, wholeText, cueNumber}
 use Rattle.writer.specs.Promise as writing
+use Rattle.styles.specs.Own as styles
+use Rattle.styles.specs.Resolve.{Resolution}
+use Rattle.styles.specs.Queries.{regionStyle, effectiveStyle, nth}
 use Rattle.styles.specs.Reaches.{Reaches, Exactly}
 use Rattle.styles.specs.Ids.{idsIn}
 use Rattle.queries.specs.declared.query.Resolved.{Resolved}
-use Rattle.queries.specs.Promise.{ReferencedStyle, RegionStyle, EffectiveStyle, EqualButOrder, styleIn, countOf}
+use Rattle.queries.specs.Promise.{ReferencedStyle, RegionStyle, EffectiveStyle, EqualButOrder, ByRegion, ByCue, styleIn, countOf}
 use Rattle.queries.specs.Promise as query
+use Rattle.told.specs.Told.{Tells, checkTold, readTold, writtenTold}
+use Rattle.told.specs.Trees.{ReadInC}
+use Rattle.told.specs.Queries.{AnswersInC}
+use Rattle.rewritten.specs.Recaption.{Recaptioned}
+use Rattle.ttml.specs.ReadBack.{Back, Signed, Returned}
 
 -- ---- 1. "for each public call, the number, the place and every cell of every table afterwards follow from the input by its promise"
 
@@ -64,6 +74,17 @@ Determined {Answer} {Left} promise = (x y : Answer) (a b : Left) → promise x a
 abbrev pub DeterminedButOrder : (Resolved → List ℕ → Type 0) → Type 0
 DeterminedButOrder promise = (x y : Resolved) (a b : List ℕ) → promise x a → promise y b → EqualButOrder x y a b
 
+-- the same where two things are left
+abbrev pub DeterminedBoth : {Answer One Two : Type 0} → (Answer → One → Two → Type 0) → Type 0
+DeterminedBoth {Answer} {One} {Two} promise =
+    (x y : Answer) (a b : One) (c d : Two) → promise x a c → promise y b d → (x ≡ y) × (a ≡ b) × (c ≡ d)
+
+-- a query in C: its 64 bits, the 27 cells and the float of its answer, and the ids but for their order
+abbrev pub QueryInC : (Resolved → List ℕ → Type 0) → (lent : List ℕ) → Type 0
+QueryInC promise lent =
+    (r s : ℕ) (a b out c d : List ℕ) (size x y : List Float) → AnswersInC promise lent a out c size x r → AnswersInC promise lent b out d size y s
+    → (r ≡ s) × (c ≡ d) × (x ≡ y) × ((a ≡ b) ⊎ ((answer : Resolved) × EqualButOrder answer answer a b))
+
 pub record Demand1 : Type 0 where
   pub tree-reader : (text : Bytes) (lent : xml.Tables) → Determined (xml.Parsed text lent)
   pub parse : (text : Bytes) (lent : Tables) → Determined (Parsed text lent)
@@ -74,12 +95,47 @@ pub record Demand1 : Type 0 where
   pub resolve-referenced-style : (value : Bytes) (T : track.Tables) (lent : List ℕ) → DeterminedButOrder (ReferencedStyle value T lent)
   pub region-style : (id : Bytes) (T : track.Tables) (lent : List ℕ) → DeterminedButOrder (RegionStyle id T lent)
   pub effective-style-for-cue-index : (T : track.Tables) (i : ℕ) (lent : List ℕ) → DeterminedButOrder (EffectiveStyle T i lent)
+  pub recaption : (text : Bytes) (lent : Tables) (out : Bytes) → DeterminedBoth (Recaptioned text lent out)
+  pub read-back : (T : track.Tables) (out : Bytes) (lent : Tables) → DeterminedBoth (Returned T out lent)
+  -- the calls in C
+  pub pg-parse-xml : (text : Bytes) (lent : xml.Tables) (counts : List ℕ)
+      → DeterminedBoth (λ (r : ℕ) left counted. ReadInC text lent counts left counted r)
+  pub pg-parse : (text : Bytes) (lent : Tables) → Determined (λ (r : ℕ) left. Tells readTold (λ a. Parsed text lent a left) r)
+  pub pg-bytes-to-cue : (text : Bytes) (lent : Tables) → Determined (λ (r : ℕ) left. Tells readTold (λ a. CueParsed text lent a left) r)
+  pub pg-write : (T : track.Tables) (out : Bytes) → Determined (λ (r : ℕ) left. Tells writtenTold (λ a. Promise wholeText T out a left) r)
+  pub pg-cue-to-bytes : (i : ℕ) (T : track.Tables) (out : Bytes)
+      → Determined (λ (r : ℕ) left. Tells writtenTold (λ a. Promise (cueNumber i) T out a left) r)
+  pub pg-check-track : (T : track.Tables) (r s : ℕ) → Tells checkTold (Checked T) r → Tells checkTold (Checked T) s → r ≡ s
+  pub pg-resolve-referenced-style : (value : Bytes) (T : track.Tables) (lent : List ℕ) → QueryInC (ReferencedStyle value T lent) lent
+  pub pg-region-style : (id : Bytes) (T : track.Tables) (lent : List ℕ) → QueryInC (RegionStyle id T lent) lent
+  pub pg-effective-style-for-cue-index : (T : track.Tables) (i : ℕ) (lent : List ℕ) → QueryInC (EffectiveStyle T i lent) lent
 
 -- ---- 2. "Say of each result which definition it equals"
 
 -- a text that has its tree, which means what it does
 abbrev pub meansTrack : Forest → Track Bytes → Type 0
 meansTrack f t = trackOf bare (nodesOf (decodeForest decoded f)) ≡ is t
+
+abbrev pub meansCue : Forest → Cue Bytes → Type 0
+meansCue f c = cueOf bare (nodesOf (decodeForest decoded f)) ≡ is c
+
+-- a text w that is asked for has room in the bytes that are lent; and it is left in them, with zeros behind it
+abbrev pub HasRoom : (w out : Bytes) → Type 0
+HasRoom w out = (length w ≤ length out) × (length w ≤ 65536)
+
+abbrev pub Leaves : (w out : Bytes) → writer.Answer → (left : Bytes) → Type 0
+Leaves w out answer left = (answer ≡ writer.Answer.Bytes (length w)) × (left ≡ w ++ replicate (length out - length w) 0)
+
+-- a query meets none of 1, 2, 3 and 17: the tables are long enough and mean t, and its text is UTF-8 of at most 65,536 bytes
+pub record Askable (text : Bytes) (T : track.Tables) (t : Track Bytes) : Type 0 where
+  pub long-enough : track.LongEnough (track.lengths T)
+  pub means : trackIn T ≡ some t
+  pub short : length text ≤ 65536
+  pub valid : Utf8 text
+
+-- more ids than rows of four cells are lent, or than 65,536
+abbrev pub Overflows : (lent : List ℕ) → List Bytes → Type 0
+Overflows lent ids = (length lent < length ids * 4) ⊎ (65536 < length ids)
 
 pub record Demand2 : Type 0 where
   -- `parse` gives the track that the derived tree means, and no other: it calls no film malformed, nor gives an empty track for one that has
@@ -90,16 +146,41 @@ pub record Demand2 : Type 0 where
   -- and takes nothing else
   pub parse-only : (text : Bytes) (lent left : Tables) → Parsed text lent reader.Answer.Track left
       → (f : Forest) × (t : Track Bytes) × Derives text f × meansTrack f t × (trackIn (left .track) ≡ some t)
+  -- "Limits and what is turned away": with that number and place, and with no other
+  pub parse-refuses : (text : Bytes) (lent left : Tables) (answer : reader.Answer) (n p : ℕ) → Parsed text lent answer left → 0 < n
+      → reading.Says answer n p ↔ reading.TurnsAway whole text lent n p
   -- "unused cells are zero": after a refusal all are
   pub parse-clears : (text : Bytes) (lent left : Tables) (answer : reader.Answer) → Parsed text lent answer left → 0 < numberOf answer
       → AllZero lent left
+  -- `bytes_to_cue` gives the cue that the derived tree means, as a track of one cue and nothing else; it takes nothing else
+  pub cue-gives : (text : Bytes) (lent left : Tables) (answer : reader.Answer) (f : Forest) (c : Cue Bytes) → LongEnough lent → Utf8 text
+      → Derives text f → meansCue f c → CueParsed text lent answer left
+      → (answer ≡ reader.Answer.Track) × (trackIn (left .track) ≡ some (alone c)) × Checked (left .track) Check.Track
+  pub cue-only : (text : Bytes) (lent left : Tables) → CueParsed text lent reader.Answer.Track left
+      → (f : Forest) × (c : Cue Bytes) × Derives text f × meansCue f c × (trackIn (left .track) ≡ some (alone c))
+  pub cue-refuses : (text : Bytes) (lent left : Tables) (answer : reader.Answer) (n p : ℕ) → CueParsed text lent answer left → 0 < n
+      → reading.Says answer n p ↔ reading.TurnsAway single text lent n p
+  pub cue-clears : (text : Bytes) (lent left : Tables) (answer : reader.Answer) → CueParsed text lent answer left → 0 < numberOf answer
+      → AllZero lent left
   -- `write` leaves the text of the track, and nothing else: no blank output; "18" exactly where it does not fit
   pub write-gives : (T : track.Tables) (t : Track Bytes) (out left : Bytes) (answer : writer.Answer) → track.LongEnough (track.lengths T)
-      → trackIn T ≡ some t → length (writtenOf t) ≤ length out → length (writtenOf t) ≤ 65536 → Promise wholeText T out answer left
-      → (answer ≡ writer.Answer.Bytes (length (writtenOf t))) × (left ≡ writtenOf t ++ replicate (length out - length (writtenOf t)) 0)
-  pub write-full : (T : track.Tables) (out left : Bytes) (answer : writer.Answer) → Promise wholeText T out answer left
-      → writing.numberOf answer ≡ 18
-      → (t : Track Bytes) × (trackIn T ≡ some t) × (¬ ((length (writtenOf t) ≤ length out) × (length (writtenOf t) ≤ 65536)))
+      → trackIn T ≡ some t → HasRoom (writtenOf t) out → Promise wholeText T out answer left → Leaves (writtenOf t) out answer left
+  pub write-full : (T : track.Tables) (t : Track Bytes) (out left : Bytes) (answer : writer.Answer) → track.LongEnough (track.lengths T)
+      → trackIn T ≡ some t → Promise wholeText T out answer left → (writing.numberOf answer ≡ 18) ↔ (¬ HasRoom (writtenOf t) out)
+  -- `cue_to_bytes` the same of the text of a cue; an index past the end meets 17
+  pub cue-written : (i : ℕ) (T : track.Tables) (t : Track Bytes) (c : Cue Bytes) (out left : Bytes) (answer : writer.Answer)
+      → track.LongEnough (track.lengths T) → trackIn T ≡ some t → nth (t .cues) i ≡ some c → HasRoom (cueWritten c) out
+      → Promise (cueNumber i) T out answer left → Leaves (cueWritten c) out answer left
+  pub cue-full : (i : ℕ) (T : track.Tables) (t : Track Bytes) (c : Cue Bytes) (out left : Bytes) (answer : writer.Answer)
+      → track.LongEnough (track.lengths T) → trackIn T ≡ some t → nth (t .cues) i ≡ some c → Promise (cueNumber i) T out answer left
+      → (writing.numberOf answer ≡ 18) ↔ (¬ HasRoom (cueWritten c) out)
+  pub cue-past : (i : ℕ) (T : track.Tables) (t : Track Bytes) (out left : Bytes) (answer : writer.Answer) → track.LongEnough (track.lengths T)
+      → trackIn T ≡ some t → length (t .cues) ≤ i → Promise (cueNumber i) T out answer left
+      → (answer ≡ writer.Answer.Refused (record { number = 17; place = 0 })) × (left ≡ replicate (length out) 0)
+  -- `check_track` takes exactly the tables that are long enough and mean a track; any other is 1 or 17, at place 0
+  pub check-takes : (T : track.Tables) (answer : Check) → Checked T answer
+      → (answer ≡ Check.Track) ↔ (track.LongEnough (track.lengths T) × ((t : Track Bytes) × (trackIn T ≡ some t)))
+  pub check-refuses : (T : track.Tables) (answer : Check) (n p : ℕ) → Checked T answer → 0 < n → check.Says answer n p ↔ check.TurnsAway T n p
   -- "`resolve_referenced_style` gives no style exactly if no id reachable through chains names one."
   pub resolver-follows : (value : Bytes) (T : track.Tables) (t : Track Bytes) (lent left : List ℕ) (answer : Resolved) → trackIn T ≡ some t
       → ReferencedStyle value T lent answer left → query.numberOf answer ≡ 0
@@ -108,23 +189,29 @@ pub record Demand2 : Type 0 where
   pub resolver-counts : (value : Bytes) (T : track.Tables) (t : Track Bytes) (lent left : List ℕ) (answer : Resolved) → trackIn T ≡ some t
       → ReferencedStyle value T lent answer left → query.numberOf answer ≡ 0
       → Exactly (Reaches (t .styles) value) (idsIn value (T .strings) left (countOf answer))
+  -- `region_style` and `effective_style_for_cue_index` give the style that the definition resolves, and exactly the ids reached; or 14 or 15
+  pub region-gives : (id : Bytes) (T : track.Tables) (t : Track Bytes) (r : Resolution) (lent left : List ℕ) (answer : Resolved) → trackIn T ≡ some t
+      → regionStyle t id ≡ styles.is r → RegionStyle id T lent answer left → query.numberOf answer ≡ 0
+      → (styleIn (T .strings) answer ≡ r .style) × Exactly (ByRegion t id) (idsIn id (T .strings) left (countOf answer))
+  pub effective-gives : (i : ℕ) (T : track.Tables) (t : Track Bytes) (r : Resolution) (lent left : List ℕ) (answer : Resolved) → trackIn T ≡ some t
+      → effectiveStyle t i ≡ styles.is r → EffectiveStyle T i lent answer left → query.numberOf answer ≡ 0
+      → (styleIn (T .strings) answer ≡ r .style) × Exactly (ByCue t i) (idsIn [] (T .strings) left (countOf answer))
+  pub region-refused : (id : Bytes) (T : track.Tables) (t : Track Bytes) (n : ℕ) (lent left : List ℕ) (answer : Resolved) → Askable id T t
+      → regionStyle t id ≡ styles.refused n → RegionStyle id T lent answer left → query.numberOf answer ≡ n
+  pub effective-refused : (i : ℕ) (T : track.Tables) (t : Track Bytes) (n : ℕ) (lent left : List ℕ) (answer : Resolved) → Askable [] T t
+      → effectiveStyle t i ≡ styles.refused n → EffectiveStyle T i lent answer left → query.numberOf answer ≡ n
+  -- "18" exactly where the ids reached, whatever their order, are more than the rows that are lent, or than 65,536
+  pub resolver-full : (value : Bytes) (T : track.Tables) (t : Track Bytes) (ids : List Bytes) (lent left : List ℕ) (answer : Resolved)
+      → Askable value T t → Exactly (Reaches (t .styles) value) ids → ReferencedStyle value T lent answer left
+      → (query.numberOf answer ≡ 18) ↔ Overflows lent ids
+  pub region-full : (id : Bytes) (T : track.Tables) (t : Track Bytes) (r : Resolution) (ids : List Bytes) (lent left : List ℕ) (answer : Resolved)
+      → Askable id T t → regionStyle t id ≡ styles.is r → Exactly (ByRegion t id) ids → RegionStyle id T lent answer left
+      → (query.numberOf answer ≡ 18) ↔ Overflows lent ids
+  pub effective-full : (i : ℕ) (T : track.Tables) (t : Track Bytes) (r : Resolution) (ids : List Bytes) (lent left : List ℕ) (answer : Resolved)
+      → Askable [] T t → effectiveStyle t i ≡ styles.is r → Exactly (ByCue t i) ids → EffectiveStyle T i lent answer left
+      → (query.numberOf answer ≡ 18) ↔ Overflows lent ids
 
 -- ---- 3. the grammar, and reading back
-
--- "Reading back is `parse` on what `write` made": n bytes stand in `written`, and `left` is what `parse` leaves
-pub record Back (t : Track Bytes) (n : ℕ) (written : Bytes) (left : Tables) : Type 0 where
-  -- "the grammar derives the written text"
-  pub tree : Forest
-  pub derived : Document (take n written) tree
-  -- "and reading it back gives as many cues in the same order, each with the same style, region and segments as the cue handed in, and with its
-  -- start and end, each raised to 0 if negative and then rounded down to whole milliseconds" (`cueBack`)
-  pub given : Track Bytes
-  pub means : trackIn (left .track) ≡ some given
-  pub cues : given .cues ≡ each cueBack (t .cues)
-
--- the cells of `times` are i64
-abbrev pub SignedTimes : track.Tables → Type 0
-SignedTimes T = (i : ℕ) → mag (getD (T .times) i (pos 0)) < 2 ^ 63
 
 pub record Demand3 : Type 0 where
   -- "It is taken if the tree reader, lent tables that are long enough, answers without a number": exactly if the grammar derives a tree for it
@@ -137,10 +224,13 @@ pub record Demand3 : Type 0 where
       → (g : placed.Forest) × (treeIn (left .strings) g ≡ decodeForest decoded f)
       × (left .nodes ≡ xml.thenZeros (placed.rows 0 0 g) (length (lent .nodes)))
       × (left .attrs ≡ xml.thenZeros (placed.attrRows (placed.attrsOf g)) (length (lent .attrs)))
+  -- "the tree reader meets none above 11"
+  pub none-above-11 : (text : Bytes) (lent left : xml.Tables) (answer : tree.Answer) (n p : ℕ) → xml.Parsed text lent answer left
+      → Says answer n p → n ≤ 11
   -- no text has two trees
   pub no-two : NoTwo
   -- for every plain track: its writing meets no number, nor does its written text
-  pub reads-back : (T : track.Tables) (t : Track Bytes) → SignedTimes T → trackIn T ≡ some t → isPlainTrack t ≡ true
+  pub reads-back : (T : track.Tables) (t : Track Bytes) → Signed (T .times) → trackIn T ≡ some t → isPlainTrack t ≡ true
       → (out written : Bytes) (n : ℕ) → Promise wholeText T out (writer.Answer.Bytes n) written
       → (lent left : Tables) → Parsed (take n written) lent reader.Answer.Track left → Back t n written left
 

@@ -7,16 +7,30 @@ use lib.ListN.{getD, take}
 use lib.IntN.{ℤ, pos}
 use lib.Signed.{mag}
 use mathlib.Core.Option.{some}
+use Rattle.grammar.specs.Tree.{Forest}
+use Rattle.grammar.specs.Grammar.{Document}
 use Rattle.track.specs.Track.{Bytes, Track}
 use Rattle.track.specs.Tables as track
 use Rattle.track.specs.Meaning.{trackIn}
+use Rattle.track.specs.Layout.{each}
 use Rattle.track.specs.Plain.{isPlainTrack}
+use Rattle.readback.specs.Back.{cueBack}
 use Rattle.promised.specs.declared.Answer as reader
 use Rattle.promised.specs.Promise.{Tables, AllZero, Parsed}
 use Rattle.writer.specs.declared.calls.Answer as writer
 use Rattle.writer.specs.Promise.{Promise, wholeText}
 use Rattle.ttml.specs.declared.back.Back as call
-use Rattle.ttml.specs.Demands.{Back}
+
+-- "Reading back is `parse` on what `write` made": n bytes stand in `written`, and `left` is what `parse` leaves
+pub record Back (t : Track Bytes) (n : ℕ) (written : Bytes) (left : Tables) : Type 0 where
+  -- "the grammar derives the written text"
+  pub tree : Forest
+  pub derived : Document (take n written) tree
+  -- "and reading it back gives as many cues in the same order, each with the same style, region and segments as the cue handed in, and with its
+  -- start and end, each raised to 0 if negative and then rounded down to whole milliseconds" (`cueBack`)
+  pub given : Track Bytes
+  pub means : trackIn (left .track) ≡ some given
+  pub cues : given .cues ≡ each cueBack (t .cues)
 
 -- the cells are i64
 abbrev pub Signed : List ℤ → Type 0

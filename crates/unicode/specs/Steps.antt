@@ -1,5 +1,5 @@
--- Steps of the program and what its inner functions ensure: this file need not be believed. What the functions on white space are is said in
--- WhiteSpace.antt; proofs/Trimming and proofs/Wording show it of them, for every list of bytes.
+-- Steps of the program, and what its inner functions ensure. White.antt defines `trimmed` and `words` by those on white space; what these are is said in
+-- WhiteSpace.antt, and proofs/Trimming and proofs/Wording show it of them, for every list of bytes.
 use Prim.Native.Nat.{ℕ, zero, suc, _+_, _-_, _≤_, _<_}
 use mathlib.Core.Path.{_≡_}
 use mathlib.Core.Bool.{cond, _&&_}

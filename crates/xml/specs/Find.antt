@@ -4,7 +4,6 @@ use Prim.Native.Nat.{ℕ, _+_, _*_, _≤_}
 use mathlib.Core.Path.{_≡_}
 use mathlib.Core.Bool.{Bool, true, false, cond}
 use mathlib.Core.List.{List, [], _∷_}
-use mathlib.Core.Option.{Option, none, some}
 use lib.ListN.{length, getD}
 use lib.Dec.{eqb}
 use Rattle.scan.specs.Names.{sameFolded, afterLastColon}
@@ -80,12 +79,7 @@ findValue z name (x ∷ l) =
     cond (sameFolded (stringAt z (x .name) (x .nameLen)) name) (At (record { at = x .name; place = x .value; len = x .valueLen }))
     (findValue z name l)
 
--- what the answers say; neither has a number of document 01's list, since nothing is turned away here. A row: its number, or none.
-abbrev pub foundRow : Found → Option ℕ
-foundRow (Row k) = some k
-foundRow Nothing = none
-
--- an attribute: its value's bytes, or none
+-- what the answer says, which has no number of document 01's list, since nothing is turned away here: an attribute's value, or none
 unfoldable pub shown : List ℕ → Value → FoundValue
 shown z (At x) = value (stringAt z (x .place) (x .len))
 shown z Absent = no-value

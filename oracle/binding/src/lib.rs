@@ -68,6 +68,7 @@ pub fn style(style: Style) -> SubtitleStyle {
         Align::End => TextAlign::End,
         Align::Left => TextAlign::Left,
         Align::Right => TextAlign::Right,
+        other => unreachable!("{other:?}"),
     };
     rust
 }
@@ -100,6 +101,7 @@ fn segment(one: postgarlic::Segment) -> Segment {
         Is::Font { family, size: measure, children } => {
             Segment::Font { family: family.map(String::from), size: measure.map(size), children: segments(children) }
         }
+        other => unreachable!("{other:?}"),
     }
 }
 

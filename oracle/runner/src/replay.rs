@@ -27,7 +27,7 @@ enum Asked {
 
 /// The lines of a recording: `p` for parse, `c` for bytes_to_cue, `w` for parse and then write; `P`, `C` and `W` of texts in pieces, which `+`
 /// begins where a line has no room for all. The answer is a byte of the number, four of the place, for `w` of how many bytes are written, and
-/// four of the sum over the tables, for `w` over what is written.
+/// four of the sum over the tables, for `w` over what program `recaption` prints.
 pub fn lines(rng: &mut Rng, lines: &mut Lines) {
     deep(|| {
         let before = lines.made;
@@ -107,16 +107,17 @@ fn read(call: Call, text: &[u8]) -> Vec<u8> {
     }
 }
 
-/// The same for what is written of the track, which meets 18 if it is too long.
+/// The same for what is printed: the track as it is written, which meets 18 if it is too long, or the line of a refusal.
 fn recaptioned(text: &[u8]) -> Vec<u8> {
-    let summed = |written: &[u8]| {
+    let summed = |printed: &[u8]| {
         let mut sum = Sum::default();
-        sum.table(written.iter().map(|&byte| byte as u64));
+        sum.table(printed.iter().map(|&byte| byte as u64));
         sum.0 as u32
     };
+    let refused = |number: u32, place: usize| bytes(number, place, summed(format!("{number} {place}\n").as_bytes()));
     match meant(Call::Parse, text).map(|(_, track)| ttml::write(&track.rust())) {
-        Err(refusal) => bytes(refusal.number, refusal.place, summed(&[])),
-        Ok(written) if written.len() > BYTES => bytes(18, 0, summed(&[])),
+        Err(refusal) => refused(refusal.number, refusal.place),
+        Ok(written) if written.len() > BYTES => refused(18, 0),
         Ok(written) => bytes(0, written.len(), summed(&written)),
     }
 }

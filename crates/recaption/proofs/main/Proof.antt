@@ -1,6 +1,6 @@
 -- `main` is safe and ends.
 use borrow.Author.Needs.{needs}
-use Rattle.recaption.proofs.Fitting.{fitting}
+use Rattle.recaption.proofs.Fitting.{fitting, counted}
 use Rattle.recaption.proofs.main.Statement.{statement}
 use Rattle.recaption.proofs.main.Tie as tie
 
@@ -61,14 +61,38 @@ slice-aggregate-recaption-15 c = search needs
 recaption-requires : tie.Need-recaption-requires
 recaption-requires c κs = search needs
 
-slice-aggregate-say : tie.Need-slice-aggregate-say
-slice-aggregate-say c = search needs
+slice-aggregate-print : tie.Need-slice-aggregate-print
+slice-aggregate-print c = search needs
 
-say-requires : tie.Need-say-requires
-say-requires c κs = search (needs, fitting)
+print-requires : tie.Need-print-requires
+print-requires c κs = search needs
+
+enum-known-n : tie.Need-enum-known-n
+enum-known-n c = search needs
+
+array-share-prefix-out : tie.Need-array-share-prefix-out
+array-share-prefix-out c =
+    let d = c .before .before .before .before in
+    let e = d .before .before .before .before .before .before .before .before .before .before .before .before .before .before .before .before in
+    fitting _ _ (e .recaption .ensures) (d .print .ensures) (c .before .n .given .1)
+
+slice-aggregate-send : tie.Need-slice-aggregate-send
+slice-aggregate-send c =
+    let d = c .before .before .before .before .before in
+    let e = d .before .before .before .before .before .before .before .before .before .before .before .before .before .before .before .before in
+    counted _ _ (e .recaption .ensures) (d .print .ensures) (c .before .before .n .given .1)
+
+send-requires : tie.Need-send-requires
+send-requires c κs = search needs
+
+enum-told : tie.Need-enum-told
+enum-told c = search needs
 
 returns : tie.Need-returns
 returns c = search needs
+
+returns-2 : tie.Need-returns-2
+returns-2 c = search needs
 
 pub main-spec : {M : Type 1} → statement M
 main-spec =
@@ -93,6 +117,12 @@ main-spec =
     slice-aggregate-recaption-14
     slice-aggregate-recaption-15
     recaption-requires
-    slice-aggregate-say
-    say-requires
-    returns)
+    slice-aggregate-print
+    print-requires
+    enum-known-n
+    array-share-prefix-out
+    slice-aggregate-send
+    send-requires
+    enum-told
+    returns
+    returns-2)
