@@ -63,7 +63,7 @@ tables-same {a} {b} n m t =
     ∙ ap (λ (x : List ℕ). record { nodes = b .nodes; attrs = x; track = a .track }) m
     ∙ ap (λ (x : track.Tables). record { nodes = b .nodes; attrs = b .attrs; track = x }) t
 
-zero-same : {lent a b : Tables} → AllZero lent a → AllZero lent b → a ≡ b
+pub zero-same : {lent a b : Tables} → AllZero lent a → AllZero lent b → a ≡ b
 zero-same h k =
     tables-same (h .of-tree .of-nodes ∙ sym (k .of-tree .of-nodes)) (h .of-tree .of-attrs ∙ sym (k .of-tree .of-attrs))
     (h .of-track ∙ sym (k .of-track))

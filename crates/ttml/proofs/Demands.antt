@@ -1,7 +1,7 @@
 -- The demands hold. Assumes nothing.
 use Prim.Native.Nat.{ℕ, zero, suc, _-_, _*_, _≤_, _<_}
 use mathlib.Core.Path.{_≡_, refl, sym, ap, subst, _∙_}
-use mathlib.Core.Bool.{Bool, true, false, cond, _&&_, _||_, true≢false}
+use mathlib.Core.Bool.{Bool, true, false, cond, _||_, true≢false}
 use mathlib.Core.List.{List, [], _∷_, _++_}
 use mathlib.Core.Option.{Option, none, some}
 use mathlib.Core.Logic.{_↔_, _⊎_, inl, inr}
@@ -15,12 +15,10 @@ use borrow.Author.Tests.{le-leb, leb-true, leb-false, eq-eqb, ltb-true, lt-ltb}
 use Rattle.unicode.specs.Utf8.{Utf8, utf8End}
 use Rattle.scan.proofs.Every.{by-test}
 use Rattle.unicode.proofs.Utf8Laws.{utf8-end}
-use Rattle.entities.specs.Decode.{decoded}
 use Rattle.grammar.specs.Tree.{Forest}
-use Rattle.grammar.specs.Demand.{Derives, decodeForest}
+use Rattle.grammar.specs.Demand.{Derives}
 use Rattle.grammar.specs.Refusals.{Meets, too-deep, too-many-nodes, no-tag-name, too-many-attributes, slash, no-value, end-in-tag, open-close-tag}
 use Rattle.grammar.proofs.Theorem as grammar
-use Rattle.tree.specs.Answers.{Says}
 use Rattle.tree.specs.declared.answers.Answer as tree-answer
 use Rattle.tree.specs.declared.answers.Refusal as tree-refusal
 use Rattle.tree.specs.Posts.{Fits}
@@ -29,7 +27,6 @@ use Rattle.track.specs.Tables as track
 use Rattle.track.specs.Tables.{zeroFloat}
 use Rattle.track.specs.Meaning.{isTrack, isUtf8, trackAt, trackIn}
 use Rattle.track.proofs.Answers.{long-full}
-use Rattle.track.specs.Layout.{each}
 use Rattle.track.specs.Plain.{isPlainTrack}
 use Rattle.track.specs.Check.{Checked}
 use Rattle.track.specs.declared.check.Check.{Check}
@@ -41,15 +38,15 @@ use Rattle.laid.specs.Laid.{alone}
 use Rattle.meaning.specs.Steps.{parsed, cueParsed}
 use Rattle.meaning.proofs.Theorem.{placeless, track-means, cue-means}
 use Rattle.written.specs.Written.{writtenOf, cueWritten}
-use Rattle.written.specs.Shape.{treeOf, plainTreeOf}
+use Rattle.written.specs.Shape.{treeOf}
 use Rattle.written.proofs.Theorem.{derives, decoded-tree}
 use Rattle.written.proofs.Handed.{names-fit}
-use Rattle.readback.specs.Back.{cueBack}
 use Rattle.readback.specs.Steps.{CuesPlain}
 use Rattle.readback.proofs.CheckedCues.{cues-checked, cues-plain}
 use Rattle.readback.proofs.Theorem.{read-back}
 use Rattle.promised.specs.declared.Answer as reader
-use Rattle.promised.specs.Promise.{Tables, LongEnough, AllZero, Parsed, CueParsed}
+use Rattle.promised.specs.Promise.{Tables, LongEnough, Parsed, CueParsed}
+use Rattle.promised.proofs.Determined.{zero-same}
 use Rattle.promised.proofs.Theorem.{parsed-determined, cue-determined, parsed-track, cue-track}
 use Rattle.promised.proofs.Cases.{parsed-case, cue-case}
 use Rattle.writer.specs.declared.calls.Answer as writer
@@ -71,10 +68,10 @@ use Rattle.queries.proofs.Reaching.{region-exactly, cue-exactly}
 use Rattle.queries.proofs.Determined as query
 use Rattle.told.specs.Told.{told, treeTold, checkTold, Tells}
 use Rattle.told.specs.Trees.{countCells, ReadInC}
-use Rattle.told.specs.Queries.{AnswerPut, ToldAs, NoRoom, AnswersInC}
+use Rattle.told.specs.Queries.{ToldAs, NoRoom}
 use Rattle.rewritten.specs.Recaption.{ThenWritten, Recaptioned}
 use Rattle.ttml.specs.declared.back.Back as call
-use Rattle.ttml.specs.ReadBack.{Back, Signed, Went, Returned}
+use Rattle.ttml.specs.ReadBack.{Back, Signed, Went}
 use Rattle.ttml.specs.Demands.{Determined, DeterminedButOrder, DeterminedBoth, QueryInC, Demand1, meansTrack, meansCue, HasRoom, Leaves}
 use Rattle.ttml.specs.Demands.{Askable, Overflows, Demand2, Demand3, Demands}
 
@@ -178,12 +175,6 @@ module _ (T : track.Tables) (out : Bytes) (lent : Tables) where
       let w : take n a ≡ take m b = rw (k, f) refl in
       let h = parsed-determined (subst (λ (z : Bytes). Parsed z lent u c) w p) q in
       (k, h .0, h .1)
-
-  zero-same : {a b : Tables} → AllZero lent a → AllZero lent b → a ≡ b
-  zero-same {a} {b} h k =
-      ap (λ (x : List ℕ). record { nodes = x; attrs = a .attrs; track = a .track }) (h .of-tree .of-nodes ∙ sym (k .of-tree .of-nodes))
-      ∙ ap (λ (x : List ℕ). record { nodes = b .nodes; attrs = x; track = a .track }) (h .of-tree .of-attrs ∙ sym (k .of-tree .of-attrs))
-      ∙ ap (λ (x : track.Tables). record { nodes = b .nodes; attrs = b .attrs; track = x }) (h .of-track ∙ sym (k .of-track))
 
   went : DeterminedBoth (Went T out lent)
   went (call.Back.Track n) (call.Back.Track m) a b c d p q =

@@ -1,6 +1,5 @@
 -- Every case that document 01 marks [P] holds: computed from the definitions, and for the tree derived from what is computed. Assumes nothing.
 use mathlib.Core.Path.{_≡_, refl, _∙_}
-use mathlib.Core.Bool.{true, false}
 use mathlib.Core.Logic.{inl, inr}
 use native.Mathlib.Omega.{arith}
 use lib.IntN.{negsuc}

@@ -5,9 +5,9 @@
 --     determined                     two outcomes that meet the promise are one
 use Prim.Native.Nat.{ℕ, zero, suc, _+_, _-_, _≤_, _<_}
 use mathlib.Core.Path.{_≡_, refl, sym, ap, ap₂, _∙_}
-use mathlib.Core.Bool.{Bool, true, false, cond, _&&_, false≢true}
-use mathlib.Core.List.{List, [], _++_}
-use mathlib.Core.Option.{Option, none, some}
+use mathlib.Core.Bool.{true, false, _&&_, false≢true}
+use mathlib.Core.List.{List, _++_}
+use mathlib.Core.Option.{some}
 use native.Mathlib.Omega.{arith}
 use native.Mathlib.Nat.{sub-zero, zero-add}
 use lib.ListN.{length, replicate}
@@ -26,7 +26,7 @@ use Rattle.written.specs.Written.{cueWritten}
 use Rattle.writer.specs.declared.calls.Answer.{Answer}
 use Rattle.writer.specs.Promise.{numberOf, placeOf, bytesOf, cueNumbered, cueNumber, Outcome, gives, meets, fits, within, Comes}
 use Rattle.writer.specs.Promise.{short-table, no-track, of-track, numberIn, placeIn, countIn, textIn, Promise}
-use Rattle.writer.specs.Calls.{refusedWith, fitted, shown, Filled}
+use Rattle.writer.specs.Calls.{refusedWith, fitted, Filled}
 use Rattle.writer.proofs.CallLaws.{accepted}
 
 -- ---- a refusal, and a text
