@@ -53,6 +53,8 @@ cases =
     ∷ read (ascii "5f") (rated (negsuc 24)) Nothing
     ∷ read (ascii "5f") (rated (pos 25)) (Is (pos 200000))
     ∷ read (ascii "5") bare Nothing
+    ∷ read (ascii "0:0:5.5s") bare Nothing
+    ∷ read (ascii "0:0:1:5f") (rated (pos 25)) Nothing
     ∷ written (negsuc 0) (ascii "00:00:00.000")
     ∷ written (pos 1999) (ascii "00:00:00.001")
     ∷ written (pos 9223372036854775807) (ascii "2562047788:00:54.775")
