@@ -1,4 +1,5 @@
--- A text is a time exactly if it is one in some way, it is one in no two ways, and the Rust's order gives the same answer. Assumes nothing.
+-- The time of a text is the answer of the first way that gives one, in TTML's order; a text has an answer exactly if one way gives it; none has
+-- one in two ways; and the Rust's order of trial gives the same. Assumes nothing.
 use Prim.Native.Nat.{ℕ, _+_, _-_, _<_}
 use mathlib.Core.Path.{_≡_, refl, sym, ap, _∙_}
 use mathlib.Core.Bool.{Bool, true, false, cond, or-true}
@@ -17,11 +18,11 @@ use Rattle.unicode.specs.White.{trimmed}
 use Rattle.times.specs.declared.offset.TimingCtx.{TimingCtx}
 use Rattle.times.specs.declared.offset.Time.{Time}
 use Rattle.times.specs.Expressions.{_else_, Metric, `h`, `m`, `s`, `ms`, `f`, `t`, metrics, letters, Way, clock, offset, ways}
-use Rattle.times.specs.Expressions.{endsIn, endsInOne, timeBy, firstOf, offsetTime, clockTime, expression, timeIn, TimeBy, inOrder, OneWay}
+use Rattle.times.specs.Expressions.{endsIn, endsInOne, timeBy, firstOf, offsetTime, clockTime, expression, timeIn, TimeBy, byFirstMetric, inRustsOrder}
 use Rattle.times.proofs.Counts.{no-count}
 
 abbrev Met : Time → Type 0
-Met t = t ≡ Time.Nothing → ⊥
+Met t = ¬ (t ≡ Time.Nothing)
 
 decided : (t : Time) → (t ≡ Time.Nothing) ⊎ Met t
 decided (Time.Is z) = inr (λ e. let z : _≡_ {A = ℕ} 0 1 = cc in omega arith)
@@ -143,8 +144,8 @@ module _ (s : List ℕ) (ctx : TimingCtx) where
           let w : r .0 ≡ wayOf s = only (r .0) (λ z. n (sym (r .1) ∙ z)) in
           absurd (n (sym (r .1) ∙ (ap (λ v. timeBy v s ctx) w ∙ e)))
 
-  in-order : inOrder (`ms` ∷ `s` ∷ `m` ∷ `h` ∷ `f` ∷ `t` ∷ []) s ctx ≡ timeBy (wayOf s) s ctx
-  in-order = by-test (endsIn (letters `ms`) s)
+  by-first : byFirstMetric (`ms` ∷ `s` ∷ `m` ∷ `h` ∷ `f` ∷ `t` ∷ []) s ctx ≡ timeBy (wayOf s) s ctx
+  by-first = by-test (endsIn (letters `ms`) s)
       (λ a. rw (one `ms` a, last-s a, a, a))
       (λ a. by-test (endsIn (letters `s`) s)
       (λ b. rw (one `s` b, letter 115 b, a, b))
@@ -158,42 +159,40 @@ module _ (s : List ℕ) (ctx : TimingCtx) where
       (λ f. rw (one `t` f, letter 116 f, a, b, c, d, e, f))
       (λ f. let none : endsInOne metrics s ≡ false = rw (a, b, c, d, e, f) in rw (none, none, a, b, c, d, e, f)))))))
 
+-- ---- of any text, white space around it passed over
+nil : (l : List ℕ) → length l ≡ 0 → l ≡ []
+nil [] e = refl
+nil (b ∷ l) e = absurd (omega arith)
+
 -- nothing is no time
-empty : (way : Way) (ctx : TimingCtx) → timeBy way [] ctx ≡ Time.Nothing
+empty : (ctx : TimingCtx) → firstOf ways [] ctx ≡ Time.Nothing
 unfolding startsAt clockTime splitAt
-empty clock ctx = refl
-empty (offset `h`) ctx = refl
-empty (offset `m`) ctx = refl
-empty (offset `s`) ctx = refl
-empty (offset `ms`) ctx = refl
-empty (offset `f`) ctx = refl
-empty (offset `t`) ctx = refl
+empty ctx = refl
 
-pub one-way : (s : List ℕ) (ctx : TimingCtx) → OneWay s ctx
+pub in-order : (s : List ℕ) (ctx : TimingCtx) → timeIn s ctx ≡ firstOf ways (trimmed s) ctx
 unfolding timeIn expression
-one-way s ctx = record {
-  some-way = λ t. (to t, from t);
-  one-way = λ v w t u a b.
-      only (trimmed s) ctx v (λ e. a .1 (sym (a .0) ∙ e)) ∙ sym (only (trimmed s) ctx w (λ e. b .1 (sym (b .0) ∙ e)));
-  as-before = first-way (trimmed s) ctx ∙ sym (in-order (trimmed s) ctx);
-}
+in-order s ctx = by-test (eqb (length (trimmed s)) 0)
+    (λ z. rw z (sym (ap (λ l. firstOf ways l ctx) (nil (trimmed s) (eqb-true _ 0 z)) ∙ empty ctx)))
+    (λ z. rw z)
+
+pub some-way : (s : List ℕ) (ctx : TimingCtx) (t : Time) → ((timeIn s ctx ≡ t) × ¬ (t ≡ Time.Nothing)) ↔ ((way : Way) × TimeBy way s ctx t)
+some-way s ctx t = (to, from)
   where
-    to : (t : Time) → (timeIn s ctx ≡ t) × Met t → (way : Way) × TimeBy way s ctx t
-    to t (e, n) = by-test (eqb (length (trimmed s)) 0)
-        (λ z. absurd (n (sym (rw z at e))))
-        (λ z.
-        let f : firstOf ways (trimmed s) ctx ≡ t = rw z at e in
-        let r = first-some (trimmed s) ctx ways (λ y. n (sym f ∙ y)) in
-        (r .0, (r .1 ∙ f, n)))
+    to : (timeIn s ctx ≡ t) × Met t → (way : Way) × TimeBy way s ctx t
+    to (e, n) =
+        let f : firstOf ways (trimmed s) ctx ≡ t = sym (in-order s ctx) ∙ e in
+        let r = first-some (trimmed s) ctx ways (λ z. n (sym f ∙ z)) in
+        (r .0, (r .1 ∙ f, n))
 
-    nil : (l : List ℕ) → length l ≡ 0 → l ≡ []
-    nil [] e = refl
-    nil (b ∷ l) e = absurd (omega arith)
+    from : (way : Way) × TimeBy way s ctx t → (timeIn s ctx ≡ t) × Met t
+    from (way, (e, n)) = (in-order s ctx ∙ (first-is (trimmed s) ctx way (λ z. n (sym e ∙ z)) ways (listed way) ∙ e), n)
 
-    from : (t : Time) → (way : Way) × TimeBy way s ctx t → (timeIn s ctx ≡ t) × Met t
-    from t (way, (e, n)) = (
-      by-test (eqb (length (trimmed s)) 0)
-          (λ z. absurd (n (sym e ∙ (ap (λ l. timeBy way l ctx) (nil (trimmed s) (eqb-true _ 0 z)) ∙ empty way ctx))))
-          (λ z. rw z (first-is (trimmed s) ctx way (λ y. n (sym e ∙ y)) ways (listed way) ∙ e)),
-      n,
-    )
+pub one-way : (s : List ℕ) (ctx : TimingCtx) (v w : Way) (t u : Time) → TimeBy v s ctx t → TimeBy w s ctx u → v ≡ w
+one-way s ctx v w t u a b =
+    only (trimmed s) ctx v (λ e. a .1 (sym (a .0) ∙ e)) ∙ sym (only (trimmed s) ctx w (λ e. b .1 (sym (b .0) ∙ e)))
+
+pub as-before : (s : List ℕ) (ctx : TimingCtx) → timeIn s ctx ≡ inRustsOrder s ctx
+unfolding timeIn expression
+as-before s ctx = by-test (eqb (length (trimmed s)) 0)
+    (λ z. rw z)
+    (λ z. rw z (first-way (trimmed s) ctx ∙ sym (by-first (trimmed s) ctx)))

@@ -182,7 +182,7 @@ unfolding splitAt secondsOf
 clockTime s ctx = clockOf (splitAt 58 s) ctx
 
 -- ---- offset times
--- TTML's metrics, in its order, and how each is written
+-- TTML's metrics, in the order of its text, and how each is written
 pub data Metric : Type 0 where
   `h` `m` `s` `ms` `f` `t` : Metric
 
@@ -226,7 +226,8 @@ unfoldable pub offsetTime : List ℕ → Metric → TimingCtx → Time
 offsetTime n m ctx = withValue (timeDecimal (trimmed n)) (inMetric m ctx)
 
 -- ---- a time expression
--- the seven ways to be a time, in TTML's order
+-- The seven ways to be a time, in the order of TTML's text (document 02, (d)): "clock time first, then offset time with the metrics h, m, s,
+-- ms, f, t".
 pub data Way : Type 0 where
   clock : Way
   offset : Metric → Way
@@ -234,7 +235,7 @@ pub data Way : Type 0 where
 abbrev pub ways : List Way
 ways = clock ∷ offset `h` ∷ offset `m` ∷ offset `s` ∷ offset `ms` ∷ offset `f` ∷ offset `t` ∷ []
 
--- s ends in w, and s without so many bytes at its end
+-- s ends in w; s without so many bytes at its end
 abbrev pub endsIn : List ℕ → List ℕ → Bool
 endsIn w s = startsAt s (length s - length w) w
 
@@ -246,12 +247,13 @@ abbrev pub endsInOne : List Metric → List ℕ → Bool
 endsInOne [] s = false
 endsInOne (m ∷ more) s = endsIn (letters m) s || endsInOne more s
 
--- What s is in one way, whatever it is in the others. A clock time ends in no metric: to the Rust `0:0:5.5s` and `0:0:1:5f` are no times.
+-- What s is in one way, by the rule of that way: no other way is asked, and no order. That it ends in no metric is part of what a clock time
+-- is: the Rust comes to its clock rule with no other text. Without it `0:0:0:s` would be 0, and `0:0:5.5s` 5 s.
 abbrev pub timeBy : Way → List ℕ → TimingCtx → Time
 timeBy clock s ctx = cond (endsInOne metrics s) Nothing (clockTime s ctx)
 timeBy (offset m) s ctx = cond (endsIn (letters m) s) (offsetTime (without (length (letters m)) s) m ctx) Nothing
 
--- what the first says, or if that is no time the second
+-- the first answer; where that is no time, the second
 infixr 50 _else_
 abbrev pub _else_ : Time → Time → Time
 Nothing else u = u
@@ -260,10 +262,12 @@ Beyond else u = Beyond
 LongFraction else u = LongFraction
 Overflow else u = Overflow
 
+-- the answer of the first of these ways that gives one, a time or a number
 abbrev pub firstOf : List Way → List ℕ → TimingCtx → Time
 firstOf [] s ctx = Nothing
 firstOf (way ∷ more) s ctx = timeBy way s ctx else firstOf more s ctx
 
+-- a time expression: the ways tried in their order, each going on to the next where it gives no time
 unfoldable pub expression : List ℕ → TimingCtx → Time
 unfolding offsetTime clockTime
 expression s ctx = firstOf ways s ctx
@@ -283,19 +287,18 @@ pub record ReadsTime (t r : Time) : Type 0 where
   pub long-fraction : Says r 15 [] ↔ (t ≡ LongFraction)
   pub overflow : Says r 16 [] ↔ (t ≡ Overflow)
 
--- ---- one way for each time
--- s, without the white space around it, is t in this way: a time, or the number that it meets. No other way is looked at.
+-- ---- one way for each time (document 02, (d))
+-- s, without the white space around it, is t in this way: a time, or the number that it meets
 abbrev pub TimeBy : Way → List ℕ → TimingCtx → Time → Type 0
-TimeBy way s ctx t = (timeBy way (trimmed s) ctx ≡ t) × (t ≡ Nothing → ⊥)
+TimeBy way s ctx t = (timeBy way (trimmed s) ctx ≡ t) × ¬ (t ≡ Nothing)
 
--- the Rust's order of trial: the first of these metrics that s ends in, or a clock time
-abbrev pub inOrder : List Metric → List ℕ → TimingCtx → Time
-inOrder [] s ctx = clockTime s ctx
-inOrder (m ∷ more) s ctx = cond (endsIn (letters m) s) (offsetTime (without (length (letters m)) s) m ctx) (inOrder more s ctx)
+-- "Every answer is as it was": the order of trial before the change, which is the Rust's. The first of these metrics that s ends in decides,
+-- also where its count is no decimal; a clock time is what ends in none.
+abbrev pub byFirstMetric : List Metric → List ℕ → TimingCtx → Time
+byFirstMetric [] s ctx = clockTime s ctx
+byFirstMetric (m ∷ more) s ctx =
+    cond (endsIn (letters m) s) (offsetTime (without (length (letters m)) s) m ctx) (byFirstMetric more s ctx)
 
--- A text is a time exactly if it is one in some way, it is one in no two, and the Rust's order gives the same answer (proved in
--- proofs/Ways.antt).
-pub record OneWay (s : List ℕ) (ctx : TimingCtx) : Type 0 where
-  pub some-way : (t : Time) → ((timeIn s ctx ≡ t) × (t ≡ Nothing → ⊥)) ↔ ((way : Way) × TimeBy way s ctx t)
-  pub one-way : (v w : Way) (t u : Time) → TimeBy v s ctx t → TimeBy w s ctx u → v ≡ w
-  pub as-before : expression (trimmed s) ctx ≡ inOrder (`ms` ∷ `s` ∷ `m` ∷ `h` ∷ `f` ∷ `t` ∷ []) (trimmed s) ctx
+abbrev pub inRustsOrder : List ℕ → TimingCtx → Time
+inRustsOrder s ctx =
+    cond (eqb (length (trimmed s)) 0) Nothing (byFirstMetric (`ms` ∷ `s` ∷ `m` ∷ `h` ∷ `f` ∷ `t` ∷ []) (trimmed s) ctx)

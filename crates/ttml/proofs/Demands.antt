@@ -22,6 +22,7 @@ use Rattle.grammar.proofs.Theorem as grammar
 use Rattle.tree.specs.declared.answers.Answer as tree-answer
 use Rattle.tree.specs.declared.answers.Refusal as tree-refusal
 use Rattle.tree.specs.Posts.{Fits}
+use Rattle.times.proofs.Ways as ways
 use Rattle.track.specs.Track.{Bytes, Cue, Track}
 use Rattle.track.specs.Tables as track
 use Rattle.track.specs.Tables.{zeroFloat}
@@ -73,7 +74,7 @@ use Rattle.rewritten.specs.Recaption.{ThenWritten, Recaptioned}
 use Rattle.ttml.specs.declared.back.Back as call
 use Rattle.ttml.specs.ReadBack.{Back, Signed, Went}
 use Rattle.ttml.specs.Demands.{Determined, DeterminedButOrder, DeterminedBoth, QueryInC, Demand1, meansTrack, meansCue, HasRoom, Leaves}
-use Rattle.ttml.specs.Demands.{Askable, Overflows, Demand2, Demand3, Demands}
+use Rattle.ttml.specs.Demands.{Askable, Overflows, Demand2, Demand3, RequestD, Demands}
 
 -- ---- 1
 
@@ -532,5 +533,9 @@ demand-3 = record {
     takes-of : (text : Bytes) (lent : xml.Tables) → xml.LongEnough lent → Utf8 text → (f : Forest) → Derives text f → xml.Takes text lent f
     takes-of text lent l u f d = record { readable = record { long-enough = l; short = d .size; valid = u }; derives = d }
 
+-- ---- the change requests of document 02
+request-d : RequestD
+request-d = record { in-order = ways.in-order; some-way = ways.some-way; no-two-ways = ways.one-way; as-before = ways.as-before }
+
 pub demands : Demands
-demands = record { first = demand-1; second = demand-2; third = demand-3 }
+demands = record { first = demand-1; second = demand-2; third = demand-3; request-d = request-d }
