@@ -179,8 +179,8 @@ const CORNERS: &[&[&str]] = &[
     ],
     // document 02, (d): what ends in a metric is no clock time, what ends in ms no count of seconds
     &[
-        "0:0:0:s", "0:0:0:m", "0:0:0:h", "0:0:0:f", "0:0:0:t", "0:0:0:ms", "0:0:0.s", "0:0:5.5s", "0:0:1:5f", "0:0:0:x",
-        "0:0:0:inf", "0:0:0:infinity", "5ms", "5 ms", "5m s", "5mms", "5 m ms", "infms", "5smm",
+        "0:0:0:s", "0:0:0:m", "0:0:0:h", "0:0:0:f", "0:0:0:t", "0:0:0:ms", "0:0:0.s", "0:0:5.5s", "0:0:1:5f",
+        "0:0:0:x", "0:0:0:inf", "0:0:0:infinity", "5ms", "5 ms", "5m s", "5mms", "5 m ms", "infms", "5smm",
     ],
     // offset times
     &[
