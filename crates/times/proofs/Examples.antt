@@ -9,6 +9,7 @@ use lib.Ieee.{binary64, ofInt, mul, div, le, toSigned, round}
 use Rattle.scan.specs.Loop.{go, loop}
 use Rattle.scan.specs.Marks.{startsAt}
 use Rattle.scan.specs.Bytes.{digitByte, runLength}
+use Rattle.scan.specs.Names.{sameFolded}
 use Rattle.unicode.specs.Utf8.{sequenceAt, charAt}
 use Rattle.unicode.specs.White.{isWhite, whiteAt, whiteBefore, trimmed}
 use Rattle.numerals.specs.Numerals.{numeralOf}
@@ -80,6 +81,6 @@ cases =
     ∷ []
 
 pub cases-hold : outcomes cases ≡ cases
-unfolding timeIn offsetTime clockTime trimmed whiteAt whiteBefore isWhite sequenceAt charAt loop go digitByte runLength startsAt numeralOf decimalOf charsLength
+unfolding timeIn offsetTime clockTime sameFolded trimmed whiteAt whiteBefore isWhite sequenceAt charAt loop go digitByte runLength startsAt numeralOf decimalOf charsLength
     microsOf checked mul div le ofInt toSigned round clockText padded decimalWidth
 cases-hold = refl
