@@ -248,7 +248,7 @@ endsInOne [] s = false
 endsInOne (m ∷ more) s = endsIn (letters m) s || endsInOne more s
 
 -- What s is in one way, by the rule of that way: no other way is asked, and no order. That it ends in no metric is part of what a clock time
--- is: the Rust comes to its clock rule with no other text. Without it `0:0:0:s` would be 0, and `0:0:5.5s` 5 s.
+-- is: the Rust comes to its clock rule with no other text. Without this condition `0:0:0:s` would be 0, and `0:0:5.5s` 5 s.
 abbrev pub timeBy : Way → List ℕ → TimingCtx → Time
 timeBy clock s ctx = cond (endsInOne metrics s) Nothing (clockTime s ctx)
 timeBy (offset m) s ctx = cond (endsIn (letters m) s) (offsetTime (without (length (letters m)) s) m ctx) Nothing

@@ -208,6 +208,7 @@ fn expression(text: &[u8], ctx: TimingCtx) -> Time
         b'h' => crate::offset::units(&text[..end], 3600000000.0),
         b'm' => crate::offset::units(&text[..end], 60000000.0),
         b's' => {
+            // no count of seconds ends in m
             if end == 0 || text[end - 1] != b'm' {
                 return crate::offset::units(&text[..end], 1000000.0);
             }
