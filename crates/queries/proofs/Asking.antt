@@ -6,15 +6,15 @@
 use Prim.Native.Nat.{ℕ, zero, suc, _+_, _-_, _*_, _≤_, _<_}
 use mathlib.Core.Path.{_≡_, refl, sym, ap, subst, _∙_}
 use mathlib.Core.Bool.{Bool, true, false, cond}
-use mathlib.Core.Logic.{_↔_, _⊎_, inl, inr}
-use mathlib.Core.List.{List, [], _∷_, _++_, append-nil}
+use mathlib.Core.Logic.{_↔_}
+use mathlib.Core.List.{List, [], append-nil}
 use mathlib.Core.Option.{Option, none, some}
 use native.Mathlib.Omega.{arith}
 use native.Mathlib.Nat.{zero-add, sub-zero, add-zero}
 use lib.ListN.{length, getD, replicate, length-replicate}
 use lib.Seq.{take-length}
 use lib.Dec.{eqb}
-use Rattle.scan.specs.Part.{part, stringAt}
+use Rattle.scan.specs.Part.{stringAt}
 use Rattle.unicode.specs.White.{trimmed, Trimmed}
 use Rattle.scan.proofs.Every.{by-test}
 use Rattle.track.specs.declared.strings.Span.{Span}
@@ -22,16 +22,15 @@ use Rattle.track.specs.declared.values.Look as values
 use Rattle.track.specs.declared.values.Cue as placed
 use Rattle.track.specs.declared.check.Check.{Check}
 use Rattle.track.specs.Track.{Bytes, Look, Style, Region, Cue, Track}
-use Rattle.track.specs.Tables.{Tables, cell, span, optional, rowsFrom, styleCount, regionCount, cueCount, regionAt, cueAt}
+use Rattle.track.specs.Tables.{Tables, cell, span, optional, rowsFrom, styleCount, regionCount, cueCount, cueAt}
 use Rattle.track.specs.Meaning.{bytesAt, given, lookIn, regionIn, cueIn, trackAt, trackIn}
 use Rattle.track.proofs.ShownLaws.{regions-in, cues-in}
 use Rattle.records.specs.Find.{findStyle, findRegion}
-use Rattle.styles.specs.declared.apply.Walk.{Walk}
 use Rattle.styles.specs.declared.apply.Applied.{Applied}
 use Rattle.styles.specs.Reaches.{Reaches}
-use Rattle.styles.specs.Values.{laidOver, blank, unstyled}
+use Rattle.styles.specs.Values.{laidOver}
 use Rattle.styles.specs.Resolve.{Resolution, resolve}
-use Rattle.styles.specs.Own.{Read, is, refused, next}
+use Rattle.styles.specs.Own.{is, next}
 use Rattle.styles.specs.Queries.{
   nothing,
   resolveOptional,
@@ -41,7 +40,6 @@ use Rattle.styles.specs.Queries.{
   others,
   both,
   regionOptional,
-  cueFound,
   effectiveStyle,
   nth,
 }
@@ -49,7 +47,7 @@ use Rattle.styles.specs.Cells.{blankLook, Tidy}
 use Rattle.styles.specs.Ids.{Row, namesOf, rowsIn}
 use Rattle.styles.specs.Places.{row, WalkedAt, startAt, Resolves}
 use Rattle.styles.specs.Steps as styles
-use Rattle.styles.specs.Steps.{stylesIn, stateAt, AnswerPost, Stood}
+use Rattle.styles.specs.Steps.{stylesIn, stateAt, AnswerPost}
 use Rattle.styles.proofs.Along.{over-kept, part-length}
 use Rattle.styles.proofs.Answering.{resolve-nothing}
 use Rattle.styles.proofs.Theorem.{resolve-answers}
@@ -74,11 +72,8 @@ use Rattle.queries.specs.Promise.{
   EffectiveStyle,
 }
 use Rattle.queries.specs.Steps.{
-  SpanIn,
-  regionTables,
   regionsOf,
   partAs,
-  PartPost,
   RegionPost,
   CueRegionPost,
   queryCheck,

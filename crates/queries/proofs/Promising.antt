@@ -11,7 +11,7 @@ use mathlib.Core.List.{List, [], _∷_, _++_}
 use mathlib.Core.Option.{Option, none, some}
 use native.Mathlib.Omega.{arith}
 use lib.ListN.{length, getD, replicate}
-use lib.Dec.{eqb, leb, ltb}
+use lib.Dec.{leb, ltb}
 use borrow.Author.Tests.{eq-eqb, ne-eqb, eqb-true, le-leb, leb-true, leb-false, lt-ltb, ltb-true}
 use Rattle.scan.specs.Loop.{loop, go}
 use Rattle.unicode.specs.Utf8.{Utf8, utf8End, LongestValid}
@@ -21,9 +21,9 @@ use Rattle.decimals.proofs.Tests.{no}
 use Rattle.tree.specs.declared.answers.Refusal.{Refusal}
 use Rattle.track.specs.declared.strings.Span.{Span}
 use Rattle.track.specs.declared.check.Check.{Check}
-use Rattle.track.specs.Track.{Bytes, Look, Track}
+use Rattle.track.specs.Track.{Bytes, Track}
 use Rattle.track.specs.Tables.{Tables, rowsFrom}
-use Rattle.track.specs.Meaning.{isUtf8, isTrack, bytesAt, lookIn, trackAt, trackIn}
+use Rattle.track.specs.Meaning.{isUtf8, isTrack, bytesAt, trackAt, trackIn}
 use Rattle.track.specs.Check as track
 use Rattle.track.specs.Check.{isFull, checkOf}
 use Rattle.track.proofs.Answers.{long-full, full-long}

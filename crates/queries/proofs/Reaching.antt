@@ -2,16 +2,16 @@
 --     region-exactly, cue-exactly              exactly those reached: of a region's answer, and of a cue's
 --     region-order, cue-order                  in that order
 --     value-reached, region-reached, cue-reached     both, of each query
-use Prim.Native.Nat.{ℕ, zero, suc, _+_, _*_, _≤_, _<_}
-use mathlib.Core.Path.{_≡_, refl, sym, ap, subst, _∙_}
+use Prim.Native.Nat.{ℕ}
+use mathlib.Core.Path.{_≡_, refl, sym, subst, _∙_}
 use mathlib.Core.Logic.{_⊎_, inl, inr}
-use mathlib.Core.List.{List, [], _∷_, _++_, List·Memᴰ·not-nil}
+use mathlib.Core.List.{List, [], List·Memᴰ·not-nil}
 use mathlib.Core.Option.{Option, none, some}
 use native.Mathlib.Omega.{arith}
 use Rattle.track.specs.Track.{Bytes, Look, Region, Style, Cue, Track}
 use Rattle.track.proofs.Exactly.{no-some}
 use Rattle.records.specs.Find.{findRegion}
-use Rattle.styles.specs.Reaches.{_∈_, chainWords, Reaches, Distinct, empty, Exactly}
+use Rattle.styles.specs.Reaches.{chainWords, Reaches, empty, Exactly}
 use Rattle.styles.specs.Resolve.{Resolution, resolve}
 use Rattle.styles.specs.Listing.{InOrder, done}
 use Rattle.styles.specs.Own.{Read, is, refused, next, valueOf, ownValues}
@@ -21,7 +21,6 @@ use Rattle.styles.specs.Queries.{
   withOwn,
   regionFound,
   regionStyle,
-  others,
   both,
   regionOptional,
   cueFound,

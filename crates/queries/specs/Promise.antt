@@ -70,7 +70,7 @@ AbsentZero (Refused r) = Unit {0}
 abbrev pub Asked : Type 0
 Asked = Track Bytes → Read Resolution
 
--- which ids are named, from left to right: by the chain of a region, the first of its id; for a cue those of its region first, then those of its style
+-- which ids are named, from left to right: by the chain of a region, the first of its id; by a cue those of its region, then those of its style
 abbrev pub chainNames : Option (Region Bytes) → List Bytes
 chainNames none = []
 chainNames (some g) = chainWords (valueOf "style" (g .extras))

@@ -3,11 +3,11 @@
 --     resolve-lists, optional-lists    of a value, and of one that may be absent
 --     both-lists                       of two: the ids of the first, then those of the second that are new
 use mathlib.Core.Path.{_≡_, refl, sym, ap, subst, _∙_}
-use mathlib.Core.List.{List, [], _∷_, _++_}
+use mathlib.Core.List.{List, [], _++_}
 use mathlib.Core.Option.{Option, none, some}
 use Rattle.unicode.specs.White.{words}
 use Rattle.track.specs.Track.{Bytes, Style}
-use Rattle.styles.specs.Reaches.{parents, chainWords}
+use Rattle.styles.specs.Reaches.{chainWords}
 use Rattle.styles.specs.Resolve.{Walked, start, meet, walk, answered, resolve}
 use Rattle.styles.specs.Queries.{nothing, resolveOptional, others}
 use Rattle.styles.specs.Listing as listing

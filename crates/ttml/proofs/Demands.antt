@@ -1,18 +1,18 @@
 -- The demands hold. Assumes nothing.
 use Prim.Native.Nat.{ℕ, zero, suc, _-_, _*_, _≤_, _<_}
 use mathlib.Core.Path.{_≡_, refl, sym, ap, subst, _∙_}
-use mathlib.Core.Bool.{Bool, true, false, cond, _||_, true≢false}
+use mathlib.Core.Bool.{true, false}
 use mathlib.Core.List.{List, [], _∷_, _++_}
 use mathlib.Core.Option.{Option, none, some}
 use mathlib.Core.Logic.{_↔_, _⊎_, inl, inr}
 use native.Mathlib.Omega.{arith}
-use lib.Dec.{leb, ltb}
+use lib.Dec.{leb}
 use lib.Ieee.{Float}
 use lib.ListN.{length, take, replicate}
 use lib.Seq.{sets}
 use native.Mathlib.Nat.{sub-zero}
-use borrow.Author.Tests.{le-leb, leb-true, leb-false, eq-eqb, ltb-true, lt-ltb}
-use Rattle.unicode.specs.Utf8.{Utf8, utf8End}
+use borrow.Author.Tests.{le-leb, leb-true, leb-false}
+use Rattle.unicode.specs.Utf8.{Utf8}
 use Rattle.scan.proofs.Every.{by-test}
 use Rattle.unicode.proofs.Utf8Laws.{utf8-end}
 use Rattle.grammar.specs.Tree.{Forest}
@@ -25,8 +25,7 @@ use Rattle.tree.specs.Posts.{Fits}
 use Rattle.track.specs.Track.{Bytes, Cue, Track}
 use Rattle.track.specs.Tables as track
 use Rattle.track.specs.Tables.{zeroFloat}
-use Rattle.track.specs.Meaning.{isTrack, isUtf8, trackAt, trackIn}
-use Rattle.track.proofs.Answers.{long-full}
+use Rattle.track.specs.Meaning.{isTrack, trackAt, trackIn}
 use Rattle.track.specs.Plain.{isPlainTrack}
 use Rattle.track.specs.Check.{Checked}
 use Rattle.track.specs.declared.check.Check.{Check}

@@ -81,7 +81,8 @@ DeterminedBoth {Answer} {One} {Two} promise =
 -- a query in C: its 64 bits, the ids, and the 27 cells and the float of its answer
 abbrev pub QueryInC : (Resolved → List ℕ → Type 0) → (lent : List ℕ) → Type 0
 QueryInC promise lent =
-    (out : List ℕ) (size : List Float) → DeterminedBoth (λ (r : ℕ) left (told : List ℕ × List Float). AnswersInC promise lent left out (told .0) size (told .1) r)
+    (out : List ℕ) (size : List Float)
+    → DeterminedBoth (λ (r : ℕ) left (told : List ℕ × List Float). AnswersInC promise lent left out (told .0) size (told .1) r)
 
 pub record Demand1 : Type 0 where
   pub tree-reader : (text : Bytes) (lent : xml.Tables) → Determined (xml.Parsed text lent)
