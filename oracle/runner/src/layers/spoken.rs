@@ -42,10 +42,8 @@ fn nested(segments: &[Segment], out: &mut String) {
 
 /// What the rows of a cue say, or the number that is met. Of a text that is longer than any buffer a beginning.
 fn by_rows(t: &Handed, index: usize) -> Result<Vec<u8>, u32> {
-    let short = t.head.len() < 10
-        || t.cues.len() < 11 * CUES
-        || t.segments.len() < 6 * SEGMENTS
-        || t.texts.len() < BYTES;
+    let short =
+        t.head.len() < 10 || t.cues.len() < 11 * CUES || t.segments.len() < 6 * SEGMENTS || t.texts.len() < BYTES;
     if short {
         return Err(1);
     }
@@ -181,9 +179,7 @@ impl Side {
             let value = match rng.below(6) {
                 0 => is + 1,
                 1 => is - 1,
-                2 => rng.pick(&[
-                    2_047, 2_048, 2_049, 16_383, 16_384, 16_385, 65_535, 65_536, 65_537, u32::MAX as i64,
-                ]),
+                2 => rng.pick(&[2_047, 2_048, 2_049, 16_383, 16_384, 16_385, 65_535, 65_536, 65_537, u32::MAX as i64]),
                 3 => (rng.next() >> rng.below(64)) as i64,
                 4 => is ^ 1 << rng.below(32),
                 _ => rng.below(12) as i64,
@@ -248,7 +244,7 @@ impl Side {
             *byte = b'a' + (at % 26) as u8;
         }
         for kind in [0, 1, 2, 3, 9, 10, u32::MAX] {
-            for (row, cells) in tables.segments.chunks_mut(6).enumerate() {
+            for (row, cells) in tables.segments.chunks_exact_mut(6).enumerate() {
                 cells.copy_from_slice(&[[kind, 2, 1][row % 3], 1, row as u32, (row % 7) as u32, 0, 0]);
             }
             for count in [0, 1, 2_047, 2_048, 2_049, u32::MAX] {
@@ -305,7 +301,7 @@ fn bench(bench: &mut Bench) {
         let mut worst = Tables::new();
         worst.head[3] = CUES as u32;
         worst.cues.chunks_mut(11).take(CUES).for_each(|row| row[8] = SEGMENTS as u32);
-        worst.segments.chunks_mut(6).for_each(|row| row[..4].copy_from_slice(&[1, 1, 0, 4]));
+        worst.segments.chunks_exact_mut(6).for_each(|row| row[..4].copy_from_slice(&[1, 1, 0, 4]));
         row(bench, "2,048 cues that share 16,384 texts", &worst);
     });
 }
