@@ -355,7 +355,7 @@ nth-row g (suc n) j (suc i) c e =
 cue-says : (T : track.Tables) (t : Track Bytes) (e : trackIn T ≡ some t) (i : ℕ) (c : Cue Bytes) → nth (t .cues) i ≡ some c
     → HasCue (ofTrack T) i × (says (ofTrack T) i ≡ textOf (c .segments))
 cue-says T t e i c a =
-    let r = nth-row (cueIn T) (track.cueCount (T .head)) 0 i c (ap (λ (k : List (Cue Bytes)). nth k i) (sym (cues-are T t e)) ∙ a) in
+    let r = nth-row (cueIn T) (track.cueCount (T .head)) 0 i c (ap (λ (k : List (Cue Bytes)). nth k i) (cues-are T t e) ∙ a) in
     let z : 0 + i ≡ i = omega arith in
     let q : cueIn T i ≡ c = rw z at (r .1) in
     let h = row-there T t e i (r .0) in
@@ -449,8 +449,10 @@ demand-2 = record {
       (s .tree, c .0, s .derives, c .1, s .means ∙ ap some (sym (c .2)));
   cue-refuses = λ text lent left answer n p q h. q .refused n p h;
   cue-clears = λ text lent left answer p h. p .cleared h;
-  write-gives = λ T t out left answer l e f p. leaves _ out left answer p (writtenOf t) (asked-gives wholeText T t l e (writtenOf t) refl (length out)) f;
-  write-full = λ T t out left answer l e p. full _ out left answer p (writtenOf t) (asked-gives wholeText T t l e (writtenOf t) refl (length out));
+  write-gives = λ T t out left answer l e f p.
+      leaves _ out left answer p (writtenOf t) (asked-gives wholeText T t l e (writtenOf t) refl (length out)) f;
+  write-full = λ T t out left answer l e p.
+      full _ out left answer p (writtenOf t) (asked-gives wholeText T t l e (writtenOf t) refl (length out));
   cue-written = λ i T t c out left answer l e a f p.
       leaves _ out left answer p (cueWritten c) (asked-gives (cueNumber i) T t l e (cueWritten c) (asked-cue i (t .cues) c a) (length out)) f;
   cue-full = λ i T t c out left answer l e a p.

@@ -7,7 +7,7 @@
 --     Writing, writing-start, writing-step, writing-full, writing-done           what the program has written so far, and how it goes on
 use Prim.Native.Nat.{ℕ, zero, suc, _+_, _-_, _*_, _≤_, _<_}
 use mathlib.Core.Path.{_≡_, refl, sym, ap, _∙_}
-use mathlib.Core.Bool.{Bool, true, false, cond, _&&_, and-eq-true-iff}
+use mathlib.Core.Bool.{Bool, true, false, and-eq-true-iff}
 use mathlib.Core.List.{List, [], _∷_, _++_, append-assoc, append-nil}
 use native.Mathlib.Omega.{arith}
 use native.Mathlib.Nat.{add-zero}
@@ -16,10 +16,9 @@ use lib.Dec.{eqb, ltb, leb}
 use borrow.Author.Tests.{le-leb, lt-leb, leb-true, leb-false, eq-eqb, ne-eqb, eqb-true, eqb-false, ltb-true, ltb-false}
 use Rattle.scan.specs.Part.{stringAt}
 use Rattle.scan.specs.Posts.{Appended, Wrote, WroteInPart}
-use Rattle.scan.specs.declared.table.Written.the-variants.{At, Full}
+use Rattle.scan.specs.declared.table.Written.the-variants.{Full}
 use Rattle.scan.proofs.Every.{by-test}
 use Rattle.scan.proofs.Stores.{appended-on, appended-kept, in-part, wrote-on, wrote-full}
-use Rattle.track.specs.declared.segments.Segment.{Segment}
 use Rattle.track.specs.Tables.{cell, segmentAt, segmentsAt}
 use Rattle.track.specs.Meaning.{areSegments, allRows}
 use Rattle.track.proofs.SegmentLaws.{Walk, walk}

@@ -36,8 +36,11 @@ same-length c = search needs
 
 returns : tie.Need-returns
 returns c =
-    let p = rw (c .before .k .given .1) at (c .before .before .before .before .before .plain-text .ensures) in
-    fit-bytes _ _ _ (c .before .before .before .before .before .before .before .before .before .before .before .pre .3) (c .before .before .before .before .before .before .before .limit .ensures) _ _ (puts-at _ _ _ _ _ p)
+    let c5 = c .before .before .before .before .before in
+    let c7 = c5 .before .before in
+    let c11 = c7 .before .before .before .before in
+    let p = rw (c .before .k .given .1) at (c5 .plain-text .ensures) in
+    fit-bytes _ _ _ (c11 .pre .3) (c7 .limit .ensures) _ _ (puts-at _ _ _ _ _ p)
 
 same-length-2 : tie.Need-same-length-2
 same-length-2 c = search needs

@@ -47,12 +47,16 @@ rows-within-requires c κs = search needs
 returns-5 : tie.Need-returns-5
 unfolding cell
 returns-5 c =
-    λ y. texts-far _ _ _ _ (c .before .before .before .before .before .get2 .ensures) (c .before .before .before .before .get3 .ensures) (fails (c .before .rows-within .ensures) (c .if5 .taken))
+    let c4 = c .before .before .before .before in
+    let c5 = c4 .before in
+    λ y. texts-far _ _ _ _ (c5 .get2 .ensures) (c4 .get3 .ensures) (fails (c .before .rows-within .ensures) (c .if5 .taken))
 
 returns-6 : tie.Need-returns-6
 unfolding cell
 returns-6 c =
-    λ y. cue-found _ _ _ _ (c .before .before .before .before .before .get2 .ensures) (c .before .before .before .before .get3 .ensures) (omega arith) (omega arith) (omega arith)
+    let c4 = c .before .before .before .before in
+    let c5 = c4 .before in
+    λ y. cue-found _ _ _ _ (c5 .get2 .ensures) (c4 .get3 .ensures) (omega arith) (omega arith) (omega arith)
     (holds (c .before .rows-within .ensures) (c .if5 .left))
 
 pub has-cue-spec : {M : Type 1} → statement M

@@ -1,8 +1,6 @@
 -- `row_text` meets its contract, kind by kind.
-use Prim.Native.Nat.{_+_, _*_, _≤_}
-use mathlib.Core.Path.{_≡_, refl, sym}
+use mathlib.Core.Path.{refl, sym}
 use native.Mathlib.Omega.{arith}
-use lib.ListN.{length, getD}
 use Rattle.scan.specs.Part.{stringAt}
 use Rattle.walk.proofs.Rows.{own-text, own-break, own-none, within-sum}
 use borrow.Author.Needs.{needs}
@@ -45,7 +43,8 @@ part-append-start c = search needs
 part-append-end : tie.Need-part-append-end
 part-append-end c =
     let s = c .before .before .before .before .before .before .before .before in
-    let h = within-sum (s .args .segments .now) (s .args .i) (omega arith) _ _ (c .before .before .get .ensures) (c .before .get2 .ensures) (s .pre .1) in
+    let h = within-sum (s .args .segments .now) (s .args .i) (omega arith) _ _ (c .before .before .get .ensures) (c .before .get2 .ensures)
+    (s .pre .1) in
     omega (arith, h, s .pre .2)
 
 append-requires : tie.Need-append-requires
@@ -59,8 +58,11 @@ unfolding stringAt
 returns c =
     let s = c .before .before .before .before .before .before .before .before .before .before .before .before in
     let g = c .before .before .before .before .before .before in
-    rw (own-text (s .args .texts .now) (s .args .segments .now) (s .args .i) (omega arith), sym (g .get .ensures),
-    sym (c .before .before .before .before .before .get2 .ensures)) (c .before .before .append .ensures)
+    rw (
+      own-text (s .args .texts .now) (s .args .segments .now) (s .args .i) (omega arith),
+      sym (g .get .ensures),
+      sym (c .before .before .before .before .before .get2 .ensures),
+    ) (c .before .before .append .ensures)
 
 slice-aggregate-append : tie.Need-slice-aggregate-append
 slice-aggregate-append c = search needs

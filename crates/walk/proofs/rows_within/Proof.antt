@@ -42,7 +42,8 @@ loop-less c = search needs
 loop-again : tie.Need-loop-again Inv-loop μ-loop
 loop-again c =
     let l = c .before .before .before .loop in
-    (omega (arith, l .inv .0), omega arith, l .inv .2 ∙ rows-next _ (c .before .before .loop-test .taken) (holds (c .before .row-within .ensures) (c .if1 .left)))
+    let h = holds (c .before .row-within .ensures) (c .if1 .left) in
+    (omega (arith, l .inv .0), omega arith, l .inv .2 ∙ rows-next _ (c .before .before .loop-test .taken) h)
 
 returns-2 : tie.Need-returns-2 Inv-loop μ-loop
 returns-2 c = sym (c .before .loop .inv .2 ∙ rows-done _ (c .loop-test .left))
