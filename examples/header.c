@@ -84,9 +84,19 @@ static void cues(void)
     SHOULD(is_size(pg_segment_size(&tables, 5), -0.5f, true, 5, 1));
     SHOULD(pg_segment_kind(&tables, 8) == PG_STRIKE && pg_segment_kind(&tables, 9) == PG_UNDERLINE);
     SHOULD(pg_segment_kind(&tables, 10) == PG_ITALIC && pg_segment_kind(&tables, 11) == PG_BOLD);
-    SHOULD(pg_cue_text(&tables, 0, text, sizeof text) == 4 && memcmp(text, "a\nbc", 4) == 0);
-    text[1] = '#';
-    SHOULD(pg_cue_text(&tables, 0, text, 1) == 4 && memcmp(text, "a#", 2) == 0 && pg_cue_text(&tables, 1, NULL, 0) == 3);
+    pg_answer said = pg_cue_text(&tables, 0, text, sizeof text);
+    SHOULD(said.number == PG_TAKEN && said.place == 0 && said.count == 4 && memcmp(text, "a\nbc\0\0", 6) == 0);
+    /* a text that just fits, one byte less, and no room at all */
+    memset(text, '#', 6);
+    said = pg_cue_text(&tables, 0, text, 4);
+    SHOULD(said.number == PG_TAKEN && said.count == 4 && memcmp(text, "a\nbc##", 6) == 0);
+    said = pg_cue_text(&tables, 0, text, 3);
+    SHOULD(said.number == PG_NO_ROOM && said.place == 0 && said.count == 0 && memcmp(text, "\0\0\0c##", 6) == 0);
+    SHOULD(pg_cue_text(&tables, 1, NULL, 0).number == PG_NO_ROOM);
+    /* an index past the end */
+    said = pg_cue_text(&tables, 2, text, 6);
+    SHOULD(said.number == PG_NO_TRACK && said.place == 0 && said.count == 0 && memcmp(text, "\0\0\0\0\0\0", 6) == 0);
+    SHOULD(pg_cue_text(&tables, (size_t)-1, NULL, 0).number == PG_NO_TRACK);
     const pg_rows extras = pg_cue_extras(&tables, 0);
     SHOULD(extras.count == 1 && strcmp(pg_cue_extra_name(pg_extra_number(&tables, extras.first)), "tts:backgroundColor") == 0);
     SHOULD(is(pg_extra_value(&tables, extras.first), "red"));
@@ -101,13 +111,9 @@ static void queries(void)
     SHOULD(is_color(r.style.color, 0x01020304) && is_color(r.style.background, 0x000080FF) && is(r.style.family, "Mono"));
     SHOULD(is_size(r.style.size, 7.25f, false, 725, 2) && r.style.bold && r.style.italic && r.style.underline && r.style.strike);
     SHOULD(r.style.align == PG_RIGHT);
-    /* "each once, in an order left open" */
-    for (size_t id = 0; id < PG_COUNT(reached); id++) {
-        int times = 0;
-        for (size_t row = 0; row < r.ids; row++) {
-            times += is(pg_id(&tables, value, ids, row), reached[id]);
-        }
-        SHOULD(times == 1);
+    /* "each once", "in the order of their first visit" */
+    for (size_t row = 0; row < PG_COUNT(reached); row++) {
+        SHOULD(is(pg_id(&tables, value, ids, row), reached[row]));
     }
     SHOULD(pg_resolve_value(&tables, value, sizeof value - 1, ids, 3 * PG_ID_CELLS).answer.number == PG_NO_ROOM);
     r = pg_resolve_value(&tables, "nobody", 6, ids, PG_COUNT(ids));
@@ -119,6 +125,29 @@ static void queries(void)
     r = pg_resolve_cue(&tables, 0, ids, PG_COUNT(ids));
     SHOULD(r.found && is(r.style.name, "") && is_size(r.style.size, 7.25f, false, 725, 2) && r.ids == 3);
     SHOULD(!pg_resolve_cue(&tables, 1, ids, PG_COUNT(ids)).found && !pg_resolve_cue(&tables, 2, ids, PG_COUNT(ids)).found);
+}
+
+static void are(size_t count, const char *asked, const char *const *expected, size_t many)
+{
+    SHOULD(count == many);
+    for (size_t row = 0; row < many; row++) {
+        SHOULD(is(pg_id(&again, asked, ids, row), expected[row]));
+    }
+}
+
+/* "an id, then its parents from left to right, each followed out fully"; of a cue the region's first, then those of its style that are new */
+static void order(void)
+{
+    static const char chains[] =
+        "<tt><head><styling><style xml:id='a' style='c b'/><style xml:id='b' style='d'/></styling>"
+        "<layout><region xml:id='r' style='b e'/></layout></head><body><p region='r' style='a d'/></body></tt>";
+    static const char *const of_value[] = {"a", "c", "b", "d"};
+    static const char *const of_region[] = {"b", "d", "e"};
+    static const char *const of_cue[] = {"b", "d", "e", "a", "c"};
+    SHOULD(pg_read(&again, chains, sizeof chains - 1).number == PG_TAKEN);
+    are(pg_resolve_value(&again, "a d", 3, ids, PG_COUNT(ids)).ids, "a d", of_value, PG_COUNT(of_value));
+    are(pg_resolve_region(&again, "r", 1, ids, PG_COUNT(ids)).ids, "r", of_region, PG_COUNT(of_region));
+    are(pg_resolve_cue(&again, 0, ids, PG_COUNT(ids)).ids, NULL, of_cue, PG_COUNT(of_cue));
 }
 
 static void writers(void)
@@ -152,7 +181,10 @@ static void readers(void)
     SHOULD(is(pg_attr_name(&tables, 0), "x") && is(pg_attr_value(&tables, 0), ""));
     SHOULD(is(pg_attr_name(&tables, 1), "b") && is(pg_attr_value(&tables, 1), "&"));
     const char zero[] = "<p>&#0;</p>";
-    SHOULD(pg_read_cue(&tables, zero, sizeof zero - 1).number == PG_TAKEN && pg_cue_text(&tables, 0, text, 9) == 1 && text[0] == 0);
+    SHOULD(pg_read_cue(&tables, zero, sizeof zero - 1).number == PG_TAKEN && pg_cue_text(&tables, 0, text, 9).count == 1 && text[0] == 0);
+    const char silent[] = "<p/>";
+    answer = pg_read_cue(&tables, silent, sizeof silent - 1);
+    SHOULD(answer.number == PG_TAKEN && pg_cue_text(&tables, 0, NULL, 0).number == PG_TAKEN && pg_cue_text(&tables, 0, text, 9).count == 0);
     answer = pg_read(&tables, NULL, 0);
     SHOULD(answer.number == PG_NO_ROOT && answer.place == 0 && !pg_names_place(answer.number));
     const char damaged[] = "<tt>\n\xC3\xA9<p/\xC3\xA9";
@@ -271,6 +303,7 @@ int main(void)
     head();
     cues();
     queries();
+    order();
     writers();
     readers();
     calls();
