@@ -82,7 +82,8 @@ use Rattle.told.specs.Trees.{countCells, ReadInC}
 use Rattle.told.specs.Queries.{ToldAs, NoRoom}
 use Rattle.rewritten.specs.Recaption.{ThenWritten, Recaptioned}
 use Rattle.ttml.specs.declared.back.Back as call
-use Rattle.ttml.specs.ReadBack.{Back, Signed, bytesOf, Went}
+use Rattle.ttml.specs.ReadBack.{Back, Signed, Went}
+use Rattle.ttml.specs.ReadBack as returning
 use Rattle.ttml.specs.Demands.{Determined, DeterminedBoth, QueryInC, Demand1, meansTrack, meansCue, HasRoom, Leaves}
 use Rattle.ttml.specs.Demands.{Demand2, Demand3, RequestD, RequestK, Demands}
 
@@ -189,7 +190,7 @@ module _ (T : track.Tables) (out : Bytes) (lent : Tables) where
       let h = parsed-determined (subst (λ (z : Bytes). Parsed z lent u c) w p) q in
       (k, h .0, h .1)
 
-  went : DeterminedBoth (λ answer written left. Went T out lent answer (bytesOf answer) written left)
+  went : DeterminedBoth (λ answer written left. Went T out lent answer (returning.bytesOf answer) written left)
   went (call.Back.Track n) (call.Back.Track m) a b c d p q =
       let e = written-same (p .0) (q .0) in
       let k = read-same (e .0) (e .1) (p .1) (q .1) in
