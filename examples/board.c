@@ -97,14 +97,14 @@ static void light_squares(const char *text, size_t length)
 
 static void show_cue(size_t cue)
 {
-    const size_t length = pg_cue_text(&tables, cue, line, sizeof line);
+    const pg_answer said = pg_cue_text(&tables, cue, line, sizeof line);
     const pg_resolved resolved = pg_resolve_cue(&tables, cue, ids, PG_COUNT(ids));
     print_clock(pg_cue_begin(&tables, cue));
     printf(" to ");
     print_clock(pg_cue_end(&tables, cue));
     printf("\n");
     print_segments(pg_cue_segments(&tables, cue), 2);
-    light_squares(line, length);
+    light_squares(line, said.count);
     if (resolved.answer.number != PG_TAKEN) {
         printf("  style refused, number %d: %s\n", resolved.answer.number, pg_cause(resolved.answer.number));
     } else if (resolved.found) {

@@ -13,8 +13,8 @@ int main(void)
     }
     for (size_t cue = 0; cue < pg_cue_count(&tables); cue++) {
         char text[80] = "";
-        pg_cue_text(&tables, cue, text, sizeof text - 1);
-        printf("%.3f s: %s\n", pg_cue_begin(&tables, cue) / 1e6, text);
+        const pg_answer said = pg_cue_text(&tables, cue, text, sizeof text - 1);
+        printf("%.3f s: %s\n", pg_cue_begin(&tables, cue) / 1e6, said.number == PG_TAKEN ? text : pg_cause(said.number));
     }
     return 0;
 }

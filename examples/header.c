@@ -84,9 +84,19 @@ static void cues(void)
     SHOULD(is_size(pg_segment_size(&tables, 5), -0.5f, true, 5, 1));
     SHOULD(pg_segment_kind(&tables, 8) == PG_STRIKE && pg_segment_kind(&tables, 9) == PG_UNDERLINE);
     SHOULD(pg_segment_kind(&tables, 10) == PG_ITALIC && pg_segment_kind(&tables, 11) == PG_BOLD);
-    SHOULD(pg_cue_text(&tables, 0, text, sizeof text) == 4 && memcmp(text, "a\nbc", 4) == 0);
-    text[1] = '#';
-    SHOULD(pg_cue_text(&tables, 0, text, 1) == 4 && memcmp(text, "a#", 2) == 0 && pg_cue_text(&tables, 1, NULL, 0) == 3);
+    pg_answer said = pg_cue_text(&tables, 0, text, sizeof text);
+    SHOULD(said.number == PG_TAKEN && said.place == 0 && said.count == 4 && memcmp(text, "a\nbc\0\0", 6) == 0);
+    /* a text that just fits, one byte less, and no room at all */
+    memset(text, '#', 6);
+    said = pg_cue_text(&tables, 0, text, 4);
+    SHOULD(said.number == PG_TAKEN && said.count == 4 && memcmp(text, "a\nbc##", 6) == 0);
+    said = pg_cue_text(&tables, 0, text, 3);
+    SHOULD(said.number == PG_NO_ROOM && said.place == 0 && said.count == 0 && memcmp(text, "\0\0\0c##", 6) == 0);
+    SHOULD(pg_cue_text(&tables, 1, NULL, 0).number == PG_NO_ROOM);
+    /* an index past the end */
+    said = pg_cue_text(&tables, 2, text, 6);
+    SHOULD(said.number == PG_NO_TRACK && said.place == 0 && said.count == 0 && memcmp(text, "\0\0\0\0\0\0", 6) == 0);
+    SHOULD(pg_cue_text(&tables, (size_t)-1, NULL, 0).number == PG_NO_TRACK);
     const pg_rows extras = pg_cue_extras(&tables, 0);
     SHOULD(extras.count == 1 && strcmp(pg_cue_extra_name(pg_extra_number(&tables, extras.first)), "tts:backgroundColor") == 0);
     SHOULD(is(pg_extra_value(&tables, extras.first), "red"));
@@ -152,7 +162,10 @@ static void readers(void)
     SHOULD(is(pg_attr_name(&tables, 0), "x") && is(pg_attr_value(&tables, 0), ""));
     SHOULD(is(pg_attr_name(&tables, 1), "b") && is(pg_attr_value(&tables, 1), "&"));
     const char zero[] = "<p>&#0;</p>";
-    SHOULD(pg_read_cue(&tables, zero, sizeof zero - 1).number == PG_TAKEN && pg_cue_text(&tables, 0, text, 9) == 1 && text[0] == 0);
+    SHOULD(pg_read_cue(&tables, zero, sizeof zero - 1).number == PG_TAKEN && pg_cue_text(&tables, 0, text, 9).count == 1 && text[0] == 0);
+    const char silent[] = "<p/>";
+    answer = pg_read_cue(&tables, silent, sizeof silent - 1);
+    SHOULD(answer.number == PG_TAKEN && pg_cue_text(&tables, 0, NULL, 0).number == PG_TAKEN && pg_cue_text(&tables, 0, text, 9).count == 0);
     answer = pg_read(&tables, NULL, 0);
     SHOULD(answer.number == PG_NO_ROOT && answer.place == 0 && !pg_names_place(answer.number));
     const char damaged[] = "<tt>\n\xC3\xA9<p/\xC3\xA9";

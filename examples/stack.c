@@ -25,6 +25,7 @@ static void read_cue(void) { answer = pg_read_cue(&tables, text, length); }
 static void check(void) { answer = pg_check(&tables); }
 static void write_film(void) { answer = pg_write_track(&tables, out, sizeof out); }
 static void write_cue(void) { answer = pg_write_cue(&tables, 0, out, sizeof out); }
+static void say_cue(void) { answer = pg_cue_text(&tables, 0, (char *)out, sizeof out); }
 static void resolve_value(void) { answer = pg_resolve_value(&tables, "s0", 2, ids, PG_COUNT(ids)).answer; }
 static void resolve_cue(void) { answer = pg_resolve_cue(&tables, 0, ids, PG_COUNT(ids)).answer; }
 
@@ -131,6 +132,7 @@ int main(void)
     measure("pg_check, 512 segments one in the other", check);
     measure("pg_write_track, the same", write_film);
     measure("pg_write_cue, the same", write_cue);
+    measure("pg_cue_text, the same", say_cue);
     chain(256);
     measure("pg_resolve_value, 256 styles in a chain", resolve_value);
     measure("pg_resolve_cue, the same", resolve_cue);

@@ -132,6 +132,10 @@ uint64_t pg_cue_to_bytes(const uint32_t *head, size_t head_len, const uint32_t *
     size_t extras_len, const uint8_t *strings, size_t strings_len, const uint8_t *texts, size_t texts_len, size_t index, uint8_t *out,
     size_t out_len);
 
+/* What the cue of this index says. It looks at the one cue, and takes tables that are no track too: docs/TABLES.md. */
+uint64_t pg_plain_text(const uint32_t *head, size_t head_len, const uint32_t *cues, size_t cues_len, const uint32_t *segments,
+    size_t segments_len, const uint8_t *texts, size_t texts_len, size_t index, uint8_t *out, size_t out_len);
+
 /* The queries answer in `out`, 27 cells, and `size`, one; `ids` has four cells for each id that is reached. */
 uint64_t pg_resolve_referenced_style(const uint8_t *value, size_t value_len, const uint32_t *head, size_t head_len, const uint32_t *params,
     size_t params_len, const uint32_t *styles, size_t styles_len, const uint32_t *regions, size_t regions_len, const uint32_t *cues,
@@ -220,6 +224,15 @@ static inline pg_answer pg_write_cue(const pg_tables *t, size_t cue, void *out, 
 {
     uint8_t none;
     return pg_answer_written(pg_cue_to_bytes(PG_LEND_TRACK(t), cue, out ? (uint8_t *)out : &none, out ? room : 0));
+}
+
+/* Writes what a cue says, with a line feed for each break: the answer's count of bytes, zeros behind them in out, and 18 if it does not fit. An
+ * index past the last cue meets 17. */
+static inline pg_answer pg_cue_text(const pg_tables *t, size_t cue, char *out, size_t room)
+{
+    uint8_t none;
+    return pg_answer_written(pg_plain_text(PG_LEND(t->head), PG_LEND(t->cues), PG_LEND(t->segments), PG_LEND(t->texts), cue,
+        out ? (uint8_t *)out : &none, out ? room : 0));
 }
 
 /* ---- values */
@@ -422,28 +435,6 @@ static inline pg_size pg_segment_size(const pg_tables *t, size_t row)
     float value;
     memcpy(&value, cells + 5, sizeof value);
     return pg_size_in(size, value);
-}
-
-/* The text of a cue, with a line feed for each break: as much of it as there is room for, and no zero byte. How long the whole text is. */
-static inline size_t pg_cue_text(const pg_tables *t, size_t cue, char *out, size_t room)
-{
-    const pg_rows rows = pg_cue_segments(t, cue);
-    size_t length = 0, row, i;
-    for (row = rows.first; row < rows.first + rows.count; row++) {
-        const pg_kind kind = pg_segment_kind(t, row);
-        pg_string text;
-        text.bytes = "\n";
-        text.length = kind == PG_BREAK;
-        if (kind == PG_TEXT) {
-            text = pg_segment_text(t, row);
-        }
-        for (i = 0; i < text.length; i++, length++) {
-            if (length < room) {
-                out[length] = text.bytes[i];
-            }
-        }
-    }
-    return length;
 }
 
 /* ---- the tree, which pg_read_tree, pg_read and pg_read_cue leave: rows in document order */

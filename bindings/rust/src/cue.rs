@@ -1,5 +1,6 @@
 //! Cues and their segments.
 
+use crate::library;
 use crate::names::CUE;
 use crate::refusal::{Refusal, told};
 use crate::style::{self, Size};
@@ -61,11 +62,21 @@ impl<'t> Cue<'t> {
         Extras::new(self.track.tables, CUE, &self.cells()[9..])
     }
 
-    /// Its text, with a line feed for each break.
-    pub fn text(self) -> String {
-        let mut text = String::new();
-        self.segments().add_text(&mut text);
-        text
+    /// Its text, with a line feed for each break. Texts of a track that was handed in may overlap: more than 65,536 bytes
+    /// are refused.
+    ///
+    /// ```
+    /// let mut tables = postgarlic::Tables::new();
+    /// let cue = tables.parse_cue("<p>Rook <span tts:fontWeight='bold'>takes</span><br/>d8</p>")?;
+    /// assert_eq!(cue.text()?, "Rook takes\nd8");
+    /// # Ok::<(), postgarlic::Refusal>(())
+    /// ```
+    pub fn text(self) -> Result<String, Refusal> {
+        let Tables { head, cues, segments, texts, .. } = self.track.tables;
+        let mut out = vec![0; self.segments().text_bytes().min(BYTES)];
+        let answer = library::pg_plain_text(&**head, &**cues, &**segments, &**texts, self.index, &mut out);
+        out.truncate(told(answer, &[])?);
+        Ok(String::from_utf8(out).expect("the texts of a track are UTF-8"))
     }
 
     /// Its style: that of its region, and over it that of its own attribute `style`.
@@ -169,16 +180,14 @@ pub struct Segments<'t> {
 }
 
 impl Segments<'_> {
-    /// Adds the text of the rows, whatever they stand in.
-    fn add_text(&self, out: &mut String) {
-        for row in self.row..self.end {
-            let cells = &self.tables.segments[6 * row..][..6];
-            match cells[0] {
-                1 => out.push_str(self.tables.text(&cells[2..])),
-                2 => out.push('\n'),
-                _ => {}
-            }
-        }
+    /// How many bytes the texts and breaks in its rows have, whatever they stand in.
+    fn text_bytes(&self) -> usize {
+        let bytes = |row: usize| match self.tables.segments[6 * row..][..6] {
+            [1, _, _, length, _, _] => length as usize,
+            [2, ..] => 1,
+            _ => 0,
+        };
+        (self.row..self.end).map(bytes).sum()
     }
 }
 

@@ -12,7 +12,7 @@
 //! for cue in track.cues() {
 //!     assert_eq!(cue.begin(), 300_000_000); // hours and minutes, in microseconds
 //!     assert_eq!(cue.end(), 301_500_000);
-//!     assert_eq!(cue.text(), "Pawn to\ne4");
+//!     assert_eq!(cue.text()?, "Pawn to\ne4");
 //! }
 //!
 //! let refusal = tables.parse("<tt><body>\n<p begin=1/2s></p></body></tt>").unwrap_err();

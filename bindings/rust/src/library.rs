@@ -60,6 +60,7 @@ calls! {
         head: &[u32], params: &[u32], styles: &[u32], regions: &[u32], cues: &[u32], times: &[i64], segments: &[u32],
         sizes: &[f32], extras: &[u32], strings: &[u8], texts: &[u8], index: usize, out: &mut [u8]
     );
+    fn pg_plain_text(head: &[u32], cues: &[u32], segments: &[u32], texts: &[u8], index: usize, out: &mut [u8]);
     fn pg_resolve_referenced_style(
         value: &[u8], head: &[u32], params: &[u32], styles: &[u32], regions: &[u32], cues: &[u32], times: &[i64],
         segments: &[u32], sizes: &[f32], extras: &[u32], strings: &[u8], texts: &[u8], ids: &mut [u32],

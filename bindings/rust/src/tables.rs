@@ -150,7 +150,7 @@ impl Tables {
     /// ```
     /// let mut tables = postgarlic::Tables::new();
     /// let cue = tables.parse_cue("<p begin='1s' end='2s'>Check &amp; mate</p>")?;
-    /// assert_eq!((cue.begin(), cue.end(), cue.text().as_str()), (1_000_000, 2_000_000, "Check & mate"));
+    /// assert_eq!((cue.begin(), cue.end(), cue.text()?.as_str()), (1_000_000, 2_000_000, "Check & mate"));
     /// assert_eq!(cue.write()?, r#"<p begin="00:00:01.000" end="00:00:02.000">Check &amp; mate</p>"#);
     /// # Ok::<(), postgarlic::Refusal>(())
     /// ```

@@ -44,7 +44,7 @@ fn segments_of_each_kind() {
         words(first.segments()),
         r#""a  b" br @1200000 [10, 11, 12](s(u(i(b("c"))))) font F -0.5("d") font - -()"#
     );
-    assert_eq!(first.text(), "a  b\ncd");
+    assert_eq!(first.text().unwrap(), "a  b\ncd");
     assert!(first.preserves_space() && !second.preserves_space());
     assert_eq!((first.style(), first.region(), second.style(), second.region()), (Some("a b"), Some("r"), None, None));
     assert_eq!(first.extras().collect::<Vec<_>>(), [("tts:zIndex", "1")]);
@@ -108,6 +108,19 @@ fn sizes_are_spelled_as_rust_prints_them() {
         assert_eq!((read.to_string(), read.value), (size.to_string(), size.parse().unwrap()));
         assert_eq!(format!("{}", read.value), size);
     }
+}
+
+#[test]
+fn a_text_of_more_than_65_536_bytes_is_refused() {
+    let mut tables = Tables::new();
+    tables.texts.fill(b'a');
+    tables.head[3..].copy_from_slice(&[1, 3, 0, 0, 0, 0, 65536]);
+    tables.cues[8] = 3;
+    tables.segments[..18].copy_from_slice(&[9, 3, 0, 0, 0, 0, 1, 1, 1, 65535, 0, 0, 2, 1, 0, 0, 0, 0]);
+    let text = tables.check().unwrap().cue(0).unwrap().text().unwrap();
+    assert_eq!((text.len(), text.ends_with("a\n")), (65536, true));
+    tables.segments[8..10].copy_from_slice(&[0, 65536]);
+    assert_eq!(tables.check().unwrap().cue(0).unwrap().text().unwrap_err().number(), 18);
 }
 
 #[test]

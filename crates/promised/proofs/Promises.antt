@@ -22,7 +22,7 @@ use Rattle.track.specs.Tables as track
 use Rattle.xml.specs.Reading.{Placed}
 use Rattle.tree.specs.Answers as answers
 use Rattle.xml.specs.Promise as xml
-use Rattle.xml.proofs.Promises.{away-some}
+use Rattle.xml.proofs.Promises.{away-some, counted}
 use Rattle.xml.proofs.Given.{given-tree, given-forest}
 use Rattle.meaning.specs.Answers.{is, refused}
 use Rattle.meaning.specs.Answers as meaning
@@ -288,5 +288,5 @@ module _ (meant : Nodes Placed → meaning.Answer (Track Placed)) (numbers : (f 
             means = ap meant (sym (nodes-left p given)) ∙ e;
           } in
           let q : xml.Parsed s tree-lent (tree.Answer.Tree (count.nodes (g .tree)) (count.attrs (g .tree))) (treeTables left) =
-          subst (λ (y : tree.Answer). xml.Parsed s tree-lent y (treeTables left)) (p .counts (g .tree) (g .takes)) p in
+          subst (λ (y : tree.Answer). xml.Parsed s tree-lent y (treeTables left)) (counted p (g .tree) (g .takes)) p in
           taken-as x a q l

@@ -31,7 +31,7 @@ use Rattle.xml.specs.Promise.{Tables, tables, Takes, TurnsAway, placesOf, Parse
 use Rattle.xml.proofs.Parsing.{raw-enough}
 use Rattle.xml.proofs.Derived.{placed-as-derived}
 use Rattle.xml.proofs.Lengths.{read-placed}
-use Rattle.xml.proofs.Promises.{parsed-of, away-some}
+use Rattle.xml.proofs.Promises.{parsed-of, away-some, counted}
 use Rattle.xml.proofs.Determined.{decided, determined}
 use Rattle.meaning.specs.Answers.{Answer, is}
 use Rattle.meaning.specs.Nodes.{Nodes}
@@ -66,7 +66,7 @@ module _ (s : List ℕ) (lent : Tables) where
   taken-away {f} {i} {p} d a =
       let h = away-some a in
       let x = canon .refused i p h .1 a in
-      let y = ap numberOf (canon .counts f d) in
+      let y = ap numberOf (counted canon f d) in
       omega (arith, h, x .0, y)
 
   pub away-same : {i p j q : ℕ} → TurnsAway s lent i p → TurnsAway s lent j q → (i ≡ j) × (p ≡ q)
@@ -82,7 +82,7 @@ module _ (s : List ℕ) (lent : Tables) where
       by : ((f : Forest) × Takes s lent f) ⊎ ((i : ℕ) × (q : ℕ) × TurnsAway s lent i q) → TurnsAway s lent (r .number) (r .place)
       by (inl x) =
           let f = x .0 in
-          let e : _≡_ {A = tree.Answer} (tree.Answer.Refused r) (tree.Answer.Tree (count.nodes f) (count.attrs f)) = p .counts f (x .1) in
+          let e : _≡_ {A = tree.Answer} (tree.Answer.Refused r) (tree.Answer.Tree (count.nodes f) (count.attrs f)) = counted p f (x .1) in
           let w : _≡_ {A = ℕ} 0 1 = cc in
           absurd (omega arith)
       by (inr x) =

@@ -10,8 +10,10 @@ use lib.Dec.{eqb, leb}
 use Rattle.scan.specs.Names.{sameFolded}
 use Rattle.scan.specs.Bytes.{runLength}
 use Rattle.colors.specs.declared.read.Rgba.{Rgba}
+use Rattle.colors.specs.declared.read.Color.{Color}
 use Rattle.colors.specs.Colors.{colorIn}
 use Rattle.decimals.specs.declared.size.Size.{Size}
+use Rattle.decimals.specs.declared.read.Decimal.{Decimal}
 use Rattle.decimals.specs.Decimal.{decimalOf}
 use Rattle.track.specs.declared.strings.Span.{Span}
 use Rattle.track.specs.declared.values.Look as values
@@ -73,7 +75,7 @@ says word (some v) = sameFolded v word
 
 abbrev pub colorAs : ColorRead → Read (Option Rgba)
 colorAs (ColorRead.Is x) = is (given (x .has) (x .color))
-colorAs ColorRead.Cut = refused 15
+colorAs ColorRead.Cut = colorRead Color.Cut
 
 abbrev pub TidyColor : ColorRead → Type 0
 TidyColor (ColorRead.Is x) = x .has ≡ false → x .color ≡ noColor
@@ -85,7 +87,7 @@ pub record ColorPost (v : Bytes) (r : ColorRead) : Type 0 where
 
 abbrev pub sizeAs : SizeRead → Read (Option Size)
 sizeAs (SizeRead.Is x) = is (given (x .has) (x .size))
-sizeAs SizeRead.Beyond = refused 14
+sizeAs SizeRead.Beyond = sizeRead Decimal.Beyond
 
 abbrev pub TidySize : SizeRead → Type 0
 TidySize (SizeRead.Is x) = x .has ≡ false → x .size ≡ noSize

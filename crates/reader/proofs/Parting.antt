@@ -25,7 +25,7 @@ use Rattle.tree.proofs.Forests.{length-rows}
 use Rattle.tree.proofs.Places.{in-whole, in-first, in-rest}
 use Rattle.track.proofs.StringLaws.{string-used}
 use Rattle.xml.specs.Promise.{Tables, Outside, thenZeros, Parsed}
-use Rattle.xml.proofs.Promises.{attrs-counted}
+use Rattle.xml.proofs.Promises.{counted, attrs-counted}
 use Rattle.xml.proofs.Given.{given-tree, given-forest, given-holds, given-count}
 use Rattle.meaning.specs.Kinds.{attrsIn, nodesIn}
 use Rattle.cues.specs.Elements as elements
@@ -110,7 +110,7 @@ module _ {s : List ℕ} {lent left : Tables} {r : Answer} {i j : ℕ} (p : Parse
   given-attrs : length (attrsOf (given-forest p e)) ≡ j
   given-attrs =
       let g = given-tree p e in
-      let b : Tree i j ≡ Tree (count.nodes (g .tree)) (count.attrs (g .tree)) = sym e ∙ p .counts (g .tree) (g .takes) in
+      let b : Tree i j ≡ Tree (count.nodes (g .tree)) (count.attrs (g .tree)) = sym e ∙ counted p (g .tree) (g .takes) in
       let c : count.attrs (g .tree) ≡ j = cc in
       many-attrs ∙ c
 

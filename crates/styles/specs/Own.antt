@@ -14,9 +14,11 @@ use Rattle.unicode.specs.White.{trimmed}
 use Rattle.colors.specs.declared.read.Rgba.{Rgba}
 use Rattle.colors.specs.declared.read.Color.{Color}
 use Rattle.colors.specs.Colors.{colorIn}
+use Rattle.colors.specs.Colors as colors
 use Rattle.decimals.specs.declared.read.Decimal.{Decimal}
 use Rattle.decimals.specs.declared.size.Size.{Size}
 use Rattle.decimals.specs.Decimal.{decimalOf}
+use Rattle.decimals.specs.Decimal as decimal
 use Rattle.decimals.specs.Size.{sizeOf}
 use Rattle.names.specs.declared.tables.Listed.{Listed}
 use Rattle.names.specs.Lists.{nameOf}
@@ -50,7 +52,7 @@ valueOf name extras = valueFrom (firstThat (isNamed name) extras)
 abbrev pub colorRead : Color → Read (Option Rgba)
 colorRead (Color.Is c) = is (some c)
 colorRead Color.Nothing = is none
-colorRead Color.Cut = refused 15
+colorRead Color.Cut = refused (colors.numberOf Color.Cut)
 
 abbrev pub colorOf : Option Bytes → Read (Option Rgba)
 colorOf none = is none
@@ -59,7 +61,7 @@ colorOf (some v) = colorRead (colorIn v)
 abbrev pub sizeRead : Decimal → Read (Option Size)
 sizeRead (Decimal.Is d) = is (some (sizeOf d))
 sizeRead Decimal.Nothing = is none
-sizeRead Decimal.Beyond = refused 14
+sizeRead Decimal.Beyond = refused (decimal.numberOf Decimal.Beyond)
 
 -- the digits and points that the value begins with
 abbrev pub sizeByte : ℕ → Bool

@@ -11,6 +11,7 @@ use Rattle.grammar.specs.Limits as count
 use Rattle.tree.specs.declared.answers.Answer as tree
 use Rattle.tree.specs.declared.answers.Refusal.{Refusal}
 use Rattle.xml.specs.Promise.{Tables, Parsed, AllZero}
+use Rattle.xml.proofs.Promises.{counted}
 use Rattle.xml.proofs.Given.{given-tree}
 use Rattle.told.specs.Told.{told, treeTold}
 use Rattle.told.specs.Trees.{countCells, ReadInC}
@@ -45,7 +46,7 @@ pub tree-small : {text : List ℕ} {lent left : Tables} {a : tree.Answer} {n m :
     → (n < 2 ^ 32) × (m < 2 ^ 32)
 tree-small {n = n} {m = m} p e =
     let g = given-tree p e in
-    let c : tree.Answer.Tree n m ≡ tree.Answer.Tree (count.nodes (g .tree)) (count.attrs (g .tree)) = sym e ∙ p .counts (g .tree) (g .takes) in
+    let c : tree.Answer.Tree n m ≡ tree.Answer.Tree (count.nodes (g .tree)) (count.attrs (g .tree)) = sym e ∙ counted p (g .tree) (g .takes) in
     let i : n ≡ count.nodes (g .tree) = cc in
     let j : m ≡ count.attrs (g .tree) = cc in
     let l = g .takes .derives .limits in

@@ -1,5 +1,5 @@
 -- The demands hold. Assumes nothing.
-use Prim.Native.Nat.{ℕ, zero, suc, _-_, _*_, _≤_, _<_}
+use Prim.Native.Nat.{ℕ, zero, suc, _+_, _-_, _*_, _≤_, _<_}
 use mathlib.Core.Path.{_≡_, refl, sym, ap, subst, _∙_}
 use mathlib.Core.Bool.{Bool, true, false, cond, _||_, true≢false}
 use mathlib.Core.List.{List, [], _∷_, _++_}
@@ -25,7 +25,7 @@ use Rattle.tree.specs.Posts.{Fits}
 use Rattle.track.specs.Track.{Bytes, Cue, Track}
 use Rattle.track.specs.Tables as track
 use Rattle.track.specs.Tables.{zeroFloat}
-use Rattle.track.specs.Meaning.{isTrack, isUtf8, trackAt, trackIn}
+use Rattle.track.specs.Meaning.{isTrack, isUtf8, cueIn, trackAt, trackIn}
 use Rattle.track.proofs.Answers.{long-full}
 use Rattle.track.specs.Plain.{isPlainTrack}
 use Rattle.track.specs.Check.{Checked}
@@ -50,10 +50,15 @@ use Rattle.promised.proofs.Determined.{zero-same}
 use Rattle.promised.proofs.Theorem.{parsed-determined, cue-determined, parsed-track, cue-track}
 use Rattle.promised.proofs.Cases.{parsed-case, cue-case}
 use Rattle.writer.specs.declared.calls.Answer as writer
-use Rattle.writer.specs.Promise.{Promise, Outcome, gives, meets, Comes, short-table, no-track, of-track, fits, within, wholeText, numberIn, countIn}
+use Rattle.writer.specs.Promise.{Answers, Promise, Outcome, gives, meets, Comes, short-table, no-track, of-track, fits, within, wholeText, numberIn, countIn}
 use Rattle.writer.specs.Promise.{placeIn, textIn}
 use Rattle.writer.specs.Promise.{numberOf, placeOf, bytesOf, cueNumbered, cueNumber}
 use Rattle.writer.proofs.Promised as writing
+use Rattle.walk.specs.Text.{textOf}
+use Rattle.spoken.specs.Promise.{PlainText, ofTrack, HasCue, says}
+use Rattle.spoken.specs.Promise as spoken
+use Rattle.spoken.proofs.Promised as speaking
+use Rattle.spoken.proofs.Theorem.{track-long, cues-are, row-there, cue-past}
 use Rattle.queries.specs.declared.query.Resolved.{Resolved}
 use Rattle.queries.specs.declared.query.Resolved.the-variants.{Style, NoStyle, Refused}
 use Rattle.styles.specs.Own as styles
@@ -72,6 +77,7 @@ use Rattle.told.specs.Queries.{ToldAs, NoRoom}
 use Rattle.rewritten.specs.Recaption.{ThenWritten, Recaptioned}
 use Rattle.ttml.specs.declared.back.Back as call
 use Rattle.ttml.specs.ReadBack.{Back, Signed, Went}
+use Rattle.ttml.specs.ReadBack as returning
 use Rattle.ttml.specs.Demands.{Determined, DeterminedButOrder, DeterminedBoth, QueryInC, Demand1, meansTrack, meansCue, HasRoom, Leaves}
 use Rattle.ttml.specs.Demands.{Askable, Overflows, Demand2, Demand3, Demands}
 
@@ -176,7 +182,7 @@ module _ (T : track.Tables) (out : Bytes) (lent : Tables) where
       let h = parsed-determined (subst (λ (z : Bytes). Parsed z lent u c) w p) q in
       (k, h .0, h .1)
 
-  went : DeterminedBoth (Went T out lent)
+  went : DeterminedBoth (λ answer written left. Went T out lent answer (returning.bytesOf answer) written left)
   went (call.Back.Track n) (call.Back.Track m) a b c d p q =
       let e = written-same (p .0) (q .0) in
       let k = read-same (e .0) (e .1) (p .1) (q .1) in
@@ -212,6 +218,7 @@ demand-1 = record {
   bytes-to-cue = λ text lent x y a b p q. cue-determined p q;
   write = λ T out x y a b p q. writing.determined wholeText T out x y a b p q;
   cue-to-bytes = λ i T out x y a b p q. writing.determined (cueNumber i) T out x y a b p q;
+  plain-text = λ T i out x y a b p q. speaking.determined T i out x y a b p q;
   check-track = λ T x y p q. check.determined T x y p q;
   resolve-referenced-style = λ value T lent x y a b p q. query.determined-value T lent x y a b value p q;
   region-style = λ id T lent x y a b p q. query.determined-region T lent x y a b id p q;
@@ -224,6 +231,7 @@ demand-1 = record {
   pg-write = λ T out. tells _ (λ a left. Promise wholeText T out a left) (λ x y a b p q. writing.determined wholeText T out x y a b p q);
   pg-cue-to-bytes = λ i T out.
       tells _ (λ a left. Promise (cueNumber i) T out a left) (λ x y a b p q. writing.determined (cueNumber i) T out x y a b p q);
+  pg-plain-text = λ T i out. tells _ (λ a left. PlainText T i out a left) (λ x y a b p q. speaking.determined T i out x y a b p q);
   pg-check-track = λ T r s p q. p .is ∙ (ap checkTold (check.determined T (p .answer) (q .answer) (p .promised) (q .promised)) ∙ sym (q .is));
   pg-resolve-referenced-style = λ value T lent.
       query-in-C _ lent (λ x y a b p q. query.determined-value T lent x y a b value p q);
@@ -281,7 +289,33 @@ unfolding numberOf placeOf
 refused-said (writer.Answer.Bytes m) n e h p = absurd (omega (arith, e, h))
 refused-said (writer.Answer.Refused r) n e h p = rw (sym e, sym p) refl
 
--- what a call that writes comes to, of a track that is handed and the text that is asked for
+-- what a call that writes comes to, where its input allows one outcome
+module _ (may : Outcome → Type 0) (out left : Bytes) (answer : writer.Answer) (p : Answers may out answer left) where
+  module _ (w : Bytes) (only : (o : Outcome) → may o → o ≡ within (length out) (gives w)) where
+    outcome-is : p .outcome ≡ within (length out) (gives w)
+    outcome-is = only (p .outcome) (p .comes)
+
+    leaves : HasRoom w out → Leaves w out answer left
+    unfolding countIn textIn
+    leaves f =
+        let o = outcome-is ∙ fits-both (length out) w (f .0) (f .1) in
+        (bytes-said answer (length w) (p .count ∙ ap countIn o), rw o at (p .bytes))
+
+    full : (numberOf answer ≡ 18) ↔ (¬ HasRoom w out)
+    full = (
+      (λ x f. meets-eighteen (length out) w (sym (ap numberIn outcome-is) ∙ (sym (p .number) ∙ x)) f),
+      (λ n. p .number ∙ (ap numberIn outcome-is ∙ too-long (length out) w n)),
+    )
+
+  past : ((o : Outcome) → may o → o ≡ meets 17 0)
+      → (answer ≡ writer.Answer.Refused (record { number = 17; place = 0 })) × (left ≡ replicate (length out) 0)
+  unfolding numberIn placeIn textIn
+  past only =
+      let o : p .outcome ≡ meets 17 0 = only (p .outcome) (p .comes) in
+      let b : left ≡ replicate (length out - 0) 0 = rw o at (p .bytes) in
+      (refused-said answer 17 (p .number ∙ ap numberIn o) (omega arith) (p .place ∙ ap placeIn o), rw (sub-zero (length out)) at b)
+
+-- of a track that is handed and the text that is asked for
 module _ (asked : Track Bytes → Outcome) (T : track.Tables) (t : Track Bytes) (l : track.LongEnough (track.lengths T)) (e : trackIn T ≡ some t)
   where
     comes-of : (lent : ℕ) (o : Outcome) → Comes asked T lent o → o ≡ within lent (asked t)
@@ -289,29 +323,12 @@ module _ (asked : Track Bytes → Outcome) (T : track.Tables) (t : Track Bytes) 
     comes-of lent _ (no-track h n) = no-some e n
     comes-of lent _ (of-track k h s) = ap (λ (x : Track Bytes). within lent (asked x)) (same-some s e)
 
-    module _ (out left : Bytes) (answer : writer.Answer) (p : Promise asked T out answer left) where
-      module _ (w : Bytes) (a : asked t ≡ gives w) where
-        outcome-is : p .outcome ≡ within (length out) (gives w)
-        outcome-is = comes-of (length out) (p .outcome) (p .comes) ∙ ap (within (length out)) a
+    asked-gives : (w : Bytes) → asked t ≡ gives w → (lent : ℕ) (o : Outcome) → Comes asked T lent o → o ≡ within lent (gives w)
+    asked-gives w a lent o c = comes-of lent o c ∙ ap (within lent) a
 
-        leaves : HasRoom w out → Leaves w out answer left
-        unfolding countIn textIn
-        leaves f =
-            let o = outcome-is ∙ fits-both (length out) w (f .0) (f .1) in
-            (bytes-said answer (length w) (p .count ∙ ap countIn o), rw o at (p .bytes))
-
-        full : (numberOf answer ≡ 18) ↔ (¬ HasRoom w out)
-        full = (
-          (λ x f. meets-eighteen (length out) w (sym (ap numberIn outcome-is) ∙ (sym (p .number) ∙ x)) f),
-          (λ n. p .number ∙ (ap numberIn outcome-is ∙ too-long (length out) w n)),
-        )
-
-      past : asked t ≡ meets 17 0 → (answer ≡ writer.Answer.Refused (record { number = 17; place = 0 })) × (left ≡ replicate (length out) 0)
-      unfolding numberIn placeIn textIn within
-      past a =
-          let o : p .outcome ≡ meets 17 0 = comes-of (length out) (p .outcome) (p .comes) ∙ ap (within (length out)) a in
-          let b : left ≡ replicate (length out - 0) 0 = rw o at (p .bytes) in
-          (refused-said answer 17 (p .number ∙ ap numberIn o) (omega arith) (p .place ∙ ap placeIn o), rw (sub-zero (length out)) at b)
+    asked-meets : asked t ≡ meets 17 0 → (lent : ℕ) (o : Outcome) → Comes asked T lent o → o ≡ meets 17 0
+    unfolding within
+    asked-meets a lent o c = comes-of lent o c ∙ ap (within lent) a
 
 -- the cue of an index, and none past the end
 asked-cue : (i : ℕ) (l : List (Cue Bytes)) (c : Cue Bytes) → nth l i ≡ some c → cueNumbered i l ≡ gives (cueWritten c)
@@ -326,6 +343,36 @@ unfolding cueNumbered
 asked-past i [] h = refl
 asked-past zero (x ∷ l) h = absurd (omega (arith, h))
 asked-past (suc i) (x ∷ l) h = asked-past i l (omega (arith, h))
+
+-- what a cue of a track says
+nth-row : (g : ℕ → Cue Bytes) (n j i : ℕ) (c : Cue Bytes) → nth (track.rowsFrom g n j) i ≡ some c → (i < n) × (g (j + i) ≡ c)
+unfolding nth track.rowsFrom
+nth-row g zero j i c e = no-some e refl
+nth-row g (suc n) j zero c e = let z : j + 0 ≡ j = omega arith in (omega arith, rw z (let q : g j ≡ c = cc in q))
+nth-row g (suc n) j (suc i) c e =
+    let z : j + 1 + i ≡ j + suc i = omega arith in
+    let r = nth-row g n (j + 1) i c e in (omega (arith, r .0), rw z at (r .1))
+
+cue-says : (T : track.Tables) (t : Track Bytes) (e : trackIn T ≡ some t) (i : ℕ) (c : Cue Bytes) → nth (t .cues) i ≡ some c
+    → HasCue (ofTrack T) i × (says (ofTrack T) i ≡ textOf (c .segments))
+cue-says T t e i c a =
+    let r = nth-row (cueIn T) (track.cueCount (T .head)) 0 i c (ap (λ (k : List (Cue Bytes)). nth k i) (cues-are T t e) ∙ a) in
+    let z : 0 + i ≡ i = omega arith in
+    let q : cueIn T i ≡ c = rw z at (r .1) in
+    let h = row-there T t e i (r .0) in
+    (h .0, h .1 ∙ ap (λ (x : Cue Bytes). textOf (x .segments)) q)
+
+module _ (T : track.Tables) (t : Track Bytes) (l : track.LongEnough (track.lengths T)) (e : trackIn T ≡ some t) (i : ℕ) where
+  spoken-gives : (c : Cue Bytes) → nth (t .cues) i ≡ some c → (lent : ℕ) (o : Outcome) → spoken.Comes (ofTrack T) i lent o
+      → o ≡ within lent (gives (textOf (c .segments)))
+  spoken-gives c a lent _ (spoken.short-table h) = absurd (h (track-long T l))
+  spoken-gives c a lent _ (spoken.no-cue h n) = absurd (n (cue-says T t e i c a .0))
+  spoken-gives c a lent _ (spoken.of-cue h k) = ap (λ (w : Bytes). within lent (gives w)) (cue-says T t e i c a .1)
+
+  spoken-meets : length (t .cues) ≤ i → (lent : ℕ) (o : Outcome) → spoken.Comes (ofTrack T) i lent o → o ≡ meets 17 0
+  spoken-meets h lent _ (spoken.short-table k) = absurd (k (track-long T l))
+  spoken-meets h lent _ (spoken.no-cue k n) = refl
+  spoken-meets h lent _ (spoken.of-cue k n) = absurd (cue-past T t e i h n)
 
 -- a single cue as a track
 cue-of : (m : Answer (Cue Bytes)) (t : Track Bytes) → answered alone m ≡ is t → (c : Cue Bytes) × (m ≡ is c) × (alone c ≡ t)
@@ -403,11 +450,19 @@ demand-2 = record {
       (s .tree, c .0, s .derives, c .1, s .means ∙ ap some (sym (c .2)));
   cue-refuses = λ text lent left answer n p q h. q .refused n p h;
   cue-clears = λ text lent left answer p h. p .cleared h;
-  write-gives = λ T t out left answer l e f p. leaves wholeText T t l e out left answer p (writtenOf t) refl f;
-  write-full = λ T t out left answer l e p. full wholeText T t l e out left answer p (writtenOf t) refl;
-  cue-written = λ i T t c out left answer l e a f p. leaves (cueNumber i) T t l e out left answer p (cueWritten c) (asked-cue i (t .cues) c a) f;
-  cue-full = λ i T t c out left answer l e a p. full (cueNumber i) T t l e out left answer p (cueWritten c) (asked-cue i (t .cues) c a);
-  cue-past = λ i T t out left answer l e h p. past (cueNumber i) T t l e out left answer p (asked-past i (t .cues) h);
+  write-gives = λ T t out left answer l e f p.
+      leaves _ out left answer p (writtenOf t) (asked-gives wholeText T t l e (writtenOf t) refl (length out)) f;
+  write-full = λ T t out left answer l e p.
+      full _ out left answer p (writtenOf t) (asked-gives wholeText T t l e (writtenOf t) refl (length out));
+  cue-written = λ i T t c out left answer l e a f p.
+      leaves _ out left answer p (cueWritten c) (asked-gives (cueNumber i) T t l e (cueWritten c) (asked-cue i (t .cues) c a) (length out)) f;
+  cue-full = λ i T t c out left answer l e a p.
+      full _ out left answer p (cueWritten c) (asked-gives (cueNumber i) T t l e (cueWritten c) (asked-cue i (t .cues) c a) (length out));
+  cue-past = λ i T t out left answer l e h p.
+      past _ out left answer p (asked-meets (cueNumber i) T t l e (asked-past i (t .cues) h) (length out));
+  text-gives = λ i T t c out left answer l e a f p. leaves _ out left answer p (textOf (c .segments)) (spoken-gives T t l e i c a (length out)) f;
+  text-full = λ i T t c out left answer l e a p. full _ out left answer p (textOf (c .segments)) (spoken-gives T t l e i c a (length out));
+  text-past = λ i T t out left answer l e h p. past _ out left answer p (spoken-meets T t l e i h (length out));
   check-takes = λ T answer p. p .taken;
   check-refuses = λ T answer n p c h. c .refused n p h;
   resolver-follows = λ value T t lent left answer e p z. p .no-style z t e;

@@ -63,9 +63,20 @@ module _ {T : track.Tables} {out written : Bytes} {lent left : Tables} {n : ℕ}
   unfolding countOf outcomeOf
   returned (writer.Answer.Bytes m) reader.Answer.Track e o p q =
       let w : Parsed (take m written) lent reader.Answer.Track left = rw e at q in
-      rw o (record { went = (p, w); comes = λ t h plain. demand-3 .reads-back T t signed h plain out written m p lent left w })
-  returned (writer.Answer.Bytes m) (reader.Answer.Refused x) e o p q = rw o (record { went = (p, rw e at q); comes = tt })
-  returned (writer.Answer.Refused x) reading e o p q = rw o (record { went = (p, nothing-read (rw e at q)); comes = tt })
+      rw o (record {
+        went = (p, w);
+        comes = λ k b z t h plain.
+            let f : m ≡ k = cc in
+            rw (sym f) (demand-3 .reads-back T t signed h plain out written m p lent left w);
+      })
+  returned (writer.Answer.Bytes m) (reader.Answer.Refused x) e o p q = rw o (record {
+    went = (p, rw e at q);
+    comes = λ k b z t h plain. absurd (let y : _≡_ {A = ℕ} 0 1 = cc in omega arith);
+  })
+  returned (writer.Answer.Refused x) reading e o p q = rw o (record {
+    went = (p, nothing-read (rw e at q));
+    comes = λ k b z t h plain. absurd (let y : _≡_ {A = ℕ} 0 1 = cc in omega arith);
+  })
 
 -- ---- the cells of times
 abbrev pub SignedTo : ℕ → List ℤ → Type 0

@@ -8,6 +8,7 @@
 --     the single cue     `bytes_to_cue`        CueParsed text lent answer left
 --     the writer         `write`               Promise wholeText T out answer left
 --     one cue written    `cue_to_bytes`        Promise (cueNumber i) T out answer left
+--     what a cue says    `plain_text`          PlainText T i out answer left
 --     the check          `check_track`         Checked T answer
 --     the three queries                        ReferencedStyle, RegionStyle, EffectiveStyle
 --     read and written   `recaption`           Recaptioned text lent out answer left written
@@ -50,6 +51,9 @@ use Rattle.promised.specs.Promise as reading
 use Rattle.writer.specs.declared.calls.Answer as writer
 use Rattle.writer.specs.Promise.{Promise, wholeText, cueNumber}
 use Rattle.writer.specs.Promise as writing
+use Rattle.walk.specs.Text.{textOf}
+use Rattle.spoken.specs.Promise.{PlainText, ofTrack}
+use Rattle.spoken.specs.Promise as spoken
 use Rattle.styles.specs.Own as styles
 use Rattle.styles.specs.Resolve.{Resolution}
 use Rattle.styles.specs.Queries.{regionStyle, effectiveStyle, nth}
@@ -91,6 +95,7 @@ pub record Demand1 : Type 0 where
   pub bytes-to-cue : (text : Bytes) (lent : Tables) → Determined (CueParsed text lent)
   pub write : (T : track.Tables) (out : Bytes) → Determined (Promise wholeText T out)
   pub cue-to-bytes : (i : ℕ) (T : track.Tables) (out : Bytes) → Determined (Promise (cueNumber i) T out)
+  pub plain-text : (T : spoken.Tables) (i : ℕ) (out : Bytes) → Determined (PlainText T i out)
   pub check-track : (T : track.Tables) (x y : Check) → Checked T x → Checked T y → x ≡ y
   pub resolve-referenced-style : (value : Bytes) (T : track.Tables) (lent : List ℕ) → DeterminedButOrder (ReferencedStyle value T lent)
   pub region-style : (id : Bytes) (T : track.Tables) (lent : List ℕ) → DeterminedButOrder (RegionStyle id T lent)
@@ -105,6 +110,7 @@ pub record Demand1 : Type 0 where
   pub pg-write : (T : track.Tables) (out : Bytes) → Determined (λ (r : ℕ) left. Tells writtenTold (λ a. Promise wholeText T out a left) r)
   pub pg-cue-to-bytes : (i : ℕ) (T : track.Tables) (out : Bytes)
       → Determined (λ (r : ℕ) left. Tells writtenTold (λ a. Promise (cueNumber i) T out a left) r)
+  pub pg-plain-text : (T : spoken.Tables) (i : ℕ) (out : Bytes) → Determined (λ (r : ℕ) left. Tells writtenTold (λ a. PlainText T i out a left) r)
   pub pg-check-track : (T : track.Tables) (r s : ℕ) → Tells checkTold (Checked T) r → Tells checkTold (Checked T) s → r ≡ s
   pub pg-resolve-referenced-style : (value : Bytes) (T : track.Tables) (lent : List ℕ) → QueryInC (ReferencedStyle value T lent) lent
   pub pg-region-style : (id : Bytes) (T : track.Tables) (lent : List ℕ) → QueryInC (RegionStyle id T lent) lent
@@ -176,6 +182,16 @@ pub record Demand2 : Type 0 where
       → (writing.numberOf answer ≡ 18) ↔ (¬ HasRoom (cueWritten c) out)
   pub cue-past : (i : ℕ) (T : track.Tables) (t : Track Bytes) (out left : Bytes) (answer : writer.Answer) → track.LongEnough (track.lengths T)
       → trackIn T ≡ some t → length (t .cues) ≤ i → Promise (cueNumber i) T out answer left
+      → (answer ≡ writer.Answer.Refused (record { number = 17; place = 0 })) × (left ≡ replicate (length out) 0)
+  -- `plain_text` leaves what a cue says, and nothing else; "18" exactly where it does not fit; an index past the end meets 17
+  pub text-gives : (i : ℕ) (T : track.Tables) (t : Track Bytes) (c : Cue Bytes) (out left : Bytes) (answer : writer.Answer)
+      → track.LongEnough (track.lengths T) → trackIn T ≡ some t → nth (t .cues) i ≡ some c → HasRoom (textOf (c .segments)) out
+      → PlainText (ofTrack T) i out answer left → Leaves (textOf (c .segments)) out answer left
+  pub text-full : (i : ℕ) (T : track.Tables) (t : Track Bytes) (c : Cue Bytes) (out left : Bytes) (answer : writer.Answer)
+      → track.LongEnough (track.lengths T) → trackIn T ≡ some t → nth (t .cues) i ≡ some c → PlainText (ofTrack T) i out answer left
+      → (writing.numberOf answer ≡ 18) ↔ (¬ HasRoom (textOf (c .segments)) out)
+  pub text-past : (i : ℕ) (T : track.Tables) (t : Track Bytes) (out left : Bytes) (answer : writer.Answer) → track.LongEnough (track.lengths T)
+      → trackIn T ≡ some t → length (t .cues) ≤ i → PlainText (ofTrack T) i out answer left
       → (answer ≡ writer.Answer.Refused (record { number = 17; place = 0 })) × (left ≡ replicate (length out) 0)
   -- `check_track` takes exactly the tables that are long enough and mean a track; any other is 1 or 17, at place 0
   pub check-takes : (T : track.Tables) (answer : Check) → Checked T answer

@@ -17,4 +17,5 @@ pub use read::pg_bytes_to_cue;
 pub use read::pg_parse;
 pub use rewritten::recaption;
 pub use write::pg_cue_to_bytes;
+pub use write::pg_plain_text;
 pub use write::pg_write;

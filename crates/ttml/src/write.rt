@@ -2,6 +2,7 @@
 ghost use mathlib.Core.Path.{_≡_};
 ghost use Rattle.track.specs.Tables.{tables};
 ghost use Rattle.writer.specs.Promise.{Promise, wholeText, cueNumber};
+ghost use Rattle.spoken.specs.Promise as spoken;
 ghost use Rattle.told.specs.Told.{Tells, writtenTold};
 use told::told;
 use writer::Answer;
@@ -89,4 +90,21 @@ pub extern "C" fn pg_cue_to_bytes(
         index,
         out,
     ))
+}
+
+// What the cue of this index says, in `out`; how many bytes.
+#[no_mangle]
+pub extern "C" fn pg_plain_text(
+    head: &[u32],
+    cues: &[u32],
+    segments: &[u32],
+    texts: &[u8],
+    index: usize,
+    out: &mut [u8],
+) -> u64
+    ensures { λ r. ⌜ Tells writtenTold (λ a. spoken.PlainText
+        (spoken.tables (now (head .entry)) (now (cues .entry)) (now (segments .entry)) (now (texts .entry))) index
+        (now (out .entry)) a (now (out .exit))) r ⌝ }
+{
+    tell(spoken::plain_text(head, cues, segments, texts, index, out))
 }

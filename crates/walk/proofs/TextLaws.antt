@@ -1,31 +1,31 @@
--- What a walk writes is the text of the track's own segments. Assumes nothing.
+-- The rows of a cue have the text of the track's own segments. Assumes nothing.
 --     text-means        the text of the segments that the tables hold is that of the segments that they mean
 --     text-used         it is the same of the used texts, for rows that are segments
---     cue-ready         the rows of each cue of an accepted track can be walked
---     cue-text          and the text is that of the cue
+--     cue-within        the rows of each cue of an accepted track, and their texts, are within their tables
+--     cue-text          the text of its segments is that of the cue
+--     cue-rows-used, cue-rows     and so is that of its rows
 use Prim.Native.Nat.{ℕ, zero, suc, _+_, _-_, _≤_, _<_}
 use mathlib.Core.Path.{_≡_, refl, sym, _∙_}
 use mathlib.Core.Bool.{true}
 use mathlib.Core.List.{List}
 use native.Mathlib.Omega.{arith}
-use lib.ListN.{length, take}
-use Rattle.scan.proofs.Every.{both}
+use lib.ListN.{length, take, length-take}
 use Rattle.track.specs.declared.strings.Span.{Span}
 use Rattle.track.specs.declared.segments.Segment.{Segment}
 use Rattle.track.specs.Track.{Segments}
 use Rattle.track.specs.Track as track
 use Rattle.track.specs.Tables.{Tables, cell, segmentAt, segmentsAt, cueAt, cueCount, segmentCount, textsUsed}
-use Rattle.track.specs.Meaning.{isTrack, areSegments, cueIn}
+use Rattle.track.specs.Meaning.{isTrack, areSegments, allRows, cueIn}
 use Rattle.track.specs.Shown.{shownSegments}
-use Rattle.track.specs.Steps.{rowsFull, restFull, isFull}
 use Rattle.track.proofs.Spans.{span-within}
 use Rattle.track.proofs.StringLaws.{string-used}
 use Rattle.track.proofs.SegmentLaws.{walk, Holds, segment-holds}
-use Rattle.track.proofs.Answers.{rows-long, limits-low}
+use Rattle.track.proofs.Answers.{limits-low}
 use Rattle.track.proofs.Accepted.{usedStrings, usedTexts, limits-ok, cue-ok}
 use Rattle.track.proofs.RowParts.{CueParts, cue-parts}
-use Rattle.walk.specs.Text.{plainText, textOf, ownText, WalkReady}
+use Rattle.walk.specs.Text.{plainText, textOf, ownText, rowsText, rowWithin}
 use Rattle.walk.proofs.Walking.{text-none, text-step}
+use Rattle.walk.proofs.Rows.{Flat, flat, text-row, all-within}
 
 pub text-means : (T : Tables) (s : Segments Span) → plainText (T .texts) s ≡ textOf (shownSegments (T .strings) (T .texts) s)
 unfolding plainText textOf shownSegments
@@ -84,16 +84,20 @@ module _ (T : Tables) (h : isTrack T ≡ true) (i : ℕ) (l : i < cueCount (T .h
   parts = cue-parts (T .cues) (T .extras) (T .segments) (usedStrings T) (usedTexts T) (segmentCount (T .head)) (cell 11 (T .cues) i 7) i
       (cue-ok T h i l .0)
 
-  pub cue-ready : isFull T ≡ true → WalkReady (T .segments) (usedTexts T) (cell 11 (T .cues) i 7) (cell 11 (T .cues) i 8) 512
-  unfolding isFull
-  cue-ready g =
-      let b = both {a = rowsFull (length (T .head)) (length (T .params)) (length (T .styles)) (length (T .regions)) (length (T .cues))
-      (length (T .segments)) (length (T .extras))}
-      {b = restFull (length (T .times)) (length (T .sizes)) (length (T .strings)) (length (T .texts))} g in
-      let a = rows-long (length (T .head)) (length (T .params)) (length (T .styles)) (length (T .regions)) (length (T .cues)) (length (T .segments))
-      (length (T .extras)) (b .0) in
-      let m : segmentCount (T .head) ≤ 16384 = limits-low (T .head) (limits-ok T h) .segments in
-      record { strings = usedStrings T; are = parts .segments; cells = omega (arith, a .segments, m, parts .within) }
+  flat-cue : Flat (T .segments) (usedStrings T) (usedTexts T) 512 (cell 11 (T .cues) i 8) (cell 11 (T .cues) i 7)
+  flat-cue = flat (T .segments) (usedStrings T) (usedTexts T) 512 (cell 11 (T .cues) i 8) (cell 11 (T .cues) i 7) (parts .segments)
+
+  few-texts : length (usedTexts T) ≤ 65536
+  few-texts = simp length-take (omega (arith, limits-low (T .head) (limits-ok T h) .texts))
+
+  pub cue-within :
+      (cell 11 (T .cues) i 7 + cell 11 (T .cues) i 8 ≤ 16384)
+      × (allRows (rowWithin (T .segments)) (cell 11 (T .cues) i 8) (cell 11 (T .cues) i 7) ≡ true)
+  cue-within = (
+    omega (arith, limits-low (T .head) (limits-ok T h) .segments, parts .within),
+    all-within (T .segments) (cell 11 (T .cues) i 8) (cell 11 (T .cues) i 7)
+        (λ j a b. text-row (T .segments) (usedTexts T) j few-texts (flat-cue .rows j a b)),
+  )
 
   pub cue-text :
       plainText (usedTexts T) (segmentsAt (T .segments) 512 (cell 11 (T .cues) i 8) (cell 11 (T .cues) i 7)) ≡ textOf (cueIn T i .segments)
@@ -101,3 +105,11 @@ module _ (T : Tables) (h : isTrack T ≡ true) (i : ℕ) (l : i < cueCount (T .h
   cue-text =
       text-used (T .segments) (usedStrings T) (T .texts) (textsUsed (T .head)) 512 (cell 11 (T .cues) i 8) (cell 11 (T .cues) i 7) (parts .segments)
       ∙ text-means T _
+
+  -- that of its rows too, in the used texts and in the whole table of them
+  pub cue-rows-used : rowsText (usedTexts T) (T .segments) (cell 11 (T .cues) i 8) (cell 11 (T .cues) i 7) ≡ textOf (cueIn T i .segments)
+  cue-rows-used = sym (flat-cue .text (usedTexts T)) ∙ cue-text
+
+  pub cue-rows : rowsText (T .texts) (T .segments) (cell 11 (T .cues) i 8) (cell 11 (T .cues) i 7) ≡ textOf (cueIn T i .segments)
+  unfolding cueIn cueAt
+  cue-rows = sym (flat-cue .text (T .texts)) ∙ text-means T _

@@ -1,15 +1,15 @@
 -- The text that segments show (the Rust's way of writing them, without tags): texts one after the other, a break as a line feed. Definitions
 -- alone. y are the bytes of the texts.
-use Prim.Native.Nat.{ℕ, _+_, _*_, _≤_}
-use mathlib.Core.Path.{_≡_}
-use mathlib.Core.Bool.{true}
+use Prim.Native.Nat.{ℕ, zero, suc, _+_}
+use mathlib.Core.Bool.{Bool, true, cond}
 use mathlib.Core.List.{List, [], _∷_, _++_}
-use lib.ListN.{length}
+use lib.Dec.{eqb, leb}
 use Rattle.track.specs.declared.strings.Span.{Span}
 use Rattle.track.specs.declared.segments.Segment.{Segment}
 use Rattle.track.specs.Track.{Segments}
 use Rattle.track.specs.Track as track
-use Rattle.track.specs.Meaning.{bytesAt, areSegments}
+use Rattle.track.specs.Tables.{cell, segmentAt}
+use Rattle.track.specs.Meaning.{bytesAt}
 
 unfoldable pub plainText : List ℕ → Segments Span → List ℕ
 plainText y track.done = []
@@ -26,7 +26,7 @@ textOf (track.break x) = 10 ∷ textOf x
 textOf (track.timestamp t x) = textOf x
 textOf (track.wrap w c x) = textOf c ++ textOf x
 
--- ---- what the program asks and ensures
+-- ---- the same by the rows of a table of segments, t, whatever stands in it
 -- of one segment, without its children
 unfoldable pub ownText : List ℕ → Segment → List ℕ
 ownText y (Segment.Text s) = bytesAt y s
@@ -39,19 +39,17 @@ ownText y Segment.Strike = []
 ownText y (Segment.Color c) = []
 ownText y (Segment.Font x) = []
 
-abbrev pub TextWithin : List ℕ → Segment → Type 0
-TextWithin y (Segment.Text s) = s .place + s .len ≤ length y
-TextWithin y Segment.Break = Unit {0}
-TextWithin y (Segment.Timestamp t) = Unit {0}
-TextWithin y Segment.Bold = Unit {0}
-TextWithin y Segment.Italic = Unit {0}
-TextWithin y Segment.Underline = Unit {0}
-TextWithin y Segment.Strike = Unit {0}
-TextWithin y (Segment.Color c) = Unit {0}
-TextWithin y (Segment.Font x) = Unit {0}
+-- the text of row i by itself; what stands inside a wrapper has rows of its own, after it
+abbrev pub rowText : (y t : List ℕ) → ℕ → List ℕ
+rowText y t i = ownText y (segmentAt t i)
 
--- the n rows from row i on are segments, nested at most d, within their table; y are the used texts, and the used strings are some
-pub record WalkReady (t y : List ℕ) (i n d : ℕ) : Type 0 where
-  pub strings : List ℕ
-  pub are : areSegments t strings y d n i ≡ true
-  pub cells : (i + n) * 6 ≤ length t
+-- of n rows from row i on, one after the other
+unfoldable pub rowsText : (y t : List ℕ) → (n i : ℕ) → List ℕ
+unfolding ownText segmentAt
+rowsText y t zero i = []
+rowsText y t (suc n) i = rowText y t i ++ rowsText y t n (i + 1)
+
+-- row i, if it is a text, has its bytes within the 65,536 of the table of texts
+unfoldable pub rowWithin : (t : List ℕ) → ℕ → Bool
+unfolding cell
+rowWithin t i = cond (eqb (cell 6 t i 0) 1) (leb (cell 6 t i 2 + cell 6 t i 3) 65536) true

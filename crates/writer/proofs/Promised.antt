@@ -1,4 +1,6 @@
 -- What the public calls promise. Assumes nothing.
+--     answers-met, answers-filled    a number is met, or a text is written as far as it fits: for any call that writes
+--     answers-determined             and such a call is determined, if its input allows one outcome
 --     promise-refused                what the check refuses
 --     promise-done, promise-met      there is such a text; or a number is met
 --     promise-cue, promise-past      a cue, and an index past the end
@@ -25,27 +27,26 @@ use Rattle.track.proofs.ShownLaws.{cues-in}
 use Rattle.written.specs.Written.{cueWritten}
 use Rattle.writer.specs.declared.calls.Answer.{Answer}
 use Rattle.writer.specs.Promise.{numberOf, placeOf, bytesOf, cueNumbered, cueNumber, Outcome, gives, meets, fits, within, Comes}
-use Rattle.writer.specs.Promise.{short-table, no-track, of-track, numberIn, placeIn, countIn, textIn, Promise}
+use Rattle.writer.specs.Promise.{short-table, no-track, of-track, numberIn, placeIn, countIn, textIn, Answers, Promise}
 use Rattle.writer.specs.Calls.{refusedWith, fitted, Filled}
 use Rattle.writer.proofs.CallLaws.{accepted}
 
--- ---- a refusal, and a text
-module _ (asked : Track Bytes → Outcome) (T : Tables) (lent left : List ℕ) where
-  met : (n p : ℕ) → Comes asked T (length lent) (meets n p) → left ≡ replicate (length lent) 0
-      → Promise asked T lent (Answer.Refused (record { number = n; place = p })) left
+-- ---- a refusal, and a text, of whatever input allows it
+module _ (may : Outcome → Type 0) (lent left : List ℕ) where
+  pub answers-met : (n p : ℕ) → may (meets n p) → left ≡ replicate (length lent) 0
+      → Answers may lent (Answer.Refused (record { number = n; place = p })) left
   unfolding numberOf placeOf bytesOf numberIn placeIn countIn textIn
-  met n p c e =
+  answers-met n p c e =
       record { outcome = meets n p; comes = c; number = refl; place = refl; count = refl; bytes = e ∙ rw (sub-zero (length lent)) refl }
 
-  gave : (w : Bytes) → Comes asked T (length lent) (gives w) → left ≡ w ++ replicate (length lent - length w) 0
-      → Promise asked T lent (Answer.Bytes (length w)) left
+  gave : (w : Bytes) → may (gives w) → left ≡ w ++ replicate (length lent - length w) 0 → Answers may lent (Answer.Bytes (length w)) left
   unfolding numberOf placeOf bytesOf numberIn placeIn countIn textIn
   gave w c e = record { outcome = gives w; comes = c; number = refl; place = refl; count = refl; bytes = e }
 
-  came : (w : Bytes) (r : Answer) (k : ℕ) → k ≡ length lent → Comes asked T (length lent) (within (length lent) (gives w)) → Filled w k r left
-      → Promise asked T lent r left
+  pub answers-filled : (w : Bytes) (r : Answer) (k : ℕ) → k ≡ length lent → may (within (length lent) (gives w)) → Filled w k r left
+      → Answers may lent r left
   unfolding within fits fitted
-  came w r k q c a =
+  answers-filled w r k q c a =
       let b : Filled w (length lent) r left = rw q at a in
       by-test (leb (length w) (length lent) && leb (length w) 65536)
       (λ e.
@@ -53,7 +54,7 @@ module _ (asked : Track Bytes → Outcome) (T : Tables) (lent left : List ℕ) w
       rw d (gave w (rw e at c) (rw d at (b .bytes))))
       (λ e.
       let d : r ≡ refusedWith 18 = b .answer ∙ rw e refl in
-      rw d (met 18 0 (rw e at c) (rw d at (b .bytes))))
+      rw d (answers-met 18 0 (rw e at c) (rw d at (b .bytes))))
 
 -- where the check refuses
 track-refused : {X : Type 0} (x : Refusal) → Check.Track ≡ Check.Refused x → X
@@ -68,9 +69,9 @@ module _ (asked : Track Bytes → Outcome) (T : Tables) (lent left : List ℕ) w
       by-test (isFull T)
       (λ f. by-test (isTrack T)
       (λ h. track-refused x (sym (check-track T f h) ∙ e))
-      (λ h. rw (same-answer 17 x (sym (check-none T f h) ∙ e)) (met asked T lent left 17 0 (no-track (full-long T f) (track-none T h)) b)))
+      (λ h. rw (same-answer 17 x (sym (check-none T f h) ∙ e)) (answers-met _ lent left 17 0 (no-track (full-long T f) (track-none T h)) b)))
       (λ f. rw (same-answer 1 x (sym (check-short T f) ∙ e))
-      (met asked T lent left 1 0 (short-table (λ l. false≢true (sym f ∙ long-full T l))) b))
+      (answers-met _ lent left 1 0 (short-table (λ l. false≢true (sym f ∙ long-full T l))) b))
 
   -- where there is a track: w is the text that is asked for, or there is none
   module _ (f : isFull T ≡ true) (h : isTrack T ≡ true) where
@@ -81,12 +82,12 @@ module _ (asked : Track Bytes → Outcome) (T : Tables) (lent left : List ℕ) w
 
     pub promise-done : (w : Bytes) → asked (trackAt T) ≡ gives w → (r : Answer) (k : ℕ) → k ≡ length lent → Filled w k r left
         → Promise asked T lent r left
-    promise-done w e r k q a = came asked T lent left w r k q (comes-of (gives w) e) a
+    promise-done w e r k q a = answers-filled _ lent left w r k q (comes-of (gives w) e) a
 
     pub promise-met : (n p : ℕ) → asked (trackAt T) ≡ meets n p → (r : Answer) → r ≡ Answer.Refused (record { number = n; place = p })
         → left ≡ replicate (length lent) 0 → Promise asked T lent r left
     unfolding within
-    promise-met n p e r a b = rw a (met asked T lent left n p (comes-of (meets n p) e) b)
+    promise-met n p e r a b = rw a (answers-met _ lent left n p (comes-of (meets n p) e) b)
 
 -- ---- a cue by its index
 cue-there : (g : ℕ → Cue Bytes) (n j i : ℕ) → i < n → cueNumbered i (rowsFrom g n j) ≡ gives (cueWritten (g (j + i)))
@@ -145,11 +146,17 @@ module _ (asked : Track Bytes → Outcome) (T : Tables) (lent : ℕ) where
   one-outcome _ _ (of-track t a b) (no-track c d) = no-some (sym d ∙ b)
   one-outcome _ _ (of-track t a b) (of-track u c d) = ap (λ (k : Track Bytes). within lent (asked k)) (one-track t u b d)
 
-pub determined :
-    (asked : Track Bytes → Outcome) (T : Tables) (lent : List ℕ) (a b : Answer) (u v : List ℕ) → Promise asked T lent a u
-    → Promise asked T lent b v → (a ≡ b) × (u ≡ v)
-determined asked T lent a b u v p q =
-    let e : p .outcome ≡ q .outcome = one-outcome asked T (length lent) (p .outcome) (q .outcome) (p .comes) (q .comes) in (
+-- whatever the input, if it allows one outcome
+pub answers-determined :
+    (may : Outcome → Type 0) → ((o v : Outcome) → may o → may v → o ≡ v) → (lent : List ℕ) (a b : Answer) (u v : List ℕ) → Answers may lent a u
+    → Answers may lent b v → (a ≡ b) × (u ≡ v)
+answers-determined may one lent a b u v p q =
+    let e : p .outcome ≡ q .outcome = one (p .outcome) (q .outcome) (p .comes) (q .comes) in (
       same-said a b (p .number ∙ (ap numberIn e ∙ sym (q .number))) (p .place ∙ (ap placeIn e ∙ sym (q .place))) (p .count ∙ (ap countIn e ∙ sym (q .count))),
       p .bytes ∙ (ap (λ (o : Outcome). textIn o ++ replicate (length lent - length (textIn o)) 0) e ∙ sym (q .bytes)),
     )
+
+pub determined :
+    (asked : Track Bytes → Outcome) (T : Tables) (lent : List ℕ) (a b : Answer) (u v : List ℕ) → Promise asked T lent a u
+    → Promise asked T lent b v → (a ≡ b) × (u ≡ v)
+determined asked T lent a b u v p q = answers-determined _ (one-outcome asked T (length lent)) lent a b u v p q

@@ -82,10 +82,10 @@ unfoldable pub textIn : Outcome → Bytes
 textIn (gives w) = w
 textIn (meets n p) = []
 
--- ---- the promise
-pub record Promise (asked : Track Bytes → Outcome) (T : Tables) (lent : List ℕ) (answer : Answer) (left : List ℕ) : Type 0 where
+-- ---- the promise: one for every call that writes a text; `may` are the outcomes that its input allows
+pub record Answers (may : Outcome → Type 0) (lent : List ℕ) (answer : Answer) (left : List ℕ) : Type 0 where
   pub outcome : Outcome
-  pub comes : Comes asked T (length lent) outcome
+  pub comes : may outcome
   -- "the number, the place"
   pub number : numberOf answer ≡ numberIn outcome
   pub place : placeOf answer ≡ placeIn outcome
@@ -93,3 +93,7 @@ pub record Promise (asked : Track Bytes → Outcome) (T : Tables) (lent : List �
   pub count : bytesOf answer ≡ countIn outcome
   -- "every cell of every table afterwards": the text; "unused cells are zero", after a refusal all of them
   pub bytes : left ≡ textIn outcome ++ replicate (length lent - length (textIn outcome)) 0
+
+-- of what is asked for, of a handed track
+abbrev pub Promise : (asked : Track Bytes → Outcome) (T : Tables) (lent : List ℕ) → Answer → (left : List ℕ) → Type 0
+Promise asked T lent answer left = Answers (Comes asked T (length lent)) lent answer left

@@ -22,7 +22,7 @@ use Rattle.tree.specs.declared.answers.Answer.{Answer}
 use Rattle.derivation.specs.Strings.{attrIn, attrsIn, treeIn}
 use Rattle.derivation.proofs.RunLaws.{string-is}
 use Rattle.xml.specs.Promise.{Tables, Takes, TurnsAway, Outside, HoldsTree, Parsed}
-use Rattle.xml.proofs.Promises.{readable-of, is-away, away-some, refused-as}
+use Rattle.xml.proofs.Promises.{readable-of, is-away, away-some, refused-as, counted}
 use Rattle.xml.proofs.Theorem.{parsed, takes-exactly, taken-fits}
 
 -- ---- taken or turned away
@@ -107,7 +107,7 @@ determined {s} {lent} {x} {y} {a} {b} p q = by (decided s lent)
     by (inl t) =
         let h = p .tree (t .0) (t .1) in
         let k = q .tree (t .0) (t .1) in (
-          p .counts (t .0) (t .1) ∙ sym (q .counts (t .0) (t .1)),
+          counted p (t .0) (t .1) ∙ sym (counted q (t .0) (t .1)),
           tables-same (h .node-rows ∙ sym (k .node-rows)) (h .attr-rows ∙ sym (k .attr-rows)) (strings-same h k),
         )
     by (inr t) =

@@ -23,7 +23,7 @@ use Rattle.tree.specs.declared.answers.Refusal.{Refusal}
 use Rattle.xml.specs.Find.{Holds, Siblings}
 use Rattle.xml.specs.Promise.{Tables, Takes, placesOf, HoldsTree, Parsed}
 use Rattle.xml.proofs.FindLaws.{siblings-of}
-use Rattle.xml.proofs.Promises.{nodes-counted}
+use Rattle.xml.proofs.Promises.{counted, nodes-counted}
 
 -- reading entities keeps the nodes
 mutual
@@ -73,7 +73,7 @@ module _ {s : List ℕ} {lent left : Tables} {r : Answer} (p : Parsed s lent r l
         let g = given-tree in
         let a : size given-forest ≡ count.nodes (decodeForest decoded (g .tree)) =
         nodes-counted (left .strings) given-forest ∙ ap count.nodes (g .holds .shown) in
-        let b : Tree i j ≡ Tree (count.nodes (g .tree)) (count.attrs (g .tree)) = sym e ∙ p .counts (g .tree) (g .takes) in
+        let b : Tree i j ≡ Tree (count.nodes (g .tree)) (count.attrs (g .tree)) = sym e ∙ counted p (g .tree) (g .takes) in
         let c : i ≡ count.nodes (g .tree) = cc in
         omega (arith, a, c, nodes-kept (g .tree))
 
@@ -82,6 +82,6 @@ module _ {s : List ℕ} {lent left : Tables} {r : Answer} (p : Parsed s lent r l
 
   pub given-none : {x : Refusal} → r ≡ Refused x → (f : Forest) → ¬ Takes s lent f
   given-none e f d =
-      let b : _≡_ {A = Answer} (Refused _) (Tree (count.nodes f) (count.attrs f)) = sym e ∙ p .counts f d in
+      let b : _≡_ {A = Answer} (Refused _) (Tree (count.nodes f) (count.attrs f)) = sym e ∙ counted p f d in
       let z : _≡_ {A = ℕ} 0 1 = cc in
       omega arith

@@ -1,6 +1,7 @@
 -- What `parse_xml` leaves meets `Parsed`, its promise. Assumes nothing.
 --     meets-some, away-some     a number that is met is no 0
 --     away-is, is-away          the numbers 1 to 11 are answered exactly
+--     counted                   the answer is the tree that is taken, by its values
 --     nodes-counted, attrs-counted   a placed forest has as many nodes and attributes as the tree that it shows
 --     laid-outside              a byte outside of all strings is as it was
 --     parsed-of                 the promise
@@ -23,7 +24,7 @@ use Rattle.grammar.specs.Tree.{Forest}
 use Rattle.grammar.specs.Limits as count
 use Rattle.grammar.specs.Demand.{Result, refused, decodeForest}
 use Rattle.grammar.specs.Refusals.{Meets, too-deep, too-many-nodes, no-tag-name, too-many-attributes, slash, no-value, end-in-tag, open-close-tag}
-use Rattle.tree.specs.Answers.{numberOf, placeOf, Says}
+use Rattle.tree.specs.Answers.{numberOf, placeOf, valuesOf, Says}
 use Rattle.tree.specs.Trees as placed
 use Rattle.tree.specs.Trees.{Attr, nil, text, section, elem, size, attrsOf, rows, attrRows, Span, attrSpans, spans, InOrder}
 use Rattle.tree.specs.Read.{Out, got, nothing, bad, answerOf, nodesOf, attrCells}
@@ -66,6 +67,15 @@ away-some (not-utf8 h g v w) = omega arith
 away-some (first-met h m) = meets-some (m .met)
 
 -- ---- counts
+-- a refusal has no values
+tree-as : (a : Answer) (i j : ℕ) → valuesOf a ≡ i ∷ j ∷ [] → a ≡ Tree i j
+tree-as (Tree n m) i j e = cc
+tree-as (Refused x) i j e = let z : _≡_ {A = ℕ} 0 1 = cc in absurd (omega arith)
+
+pub counted : {s : List ℕ} {lent left : Tables} {a : Answer} → Parsed s lent a left → (f : Forest) → Takes s lent f
+    → a ≡ Tree (count.nodes f) (count.attrs f)
+counted {a = a} p f d = tree-as a (count.nodes f) (count.attrs f) (p .counts f d)
+
 module _ (z : List ℕ) where
   attrs-shown : (l : List Attr) → length (attrsIn z l) ≡ length l
   unfolding attrsIn
@@ -320,7 +330,7 @@ module _ (s T U Z : List ℕ) where
         (λ e. taken-only r refl (e .0)),
         (λ x. let e = counts-it (x .0) (x .1) in (ap numberOf e, ap placeOf e)),
       );
-      counts = counts-it;
+      counts = λ f d. ap valuesOf (counts-it f d);
       tree = λ f d. subst (HoldsTree s (tables T U Z) (tables t u w) f) (where-is f d) (holds-read f d);
       refused = λ n p h. (
         (λ e. is-away n p (answers-refused s (length T) (length U) (length Z) n p .0 (sym (left .0) ∙ refused-as r n p h e))),

@@ -13,11 +13,10 @@ use Rattle.grammar.specs.Limits.{mostBytes, mostDepth, mostNodes, mostAttrs}
 use Rattle.grammar.specs.Grammar.{Document}
 use Rattle.grammar.specs.Demand.{Derives, decodeForest}
 use Rattle.grammar.specs.Refusals.{FirstMet}
-use Rattle.tree.specs.Answers.{numberOf, Says}
+use Rattle.tree.specs.Answers.{numberOf, valuesOf, Says}
 use Rattle.tree.specs.Trees as placed
 use Rattle.tree.specs.Trees.{nodeTable, attrTable, rows, attrsOf, attrRows, Span, spans, InOrder}
 use Rattle.tree.specs.declared.answers.Answer.{Answer}
-use Rattle.tree.specs.declared.answers.Answer.the-variants.{Tree}
 use Rattle.derivation.specs.Strings.{treeIn}
 use Rattle.xml.specs.Where.{documentPlaced}
 
@@ -105,7 +104,7 @@ pub record Parsed (text : List ℕ) (lent : Tables) (answer : Answer) (left : Ta
   -- it within the limits
   pub taken : Says answer 0 0 ↔ ((f : Forest) × Takes text lent f)
   -- "The tree reader gives it": the answer counts that tree's nodes and attributes, and the tables hold it
-  pub counts : (f : Forest) → Takes text lent f → answer ≡ Tree (count.nodes f) (count.attrs f)
+  pub counts : (f : Forest) → Takes text lent f → valuesOf answer ≡ count.nodes f ∷ count.attrs f ∷ []
   pub tree : (f : Forest) (d : Takes text lent f) → HoldsTree text lent left f (placesOf (d .derives .derived))
   -- "Limits and what is turned away": with that number and that place, and with no other
   pub refused : (n p : ℕ) → 0 < n → Says answer n p ↔ TurnsAway text lent n p

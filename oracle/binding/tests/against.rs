@@ -6,13 +6,30 @@
 
 use postgarlic::{Cue, Refusal, Resolved, Tables, Track};
 use reference::encoding::decode_subtitle_text;
-use reference::ir::{SubtitleStyle, SubtitleTrack};
+use reference::ir::{Segment, SubtitleStyle, SubtitleTrack};
 use reference::ttml::{self, access};
 use std::panic::{AssertUnwindSafe, catch_unwind};
 
 /// What the Rust answers: none if it stops.
 fn stopping<A>(question: impl FnOnce() -> A) -> Option<A> {
     catch_unwind(AssertUnwindSafe(question)).ok()
+}
+
+/// What segments say, as their nesting tells it.
+fn add_text(segments: &[Segment], out: &mut String) {
+    for segment in segments {
+        match segment {
+            Segment::Text(text) => out.push_str(text),
+            Segment::LineBreak => out.push('\n'),
+            Segment::Bold(children)
+            | Segment::Italic(children)
+            | Segment::Underline(children)
+            | Segment::Strike(children)
+            | Segment::Color { children, .. }
+            | Segment::Font { children, .. } => add_text(children, out),
+            _ => {}
+        }
+    }
 }
 
 /// How the questions ended.
@@ -95,7 +112,10 @@ impl Count {
     fn cue(&mut self, cue: Cue, about: &str) {
         let written = access::cue_to_bytes(&binding::cue(cue));
         assert_eq!(cue.write().unwrap().into_bytes(), written, "{about}");
-        self.same += 1;
+        let mut text = String::new();
+        add_text(&binding::cue(cue).segments, &mut text);
+        assert_eq!(cue.text().unwrap(), text, "{about}");
+        self.same += 2;
     }
 
     fn style(&mut self, ours: Result<Resolved, Refusal>, rust: impl FnOnce() -> Option<SubtitleStyle>, about: &str) {

@@ -194,6 +194,15 @@ exports! {
         index: usize,
         out: &mut [u8]
     ) -> u64;
+    /// What the cue of an index says.
+    fn pg_plain_text(
+        head: &[u32],
+        cues: &[u32],
+        segments: &[u32],
+        texts: &[u8],
+        index: usize,
+        out: &mut [u8]
+    ) -> u64;
     /// `resolve_referenced_style` on a handed track: 0, or document 01's number, in the low 32 bits. The ids reached stand in `ids`, a row of
     /// four cells each: 0 (in `value`) or 1 (in `strings`), place, length, 0. `out` is the place of a refusal, 1 for a
     /// style, how many ids, and of a style: its name (place and length in `value`), colour and background (flag, red,

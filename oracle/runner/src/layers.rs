@@ -8,6 +8,7 @@ pub mod parse;
 pub mod readback;
 pub mod recaption;
 pub mod scan;
+pub mod spoken;
 pub mod styles;
 pub mod times;
 pub mod tree;
@@ -30,6 +31,7 @@ pub static LAYERS: &[Layer] = &[
     styles::LAYER,
     parse::LAYER,
     write::LAYER,
+    spoken::LAYER,
     readback::LAYER,
     recaption::LAYER,
 ];

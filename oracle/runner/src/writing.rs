@@ -96,6 +96,10 @@ pub fn cue_to_bytes(t: &Handed, index: usize, out: &mut [u8]) -> u64 {
     )
 }
 
+pub fn plain_text(t: &Handed, index: usize, out: &mut [u8]) -> u64 {
+    port::pg_plain_text(t.head, t.cues, t.segments, t.texts, index, out)
+}
+
 pub fn check_track(t: &Handed) -> u64 {
     port::pg_check_track(
         t.head, t.params, t.styles, t.regions, t.cues, t.times, t.segments, t.sizes, t.extras, t.strings, t.texts,

@@ -215,7 +215,7 @@ const DIGITS: [u32; 12] = [0, 1, 5, 10, 99, 100, 123_456, 999_990, 999_999, 1_00
 const FAMILIES: [[u32; 3]; 7] = [[0, 0, 0], [0, 60_000, 9], [1, 0, 0], [1, 0, 2], [1, 2, 0], [1, 0, 1], [1, 3, 0]];
 
 /// Tracks at the limits of nesting, counts and bytes, and empty ones.
-fn listed() -> Vec<Made> {
+pub fn listed() -> Vec<Made> {
     let made = |track: Track, strings: String, texts: String| Made { track, strings, texts };
     let mut tracks = vec![made(Track::default(), String::new(), String::new())];
     for depth in [1, 2, 100, 511, 512] {

@@ -1,8 +1,8 @@
--- `main` is safe and ends.
+-- `run` is safe and ends.
 use borrow.Author.Needs.{needs}
-use Rattle.recaption.proofs.Fitting.{fitting, counted}
-use Rattle.recaption.proofs.main.Statement.{statement}
-use Rattle.recaption.proofs.main.Tie as tie
+use Rattle.filter.proofs.Fitting.{fitting, counted}
+use Rattle.filter.proofs.run.Statement.{statement}
+use Rattle.filter.proofs.run.Tie as tie
 
 slice-aggregate-read-full : tie.Need-slice-aggregate-read-full
 slice-aggregate-read-full c = search needs
@@ -94,8 +94,8 @@ returns c = search needs
 returns-2 : tie.Need-returns-2
 returns-2 c = search needs
 
-pub main-spec : {M : Type 1} → statement M
-main-spec =
+pub run-spec : {M : Type 1} → statement M
+run-spec =
     tie.close
     (tie.spec
     slice-aggregate-read-full
