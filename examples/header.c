@@ -111,13 +111,9 @@ static void queries(void)
     SHOULD(is_color(r.style.color, 0x01020304) && is_color(r.style.background, 0x000080FF) && is(r.style.family, "Mono"));
     SHOULD(is_size(r.style.size, 7.25f, false, 725, 2) && r.style.bold && r.style.italic && r.style.underline && r.style.strike);
     SHOULD(r.style.align == PG_RIGHT);
-    /* "each once, in an order left open" */
-    for (size_t id = 0; id < PG_COUNT(reached); id++) {
-        int times = 0;
-        for (size_t row = 0; row < r.ids; row++) {
-            times += is(pg_id(&tables, value, ids, row), reached[id]);
-        }
-        SHOULD(times == 1);
+    /* "each once", "in the order of their first visit" */
+    for (size_t row = 0; row < PG_COUNT(reached); row++) {
+        SHOULD(is(pg_id(&tables, value, ids, row), reached[row]));
     }
     SHOULD(pg_resolve_value(&tables, value, sizeof value - 1, ids, 3 * PG_ID_CELLS).answer.number == PG_NO_ROOM);
     r = pg_resolve_value(&tables, "nobody", 6, ids, PG_COUNT(ids));
@@ -129,6 +125,29 @@ static void queries(void)
     r = pg_resolve_cue(&tables, 0, ids, PG_COUNT(ids));
     SHOULD(r.found && is(r.style.name, "") && is_size(r.style.size, 7.25f, false, 725, 2) && r.ids == 3);
     SHOULD(!pg_resolve_cue(&tables, 1, ids, PG_COUNT(ids)).found && !pg_resolve_cue(&tables, 2, ids, PG_COUNT(ids)).found);
+}
+
+static void are(size_t count, const char *asked, const char *const *expected, size_t many)
+{
+    SHOULD(count == many);
+    for (size_t row = 0; row < many; row++) {
+        SHOULD(is(pg_id(&again, asked, ids, row), expected[row]));
+    }
+}
+
+/* "an id, then its parents from left to right, each followed out fully"; of a cue the region's first, then those of its style that are new */
+static void order(void)
+{
+    static const char chains[] =
+        "<tt><head><styling><style xml:id='a' style='c b'/><style xml:id='b' style='d'/></styling>"
+        "<layout><region xml:id='r' style='b e'/></layout></head><body><p region='r' style='a d'/></body></tt>";
+    static const char *const of_value[] = {"a", "c", "b", "d"};
+    static const char *const of_region[] = {"b", "d", "e"};
+    static const char *const of_cue[] = {"b", "d", "e", "a", "c"};
+    SHOULD(pg_read(&again, chains, sizeof chains - 1).number == PG_TAKEN);
+    are(pg_resolve_value(&again, "a d", 3, ids, PG_COUNT(ids)).ids, "a d", of_value, PG_COUNT(of_value));
+    are(pg_resolve_region(&again, "r", 1, ids, PG_COUNT(ids)).ids, "r", of_region, PG_COUNT(of_region));
+    are(pg_resolve_cue(&again, 0, ids, PG_COUNT(ids)).ids, NULL, of_cue, PG_COUNT(of_cue));
 }
 
 static void writers(void)
@@ -284,6 +303,7 @@ int main(void)
     head();
     cues();
     queries();
+    order();
     writers();
     readers();
     calls();

@@ -136,7 +136,8 @@ uint64_t pg_cue_to_bytes(const uint32_t *head, size_t head_len, const uint32_t *
 uint64_t pg_plain_text(const uint32_t *head, size_t head_len, const uint32_t *cues, size_t cues_len, const uint32_t *segments,
     size_t segments_len, const uint8_t *texts, size_t texts_len, size_t index, uint8_t *out, size_t out_len);
 
-/* The queries answer in `out`, 27 cells, and `size`, one; `ids` has four cells for each id that is reached. */
+/* The queries answer in `out`, 27 cells, and `size`, one; `ids` has four cells for each id that is reached, in the order of their first visit:
+ * an id, then its parents from left to right, each followed out fully. docs/TABLES.md says what each cell is. */
 uint64_t pg_resolve_referenced_style(const uint8_t *value, size_t value_len, const uint32_t *head, size_t head_len, const uint32_t *params,
     size_t params_len, const uint32_t *styles, size_t styles_len, const uint32_t *regions, size_t regions_len, const uint32_t *cues,
     size_t cues_len, const int64_t *times, size_t times_len, const uint32_t *segments, size_t segments_len, const float *sizes,
@@ -505,7 +506,7 @@ static inline const char *pg_region_extra_name(uint32_t number)
 typedef struct pg_resolved {
     pg_answer answer;
     bool found;     /* a style; else `style` says nothing */
-    size_t ids;     /* how many ids were reached, each once: pg_id gives them */
+    size_t ids;     /* how many ids were reached, each once: pg_id gives them, in the order of their first visit */
     pg_style style; /* its name is a part of the text that was asked for */
 } pg_resolved;
 
@@ -556,7 +557,8 @@ static inline pg_resolved pg_resolve_region(const pg_tables *t, const void *id, 
     return pg_resolved_in(t, pg_bytes(id), told, out, size);
 }
 
-/* The style of a cue: that of its region, and over it that of its own attribute style. */
+/* The style of a cue: that of its region, and over it that of its own attribute style. The region's ids come first, then those of the style
+ * that are new. */
 static inline pg_resolved pg_resolve_cue(const pg_tables *t, size_t cue, uint32_t *ids, size_t cells)
 {
     uint64_t out[27];
@@ -565,7 +567,8 @@ static inline pg_resolved pg_resolve_cue(const pg_tables *t, size_t cue, uint32_
     return pg_resolved_in(t, pg_bytes(NULL), told, out, size);
 }
 
-/* An id that a query reached; `text` is what was asked for, null for a cue. */
+/* An id that a query reached; `text` is what was asked for, null for a cue. Row 0 is the first that was visited. With the styles a (its chain is
+ * "c b") and b (its chain is "d") the value "a d" has the rows a, c, b, d. */
 static inline pg_string pg_id(const pg_tables *t, const void *text, const uint32_t *ids, size_t row)
 {
     const uint32_t *cells = ids + PG_ID_CELLS * row;

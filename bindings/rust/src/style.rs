@@ -52,7 +52,20 @@ impl<'t> HeadStyle<'t> {
 pub struct Resolved<'a> {
     /// The style, if one was found.
     pub style: Option<Style<'a>>,
-    /// The ids that were reached, each once, in an order that is left open.
+    /// The ids that were reached, each once, in the order of their first visit: an id, then its parents from left to right, each
+    /// followed out fully. For a cue those of its region come first, then those of its style that are new.
+    ///
+    /// ```
+    /// let mut tables = postgarlic::Tables::new();
+    /// let track = tables.parse(
+    ///     "<tt><head><styling><style xml:id='a' style='c b'/><style xml:id='b' style='d'/></styling>
+    ///         <layout><region xml:id='r' style='b e'/></layout></head><body><p region='r' style='a d'/></body></tt>",
+    /// )?;
+    /// assert_eq!(track.resolve_referenced_style("a d")?.ids, ["a", "c", "b", "d"]);
+    /// assert_eq!(track.region_style("r")?.ids, ["b", "d", "e"]);
+    /// assert_eq!(track.effective_style_for_cue_index(0)?.ids, ["b", "d", "e", "a", "c"]);
+    /// # Ok::<(), postgarlic::Refusal>(())
+    /// ```
     pub ids: Vec<&'a str>,
 }
 

@@ -141,7 +141,7 @@ impl<'t> Track<'t> {
     ///     "<tt><head><styling><style id='a' style='b' tts:color='red'/><style id='b' tts:fontSize='7.50px'/></styling></head></tt>",
     /// )?;
     /// let resolved = track.resolve_referenced_style("a nobody")?;
-    /// assert_eq!(resolved.ids.len(), 3); // a, b and nobody, in an order that is left open
+    /// assert_eq!(resolved.ids, ["a", "b", "nobody"]); // in the order of their first visit
     /// let style = resolved.style.unwrap();
     /// assert_eq!((style.color.unwrap().red, style.size.unwrap().to_string()), (255, "7.5".to_string()));
     /// assert!(track.resolve_referenced_style("nobody")?.style.is_none());

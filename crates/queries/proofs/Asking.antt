@@ -6,15 +6,15 @@
 use Prim.Native.Nat.{ℕ, zero, suc, _+_, _-_, _*_, _≤_, _<_}
 use mathlib.Core.Path.{_≡_, refl, sym, ap, subst, _∙_}
 use mathlib.Core.Bool.{Bool, true, false, cond}
-use mathlib.Core.Logic.{_⊎_, inl, inr}
-use mathlib.Core.List.{List, [], _∷_, _++_, append-nil}
+use mathlib.Core.Logic.{_↔_}
+use mathlib.Core.List.{List, [], append-nil}
 use mathlib.Core.Option.{Option, none, some}
 use native.Mathlib.Omega.{arith}
 use native.Mathlib.Nat.{zero-add, sub-zero, add-zero}
 use lib.ListN.{length, getD, replicate, length-replicate}
 use lib.Seq.{take-length}
 use lib.Dec.{eqb}
-use Rattle.scan.specs.Part.{part, stringAt}
+use Rattle.scan.specs.Part.{stringAt}
 use Rattle.unicode.specs.White.{trimmed, Trimmed}
 use Rattle.scan.proofs.Every.{by-test}
 use Rattle.track.specs.declared.strings.Span.{Span}
@@ -22,16 +22,15 @@ use Rattle.track.specs.declared.values.Look as values
 use Rattle.track.specs.declared.values.Cue as placed
 use Rattle.track.specs.declared.check.Check.{Check}
 use Rattle.track.specs.Track.{Bytes, Look, Style, Region, Cue, Track}
-use Rattle.track.specs.Tables.{Tables, cell, span, optional, rowsFrom, styleCount, regionCount, cueCount, regionAt, cueAt}
+use Rattle.track.specs.Tables.{Tables, cell, span, optional, rowsFrom, styleCount, regionCount, cueCount, cueAt}
 use Rattle.track.specs.Meaning.{bytesAt, given, lookIn, regionIn, cueIn, trackAt, trackIn}
 use Rattle.track.proofs.ShownLaws.{regions-in, cues-in}
-use Rattle.records.specs.Find.{findRegion}
-use Rattle.styles.specs.declared.apply.Walk.{Walk}
+use Rattle.records.specs.Find.{findStyle, findRegion}
 use Rattle.styles.specs.declared.apply.Applied.{Applied}
-use Rattle.styles.specs.Reaches.{Reaches, Exactly}
-use Rattle.styles.specs.Values.{laidOver, blank, unstyled}
+use Rattle.styles.specs.Reaches.{Reaches}
+use Rattle.styles.specs.Values.{laidOver}
 use Rattle.styles.specs.Resolve.{Resolution, resolve}
-use Rattle.styles.specs.Own.{Read, is, refused, next}
+use Rattle.styles.specs.Own.{is, next}
 use Rattle.styles.specs.Queries.{
   nothing,
   resolveOptional,
@@ -41,7 +40,6 @@ use Rattle.styles.specs.Queries.{
   others,
   both,
   regionOptional,
-  cueFound,
   effectiveStyle,
   nth,
 }
@@ -49,7 +47,7 @@ use Rattle.styles.specs.Cells.{blankLook, Tidy}
 use Rattle.styles.specs.Ids.{Row, namesOf, rowsIn}
 use Rattle.styles.specs.Places.{row, WalkedAt, startAt, Resolves}
 use Rattle.styles.specs.Steps as styles
-use Rattle.styles.specs.Steps.{stylesIn, stateAt, AnswerPost, Stood}
+use Rattle.styles.specs.Steps.{stylesIn, stateAt, AnswerPost}
 use Rattle.styles.proofs.Along.{over-kept, part-length}
 use Rattle.styles.proofs.Answering.{resolve-nothing}
 use Rattle.styles.proofs.Theorem.{resolve-answers}
@@ -58,26 +56,24 @@ use Rattle.styles.proofs.Whole.{styles-whole}
 use Rattle.queries.specs.declared.query.Resolved.{Resolved}
 use Rattle.queries.specs.declared.region.Part.{Part}
 use Rattle.queries.specs.declared.region.PartRead.{PartRead}
-use Rattle.queries.specs.Places.{PlacedValue, PlacedRegion, PlacedCue, past, there}
+use Rattle.queries.specs.Places.{past, there}
 use Rattle.queries.specs.Promise.{
+  numberOf,
+  styleIn,
   trimmedAt,
-  Asked,
-  askedValue,
-  askedRegion,
-  askedCue,
-  ByRegion,
-  ByCue,
+  Query,
+  ofValue,
+  ofRegion,
+  ofCue,
+  Takes,
   Queried,
   ReferencedStyle,
   RegionStyle,
   EffectiveStyle,
 }
 use Rattle.queries.specs.Steps.{
-  SpanIn,
-  regionTables,
   regionsOf,
   partAs,
-  PartPost,
   RegionPost,
   CueRegionPost,
   queryCheck,
@@ -86,7 +82,8 @@ use Rattle.queries.specs.Steps.{
   FinishPost,
 }
 use Rattle.queries.proofs.Regions.{blank-unstyled}
-use Rattle.queries.proofs.Reaching.{region-exactly, cue-exactly}
+use Rattle.queries.proofs.OwnNumbers.{region-refused, cue-refused}
+use Rattle.queries.proofs.Reaching.{Reached, value-reached, region-reached, cue-reached}
 use Rattle.queries.proofs.Promising.{zeros, valued-query, over-query, given-query}
 
 -- ---- strings
@@ -126,52 +123,59 @@ alone styles z look b value =
     ∙ (ap (λ (r : Resolution). both r (resolve styles [])) (own-none z (resolve styles value)) ∙ both-none styles (resolve styles value))
 
 -- ---- from what is left to the promise
-module _ (text : Bytes) (T : Tables) (lent : List ℕ) (ask : Asked) (reached : Track Bytes → Bytes → Type 0)
-    (placed : WalkedAt → Type 0) (name : Bytes) (at : Span) (h : queryCheck text T ≡ Check.Track) (first second : Bytes) (look : values.Look)
+module _ (q : Query) (T : Tables) (lent : List ℕ) (h : queryCheck (q .text) T ≡ Check.Track) (first second : Bytes) (look : values.Look)
     (t₁ t₂ t₃ : List ℕ) (cleared : t₁ ≡ replicate (length lent) 0)
   where
     abbrev resolved : Resolution
-    resolved = styles.answerOf text (T .styles) (T .sizes) (T .strings) (styleCount (T .head)) first second t₁ t₂ look (T .extras)
+    resolved = styles.answerOf (q .text) (T .styles) (T .sizes) (T .strings) (styleCount (T .head)) first second t₁ t₂ look (T .extras)
 
     as-long : length t₁ ≡ length lent
     as-long = rw cleared (length-replicate {A = ℕ} (length lent) 0)
 
-    pub asked : ask (trackAt T) ≡ is resolved → Exactly (reached (trackAt T)) (resolved .ids) → Tidy look
-        → bytesAt text at ≡ name → (one two : Row)
-        → ((v : WalkedAt) → Resolves text (T .styles) (T .sizes) (T .strings) (styleCount (T .head)) one two look v → placed v)
+    pub asked : q .asks (trackAt T) ≡ is resolved → Reached q (trackAt T) resolved → Tidy look
+        → bytesAt (q .text) (q .at) ≡ q .name → (one two : Row)
+        → ((v : WalkedAt) → Resolves (q .text) (T .styles) (T .sizes) (T .strings) (styleCount (T .head)) one two look v → q .walks T v)
         → (walked : Applied) (answer : Resolved)
-        → AnswerPost text (T .styles) (T .sizes) (T .strings) (styleCount (T .head)) first second t₁ t₂ look one two walked
-        → FinishPost at walked t₂ t₃ answer → Queried text T lent ask reached placed name at answer t₃
-    asked e x tidy n one two q (Applied.Done w) answer a f =
+        → AnswerPost (q .text) (T .styles) (T .sizes) (T .strings) (styleCount (T .head)) first second t₁ t₂ look one two walked
+        → FinishPost (q .at) walked t₂ t₃ answer → Queried q T lent answer t₃
+    asked e x tidy n one two p (Applied.Done w) answer a f =
         rw (f .0, f .1)
-        (given-query text T lent ask reached placed name at h resolved e x t₂ (a .kept ∙ as-long) w (a .style (T .extras)) (a .ids (T .extras))
-        (a .tidy tidy) (a .stood) (a .behind) (q (stateAt t₂ w) (a .placed)) n)
-    asked e x tidy n one two q Applied.Full answer a f =
+        (given-query q T lent h resolved e x t₂ (a .kept ∙ as-long) w (a .style (T .extras)) (a .ids (T .extras)) (a .tidy tidy) (a .stood)
+        (a .behind) (p (stateAt t₂ w) (a .placed)) n)
+    asked e x tidy n one two p Applied.Full answer a f =
         rw (f .0)
-        (over-query text T lent ask reached placed name at h resolved e (over-kept lent t₁ (resolved .ids) as-long (a .over (T .extras))) t₃
-        (rw (a .kept ∙ as-long) at (f .1)))
+        (over-query q T lent h resolved e (over-kept lent t₁ (resolved .ids) as-long (a .over (T .extras))) t₃ (rw (a .kept ∙ as-long) at (f .1)))
 
 -- ---- a value
 module _ (value : Bytes) (T : Tables) (lent : List ℕ) where
-  pub referenced : (answer : Resolved) (left : List ℕ)
-      → Queried value T lent (askedValue value) (λ k. Reaches (k .styles) value) (PlacedValue value T) (trimmed value) (trimmedAt value) answer left
-      → ReferencedStyle value T lent answer left
+  pub referenced : (answer : Resolved) (left : List ℕ) → Queried (ofValue value) T lent answer left → ReferencedStyle value T lent answer left
   referenced answer left q = record {
     queried = q;
-    no-style = λ n k e.
-        let s = q .style n k e (resolve (k .styles) value) refl in
-        let a = resolve-answers (k .styles) value .no-style in
-        (λ x. a .0 (sym s ∙ x), λ x. s ∙ a .1 x);
+    no-style = λ n k e. styled n k e (q .taken .0 n);
   }
+    where
+      styled : numberOf answer ≡ 0 → (k : Track Bytes) → trackIn T ≡ some k
+          → ((k : Track Bytes) × (r : Resolution) × Takes (ofValue value) T lent k r)
+          → (styleIn (T .strings) answer ≡ none) ↔ ((a : Bytes) → Reaches (k .styles) value a → findStyle a (k .styles) ≡ none)
+      styled n k e (j, r, t) =
+          let u : some j ≡ some k = sym (t .askable .means) ∙ e in
+          let v : j ≡ k = cc in
+          let w : is (resolve (j .styles) value) ≡ is r = t .asked in
+          let x : r ≡ resolve (k .styles) value = same v w in
+          let s = q .gives j r t .style ∙ ap (λ (y : Resolution). y .style) x in
+          let a = resolve-answers (k .styles) value .no-style in
+          (λ y. a .0 (sym s ∙ y), λ y. s ∙ a .1 y)
+        where
+          same : {j k : Track Bytes} {r : Resolution} → j ≡ k → is (resolve (j .styles) value) ≡ is r → r ≡ resolve (k .styles) value
+          same {j} {k} {r} v w = let x : r ≡ resolve (j .styles) value = cc in x ∙ ap (λ (y : Track Bytes). resolve (y .styles) value) v
 
   module _ (h : queryCheck value T ≡ Check.Track) (look : values.Look) (blank-look : look ≡ blankLook) (t₁ t₂ t₃ : List ℕ)
       (cleared : t₁ ≡ replicate (length lent) 0) where
     abbrev value-answer : Resolution
     value-answer =
-        resolved value T lent (askedValue value) (λ k. Reaches (k .styles) value) (PlacedValue value T) (trimmed value) (trimmedAt value) h
-        value [] look t₁ t₂ t₃ cleared
+        resolved (ofValue value) T lent h value [] look t₁ t₂ t₃ cleared
 
-    same-value : askedValue value (trackAt T) ≡ is value-answer
+    same-value : is (resolve (trackAt T .styles) value) ≡ is value-answer
     same-value =
         ap (λ (s : List (Style Bytes)). is (resolve s value)) (sym (styles-whole T))
         ∙ ap is (sym (alone (stylesIn (T .styles) (T .sizes) (T .extras) (T .strings) (styleCount (T .head))) (T .strings) look blank-look value))
@@ -181,18 +185,13 @@ module _ (value : Bytes) (T : Tables) (lent : List ℕ) where
         (row 1 (span 0 0)) walked
         → FinishPost (span b (e - b)) walked t₂ t₃ answer → ReferencedStyle value T lent answer t₃
     value-asked b e trim walked answer a f =
-        let q : resolve (trackAt T .styles) value ≡ value-answer = unread same-value in
         let p : span b (e - b) ≡ trimmedAt value = trimmed-at value b e trim in
         let n : bytesAt value (span b (e - b)) ≡ trimmed value = name-trimmed value b e trim in
         referenced answer t₃
-        (asked value T lent (askedValue value) (λ k. Reaches (k .styles) value) (PlacedValue value T) (trimmed value) (trimmedAt value) h
-        value [] look t₁ t₂ t₃ cleared same-value
-        (rw (ap (λ (r : Resolution). r .ids) q) at (resolve-answers (trackAt T .styles) value .ids-reached)) (rw blank-look tidy-blank)
+        (asked (ofValue value) T lent h value [] look t₁ t₂ t₃ cleared same-value
+        (value-reached (trackAt T) value-answer value same-value) (rw blank-look tidy-blank)
         (ap (bytesAt value) (sym p) ∙ n) (row 0 (span 0 (length value))) (row 1 (span 0 0)) (λ v d. rw blank-look at d) walked answer a
         (subst (λ (s : Span). FinishPost s walked t₂ t₃ answer) p f))
-      where
-        unread : {a b : Resolution} → is a ≡ is b → a ≡ b
-        unread e = cc
 
 -- ---- a region
 regions-whole : (T : Tables) → regionsOf (T .regions) (T .extras) (T .strings) (regionCount (T .head)) ≡ trackAt T .regions
@@ -206,24 +205,24 @@ module _ (id : Bytes) (T : Tables) (lent : List ℕ) (h : queryCheck id T ≡ Ch
   regions-are styles = ap (λ (l : List (Region Bytes)). regionFound styles (findRegion id l)) (regions-whole T)
 
   asks-region : (r : PartRead) → RegionPost (T .regions) (T .extras) (T .strings) (regionCount (T .head)) id r
-      → askedRegion id (trackAt T) ≡ partAs (T .strings) (trackAt T .styles) r
+      → regionStyle (trackAt T) id ≡ partAs (T .strings) (trackAt T .styles) r
   unfolding regionStyle
   asks-region r p = sym (p .is (trackAt T .styles) ∙ regions-are (trackAt T .styles))
 
   pub region-refuses : (n : ℕ) → RegionPost (T .regions) (T .extras) (T .strings) (regionCount (T .head)) id (PartRead.Refused n)
       → (left : List ℕ) → left ≡ replicate (length lent) 0 → RegionStyle id T lent (refusedAs n) left
   region-refuses n p left z =
-      valued-query id T lent (askedRegion id) (λ k. ByRegion k id) (PlacedRegion id T) id (span 0 (length id)) h n
-      (asks-region (PartRead.Refused n) p) (p .within) left z
+      let e = asks-region (PartRead.Refused n) p in
+      valued-query (ofRegion id) T lent h n e (region-refused (trackAt T) id e) left z
 
   module _ (x : Part) (p : RegionPost (T .regions) (T .extras) (T .strings) (regionCount (T .head)) id (PartRead.Is x)) (t₁ t₂ t₃ : List ℕ)
       (cleared : t₁ ≡ replicate (length lent) 0) where
     abbrev answer-to : Resolution
     answer-to =
-        resolved id T lent (askedRegion id) (λ k. ByRegion k id) (PlacedRegion id T) id (span 0 (length id)) h
+        resolved (ofRegion id) T lent h
         (bytesAt (T .strings) (x .chain)) [] (x .look) t₁ t₂ t₃ cleared
 
-    same-region : askedRegion id (trackAt T) ≡ is answer-to
+    same-region : regionStyle (trackAt T) id ≡ is answer-to
     same-region =
         let S : List (Style Bytes) = stylesIn (T .styles) (T .sizes) (T .extras) (T .strings) (styleCount (T .head)) in
         asks-region (PartRead.Is x) p
@@ -235,9 +234,9 @@ module _ (id : Bytes) (T : Tables) (lent : List ℕ) (h : queryCheck id T ≡ Ch
         (row 1 (x .chain)) (row 1 (span 0 0)) walked
         → FinishPost (span 0 (length id)) walked t₂ t₃ answer → RegionStyle id T lent answer t₃
     region-asked walked answer a f =
-        asked id T lent (askedRegion id) (λ k. ByRegion k id) (PlacedRegion id T) id (span 0 (length id)) h
+        asked (ofRegion id) T lent h
         (bytesAt (T .strings) (x .chain)) [] (x .look) t₁ t₂ t₃ cleared same-region
-        (region-exactly (trackAt T) id answer-to same-region) (p .within .1) (whole id) (row 1 (x .chain)) (row 1 (span 0 0))
+        (region-reached (trackAt T) answer-to id same-region) (p .within .1) (whole id) (row 1 (x .chain)) (row 1 (span 0 0))
         (λ v d. record { region = x; said = p .placed; resolved = d }) walked answer a f
 
 -- ---- a cue
@@ -257,15 +256,15 @@ nth-past f (suc n) j zero l = absurd (omega arith)
 nth-past f (suc n) j (suc i) l = nth-past f n (j + 1) i (omega arith)
 
 module _ (T : Tables) (i : ℕ) (lent : List ℕ) (h : queryCheck [] T ≡ Check.Track) where
-  none-there : cueCount (T .head) ≤ i → askedCue i (trackAt T) ≡ is nothing
+  none-there : cueCount (T .head) ≤ i → effectiveStyle (trackAt T) i ≡ is nothing
   unfolding effectiveStyle
   none-there l = rw (cues-in T, nth-past (cueIn T) (cueCount (T .head)) 0 i l)
 
   pub cue-past : cueCount (T .head) ≤ i → (left : List ℕ) → left ≡ replicate (length lent) 0 → EffectiveStyle T i lent (Resolved.NoStyle 0) left
   unfolding nothing namesOf rowsIn rowsFrom stringAt startAt
   cue-past l left z =
-      given-query [] T lent (askedCue i) (λ k. ByCue k i) (PlacedCue T i) [] (span 0 0) h nothing (none-there l)
-      (cue-exactly (trackAt T) i nothing (none-there l)) left
+      given-query (ofCue i) T lent h nothing (none-there l)
+      (cue-reached (trackAt T) nothing i (none-there l)) left
       (rw z (length-replicate {A = ℕ} (length lent) 0)) (record { count = 0; found = false; look = blankLook }) refl refl tidy-blank
       (record { fits = omega arith; few = omega arith; rows = λ j b. absurd (omega arith); marks = λ j b. absurd (omega arith) })
       (λ c b. rw z (zeros (length lent) c)) (past l refl) refl
@@ -296,7 +295,7 @@ module _ (T : Tables) (i : ℕ) (lent : List ℕ) (h : queryCheck [] T ≡ Check
         by-test (eqb (getD (T .cues) (i * 11 + 0) 0) 1) (λ e. rw e) (λ e. rw (e, no-bytes (T .strings)) (sym (resolve-nothing styles)))
 
     asks-cue : (r : PartRead) → CueRegionPost (T .regions) (T .extras) (T .strings) (regionCount (T .head)) (cue .«has_region») (cue .region) r
-        → askedCue i (trackAt T) ≡ next (partAs (T .strings) (trackAt T .styles) r)
+        → effectiveStyle (trackAt T) i ≡ next (partAs (T .strings) (trackAt T .styles) r)
         (λ s. is (both s (resolve (trackAt T .styles) (bytesAt (T .strings) (cue .style)))))
     unfolding effectiveStyle cueIn
     asks-cue r p =
@@ -312,16 +311,17 @@ module _ (T : Tables) (i : ℕ) (lent : List ℕ) (h : queryCheck [] T ≡ Check
         (PartRead.Refused n)
         → (left : List ℕ) → left ≡ replicate (length lent) 0 → EffectiveStyle T i lent (refusedAs n) left
     cue-refuses n p left z =
-        valued-query [] T lent (askedCue i) (λ k. ByCue k i) (PlacedCue T i) [] (span 0 0) h n (asks-cue (PartRead.Refused n) p) (p .within) left z
+        let e = asks-cue (PartRead.Refused n) p in
+        valued-query (ofCue i) T lent h n e (cue-refused (trackAt T) i e) left z
 
     module _ (x : Part)
         (p : CueRegionPost (T .regions) (T .extras) (T .strings) (regionCount (T .head)) (cue .«has_region») (cue .region) (PartRead.Is x))
         (t₁ t₂ t₃ : List ℕ) (cleared : t₁ ≡ replicate (length lent) 0) where
       abbrev cue-answer : Resolution
-      cue-answer = resolved [] T lent (askedCue i) (λ k. ByCue k i) (PlacedCue T i) [] (span 0 0) h (bytesAt (T .strings) (x .chain))
+      cue-answer = resolved (ofCue i) T lent h (bytesAt (T .strings) (x .chain))
           (bytesAt (T .strings) (cue .style)) (x .look) t₁ t₂ t₃ cleared
 
-      same-cue : askedCue i (trackAt T) ≡ is cue-answer
+      same-cue : effectiveStyle (trackAt T) i ≡ is cue-answer
       same-cue =
           asks-cue (PartRead.Is x) p
           ∙ ap (λ (s : List (Style Bytes)). next (partAs (T .strings) s (PartRead.Is x)) (λ r. is (both r (resolve s (bytesAt (T .strings) (cue
@@ -333,7 +333,7 @@ module _ (T : Tables) (i : ℕ) (lent : List ℕ) (h : queryCheck [] T ≡ Check
           .style)) t₁ t₂ (x .look) (row 1 (x .chain)) (row 1 (cue .style)) walked
           → FinishPost (span 0 0) walked t₂ t₃ answer → EffectiveStyle T i lent answer t₃
       cue-asked walked answer a f =
-          asked [] T lent (askedCue i) (λ k. ByCue k i) (PlacedCue T i) [] (span 0 0) h (bytesAt (T .strings) (x .chain))
+          asked (ofCue i) T lent h (bytesAt (T .strings) (x .chain))
           (bytesAt (T .strings) (cue .style)) (x .look) t₁ t₂ t₃ cleared
-          same-cue (cue-exactly (trackAt T) i cue-answer same-cue) (p .within .1) (no-bytes []) (row 1 (x .chain)) (row 1 (cue .style))
+          same-cue (cue-reached (trackAt T) cue-answer i same-cue) (p .within .1) (no-bytes []) (row 1 (x .chain)) (row 1 (cue .style))
           (λ v d. there l (record { region = x; said = p .placed; resolved = d })) walked answer a f

@@ -3,6 +3,7 @@ pub mod Numbered
 pub mod Owning
 pub mod Regions
 pub mod Handed
+pub mod OwnNumbers
 pub mod Reaching
 pub mod Promising
 pub mod Asking

@@ -1,42 +1,42 @@
 -- From what the inner functions leave to the promise. Assumes nothing.
---     check-number, check-good, check-taken, check-none     what the check says of the number
---     refused-query                                         a refusal
---     over-query                                            18
---     given-query                                           a style, or none
-use Prim.Native.Nat.{ℕ, zero, suc, _+_, _*_, _≤_, _<_}
-use mathlib.Core.Path.{_≡_, refl, sym, ap, _∙_}
+--     check-taken, check-none-asked     what the check says
+--     finish-none, finish-some          the end
+--     table-is                          the table of ids, from its cells
+--     refused-query, checked-query, valued-query, over-query, given-query     a refusal by any number, by the check, by a value, 18; a style, or none
+use Prim.Native.Nat.{ℕ, zero, suc, _+_, _-_, _*_, _≤_, _<_}
+use mathlib.Core.Path.{_≡_, refl, sym, ap, ap₂, subst, _∙_}
 use mathlib.Core.Bool.{Bool, true, false, cond, _||_}
 use mathlib.Core.Logic.{_⊎_, inl, inr}
 use mathlib.Core.List.{List, [], _∷_, _++_}
 use mathlib.Core.Option.{Option, none, some}
 use native.Mathlib.Omega.{arith}
-use lib.ListN.{length, getD, replicate, length-replicate}
-use lib.Dec.{eqb, leb, ltb}
-use borrow.Author.Tests.{eq-eqb, ne-eqb, leb-true, lt-ltb, ltb-true, ltb-false}
+use lib.ListN.{length, getD, replicate}
+use lib.Dec.{leb, ltb}
+use borrow.Author.Tests.{eq-eqb, ne-eqb, eqb-true, le-leb, leb-true, leb-false, lt-ltb, ltb-true}
 use Rattle.scan.specs.Loop.{loop, go}
-use Rattle.unicode.specs.Utf8.{utf8End, LongestValid}
+use Rattle.unicode.specs.Utf8.{Utf8, utf8End, LongestValid}
+use Rattle.unicode.proofs.Utf8Laws.{utf8-end, end-utf8}
 use Rattle.scan.proofs.Every.{by-test}
 use Rattle.decimals.proofs.Tests.{no}
 use Rattle.tree.specs.declared.answers.Refusal.{Refusal}
 use Rattle.track.specs.declared.strings.Span.{Span}
 use Rattle.track.specs.declared.check.Check.{Check}
-use Rattle.track.specs.Track.{Bytes, Look, Track}
-use Rattle.track.specs.Tables.{Tables}
-use Rattle.track.specs.Meaning.{isUtf8, isTrack, bytesAt, lookIn, trackAt, trackIn}
+use Rattle.track.specs.Track.{Bytes, Track}
+use Rattle.track.specs.Tables.{Tables, rowsFrom}
+use Rattle.track.specs.Meaning.{isUtf8, isTrack, bytesAt, trackAt, trackIn}
 use Rattle.track.specs.Check as track
 use Rattle.track.specs.Check.{isFull, checkOf}
+use Rattle.track.proofs.Answers.{long-full, full-long}
 use Rattle.track.proofs.Exactly.{track-some, track-none, check-short, check-none, check-track}
 use Rattle.styles.specs.declared.apply.Walk.{Walk}
 use Rattle.styles.specs.declared.apply.Applied.{Applied}
-use Rattle.styles.specs.Reaches.{Distinct, Exactly}
 use Rattle.styles.specs.Resolve.{Resolution}
 use Rattle.styles.specs.Own.{Read, is, refused}
 use Rattle.styles.specs.Cells.{Tidy}
-use Rattle.styles.specs.Ids.{rowsIn, idsIn, RowWithin}
-use Rattle.styles.specs.Places.{WalkedAt}
+use Rattle.styles.specs.Ids.{Row, rowAt, rowsIn, idsIn}
 use Rattle.styles.specs.Steps.{stateAt, Over, styleOf, Stood}
 use Rattle.styles.proofs.Members.{same-count}
-use Rattle.styles.proofs.Places.{rows-count, ids-length, distinct-rows}
+use Rattle.styles.proofs.Places.{rows-count, ids-length}
 use Rattle.queries.specs.declared.query.Resolved.{Resolved}
 use Rattle.queries.specs.Promise.{
   numberOf,
@@ -46,33 +46,51 @@ use Rattle.queries.specs.Promise.{
   styleIn,
   AbsentZero,
   Asked,
-  isOver,
-  lastNumber,
-  trackNumber,
-  numberFor,
-  Placed,
+  Askable,
+  Query,
+  idCells,
+  idTable,
+  TurnsAway,
+  short-table,
+  long-text,
+  not-utf8,
+  no-track,
+  own-size,
+  own-color,
+  too-many,
+  Takes,
+  Gives,
   Queried,
 }
 use Rattle.queries.specs.Steps.{checkRest, checkText, queryCheck, answerOf, FinishPost}
 use Rattle.queries.proofs.Handed.{Accepted}
+use Rattle.queries.proofs.Reaching.{Reached}
 
 -- ---- the check
 module _ (text : Bytes) (r : ℕ) (l : LongestValid text r) where
-  pub not-utf8 : r < length text → isUtf8 text ≡ false
+  pub is-broken : r < length text → isUtf8 text ≡ false
   unfolding isUtf8
-  not-utf8 h = ne-eqb (utf8End text) (length text) (λ e. omega (arith, l .is))
+  is-broken h = ne-eqb (utf8End text) (length text) (λ e. omega (arith, l .is))
 
   pub is-utf8 : length text ≤ r → isUtf8 text ≡ true
   unfolding isUtf8
   is-utf8 h = eq-eqb (utf8End text) (length text) (omega (arith, l .is, l .within-text))
 
-abbrev afterCheck : Check → ℕ → ℕ
-afterCheck Check.Track n = n
-afterCheck (Check.Refused r) n = r .number
+-- the test on the text, and what it tests
+module _ (text : Bytes) where
+  valid-test : Utf8 text → isUtf8 text ≡ true
+  unfolding isUtf8
+  valid-test u = eq-eqb (utf8End text) (length text) (utf8-end text u)
 
-abbrev pub Good : Check → Type 0
-Good Check.Track = Unit {0}
-Good (Check.Refused r) = (r .place ≡ 0) × (0 < r .number)
+  test-valid : isUtf8 text ≡ true → Utf8 text
+  unfolding isUtf8
+  test-valid e = end-utf8 text (eqb-true (utf8End text) (length text) e)
+
+  broken-test : ¬ Utf8 text → isUtf8 text ≡ false
+  broken-test n = by-test (isUtf8 text) (λ e. absurd (n (test-valid e))) (λ e. e)
+
+  test-broken : isUtf8 text ≡ false → ¬ Utf8 text
+  test-broken e u = no (sym (valid-test u) ∙ e)
 
 module _ (text : Bytes) (T : Tables) where
   -- what is answered, test by test
@@ -114,31 +132,16 @@ module _ (text : Bytes) (T : Tables) where
       (λ l. rw (long f l) (b f l)))
       (λ f. rw (short f) (a f))
 
-  pub check-number : (lent : List ℕ) (ask : Asked) → numberFor text T lent ask ≡ afterCheck (queryCheck text T) (lastNumber lent (ask (trackAt T)))
-  unfolding numberFor trackNumber
-  check-number lent ask =
-      ways (λ (c : Check). numberFor text T lent ask ≡ afterCheck c (lastNumber lent (ask (trackAt T))))
-      (λ f. rw f)
-      (λ f l. rw (f, l))
-      (λ f l u. rw (f, l, u))
-      (λ f l u t. rw (f, l, u, track-none T t))
-      (λ f l u t. rw (f, l, u, track-some T t))
-
-  pub check-good : Good (queryCheck text T)
-  check-good =
-      ways Good (λ f. (refl, omega arith)) (λ f l. (refl, omega arith)) (λ f l u. (refl, omega arith)) (λ f l u t. (refl, omega arith)) (λ f l u
-      t. tt)
-
   abbrev Taken : Check → Type 0
-  Taken Check.Track = Accepted T × (length text ≤ 65536)
+  Taken Check.Track = Accepted T × (length text ≤ 65536) × (isUtf8 text ≡ true)
   Taken (Check.Refused r) = Unit {0}
 
   taken : Taken (queryCheck text T)
   taken =
       ways Taken (λ f. tt) (λ f l. tt) (λ f l u. tt) (λ f l u t. tt)
-      (λ f l u t. (record { full = f; is-track = t }, leb-true (length text) 65536 l))
+      (λ f l u t. (record { full = f; is-track = t }, leb-true (length text) 65536 l, u))
 
-  pub check-taken : queryCheck text T ≡ Check.Track → Accepted T × (length text ≤ 65536)
+  pub check-taken : queryCheck text T ≡ Check.Track → Accepted T × (length text ≤ 65536) × (isUtf8 text ≡ true)
   check-taken h = rw h at taken
 
 -- no text is asked for
@@ -157,134 +160,240 @@ module _ (name : Span) (w : Walk) (t : List ℕ) where
       → FinishPost name (Applied.Done w) t t (Resolved.Style (record { name = name; look = w .look; ids = w .count }))
   finish-some h = (rw h, refl)
 
--- ---- the promise
+-- ---- the table of ids
 pub zeros : (n i : ℕ) → _≡_ {A = ℕ} (getD (replicate n 0) i 0) 0
 zeros zero i = refl
 zeros (suc n) zero = refl
 zeros (suc n) (suc i) = zeros n i
 
+all-zero : (t : List ℕ) → ((c : ℕ) → getD t c 0 ≡ 0) → t ≡ replicate (length t) 0
+all-zero [] h = refl
+all-zero (a ∷ t) h = let e : a ≡ 0 = h 0 in rw e (ap (λ (l : List ℕ). 0 ∷ l) (all-zero t (λ c. h (suc c))))
+
+module _ (a b c d : ℕ) (t : List ℕ) where
+  row-on : (j : ℕ) → rowAt (a ∷ b ∷ c ∷ d ∷ t) (suc j) ≡ rowAt t j
+  unfolding rowAt
+  row-on j =
+      let e : suc j * 4 ≡ suc (suc (suc (suc (j * 4)))) = omega arith in
+      let f : suc j * 4 + 1 ≡ suc (suc (suc (suc (j * 4 + 1)))) = omega arith in
+      let g : suc j * 4 + 2 ≡ suc (suc (suc (suc (j * 4 + 2)))) = omega arith in
+      rw (f, g, e)
+
+  rows-on : (n j : ℕ) → rowsFrom (rowAt (a ∷ b ∷ c ∷ d ∷ t)) n (suc j) ≡ rowsFrom (rowAt t) n j
+  unfolding rowsFrom
+  rows-on zero j = refl
+  rows-on (suc n) j =
+      let e : suc j + 1 ≡ suc (j + 1) = omega arith in
+      rw (row-on j, e) (ap (λ (l : List Row). rowAt t j ∷ l) (rows-on n (j + 1)))
+
+-- n rows with nothing in their last cell, and nothing behind them
+pub table-is : (n : ℕ) (t : List ℕ) → n * 4 ≤ length t → ((i : ℕ) → i < n → getD t (i * 4 + 3) 0 ≡ 0) → ((c : ℕ) → n * 4 ≤ c → getD t c 0 ≡ 0)
+    → t ≡ idCells (rowsIn t n) ++ replicate (length t - n * 4) 0
+unfolding rowsIn rowsFrom rowAt idCells
+table-is zero t h m b =
+    let e : length t ≡ length t - 0 * 4 = omega arith in
+    all-zero t (λ c. b c (omega arith)) ∙ ap (λ (n : ℕ). replicate {A = ℕ} n 0) e
+table-is (suc n) [] h m b = absurd (omega arith)
+table-is (suc n) (x ∷ []) h m b = absurd (omega arith)
+table-is (suc n) (x ∷ y ∷ []) h m b = absurd (omega arith)
+table-is (suc n) (x ∷ y ∷ z ∷ []) h m b = absurd (omega arith)
+table-is (suc n) (x ∷ y ∷ z ∷ v ∷ t) h m b =
+    let e : v ≡ 0 = m 0 (omega arith) in
+    let k = table-is n t (omega arith) (λ i l. marked i l) (λ c l. behind c l) in
+    let o : length t - n * 4 ≡ length (x ∷ y ∷ z ∷ v ∷ t) - suc n * 4 = omega arith in
+    ap (λ (u : ℕ). x ∷ y ∷ z ∷ u ∷ t) e
+    ∙ (ap (λ (l : List ℕ). x ∷ y ∷ z ∷ 0 ∷ l) k
+    ∙ ap₂ (λ (l : List Row) (u : ℕ). x ∷ y ∷ z ∷ 0 ∷ (idCells l ++ replicate {A = ℕ} u 0)) (sym (rows-on x y z v t n 0)) o)
+  where
+    marked : (i : ℕ) → i < n → getD t (i * 4 + 3) 0 ≡ 0
+    marked i l = let e : suc i * 4 + 3 ≡ suc (suc (suc (suc (i * 4 + 3)))) = omega arith in rw e at (m (suc i) (omega arith))
+
+    behind : (c : ℕ) → n * 4 ≤ c → getD t c 0 ≡ 0
+    behind c l = b (suc (suc (suc (suc c)))) (omega arith)
+
+-- ---- the numbers: which one is met, as a function of the tests
+isOver : List ℕ → List Bytes → Bool
+isOver lent ids = ltb (length lent) (length ids * 4) || ltb 65536 (length ids)
+
+module _ (lent : List ℕ) (ids : List Bytes) where
+  is-over : Over lent ids → isOver lent ids ≡ true
+  unfolding isOver
+  is-over (inl o) = rw (lt-ltb (length lent) (length ids * 4) o)
+  is-over (inr o) = by-test (ltb (length lent) (length ids * 4)) (λ t. rw t) (λ t. rw (t, lt-ltb 65536 (length ids) o))
+
+  not-over : length ids * 4 ≤ length lent → length ids ≤ 65536 → isOver lent ids ≡ false
+  unfolding isOver
+  not-over a b =
+      by-test (ltb (length lent) (length ids * 4)) (λ t. absurd (omega (arith, ltb-true (length lent) (length ids * 4) t)))
+      (λ t. rw t (by-test (ltb 65536 (length ids)) (λ u. absurd (omega (arith, ltb-true 65536 (length ids) u))) (λ u. u)))
+
+lastMet : List ℕ → Read Resolution → Option ℕ
+lastMet lent (refused n) = some n
+lastMet lent (is r) = cond (isOver lent (r .ids)) (some 18) none
+
+trackMet : List ℕ → Asked → Option (Track Bytes) → Option ℕ
+trackMet lent ask none = some 17
+trackMet lent ask (some k) = lastMet lent (ask k)
+
+met : Query → Tables → List ℕ → Option ℕ
+met q T lent =
+    cond (isFull T) (cond (leb (length (q .text)) 65536) (cond (isUtf8 (q .text)) (trackMet lent (q .asks) (trackIn T)) (some 3)) (some 2)) (some 1)
+
+no-name : {A : Type 0} {B : Type 0} {b : B} → none ≡ some b → A
+no-name e = let z : _≡_ {A = ℕ} 0 1 = cc in absurd (omega arith)
+
 never : {A : Type 0} {n : ℕ} → 0 < n → n ≡ 0 → A
 never p e = absurd (omega arith)
 
-no-name : {A : Type 0} {b : Bytes} → none ≡ some b → A
-no-name e = let z : _≡_ {A = ℕ} 0 1 = cc in absurd (omega arith)
+module _ (q : Query) (T : Tables) (lent : List ℕ) where
+  asks-met : {k : Track Bytes} → Askable (q .text) T k → met q T lent ≡ lastMet lent (q .asks k)
+  unfolding met trackMet
+  asks-met h = rw (long-full T (h .long-enough), le-leb (length (q .text)) 65536 (h .short), valid-test (q .text) (h .valid), h .means)
 
-module _ (text : Bytes) (T : Tables) (lent : List ℕ) (ask : Asked) (reached : Track Bytes → Bytes → Type 0)
-    (placed : WalkedAt → Type 0) (name : Bytes) (at : Span) where
-  pub refused-query : (r : Refusal) → r .place ≡ 0 → 0 < r .number → r .number ≡ numberFor text T lent ask
-      → (left : List ℕ) → left ≡ replicate (length lent) 0 → Queried text T lent ask reached placed name at (Resolved.Refused r) left
-  unfolding numberOf placeOf countOf nameIn styleIn
-  refused-query r p g n left z = record {
-    number = n;
-    place = p;
-    style = λ e. never g e;
-    named = λ b h. no-name h;
-    absent = tt;
-    ids = λ e. never g e;
-    count = λ e. never g e;
-    cells = λ e. never g e;
-    fits = λ e. never g e;
-    rows = λ e. never g e;
-    marks = λ i. rw z (zeros (length lent) (i * 4 + 3));
-    unused = λ c l. rw z (zeros (length lent) c);
-    as-long = rw z (length-replicate {A = ℕ} (length lent) 0);
+  away-met : {n p : ℕ} → TurnsAway q T lent n p → met q T lent ≡ some n
+  unfolding met trackMet lastMet
+  away-met (short-table h) = by-test (isFull T) (λ f. absurd (h (full-long T f))) (λ f. rw f)
+  away-met (long-text l h) =
+      by-test (leb (length (q .text)) 65536) (λ t. absurd (omega (arith, leb-true (length (q .text)) 65536 t))) (λ t. rw (long-full T l, t))
+  away-met (not-utf8 l s u) = rw (long-full T l, le-leb (length (q .text)) 65536 s, broken-test (q .text) u)
+  away-met (no-track l s u e) = rw (long-full T l, le-leb (length (q .text)) 65536 s, valid-test (q .text) u, e)
+  away-met (own-size h e) = asks-met h ∙ rw e
+  away-met (own-color h e) = asks-met h ∙ rw e
+  away-met (too-many {r = r} h e o) = asks-met h ∙ rw (e, is-over lent (r .ids) o)
+
+  away-place : {n p : ℕ} → TurnsAway q T lent n p → p ≡ 0
+  away-place (short-table h) = refl
+  away-place (long-text l h) = refl
+  away-place (not-utf8 l s u) = refl
+  away-place (no-track l s u e) = refl
+  away-place (own-size h e) = refl
+  away-place (own-color h e) = refl
+  away-place (too-many h e o) = refl
+
+  takes-met : {k : Track Bytes} {r : Resolution} → Takes q T lent k r → met q T lent ≡ none
+  unfolding lastMet
+  takes-met {r = r} t = asks-met (t .askable) ∙ rw (t .asked, not-over lent (r .ids) (t .rows) (t .few))
+
+  taken-only : {A : Type 0} {k : Track Bytes} {r : Resolution} {n p : ℕ} → Takes q T lent k r → TurnsAway q T lent n p → A
+  taken-only t a = no-name (sym (takes-met t) ∙ away-met a)
+
+  -- ---- the promise
+  -- a refusal
+  pub refused-query : (r : Refusal) → 0 < r .number → TurnsAway q T lent (r .number) (r .place) → (left : List ℕ) → left ≡ replicate (length lent) 0
+      → Queried q T lent (Resolved.Refused r) left
+  unfolding numberOf placeOf
+  refused-query r g w left z = record {
+    taken = (λ e. never g e, λ t. taken-only (t .2) w);
+    gives = λ k x t. taken-only t w;
+    refused = λ n p h. (λ s. moved (s .0) (s .1), λ a. (once a, away-place w ∙ sym (away-place a)));
     cleared = λ h. z;
   }
+    where
+      moved : {n p : ℕ} → r .number ≡ n → r .place ≡ p → TurnsAway q T lent n p
+      moved {n} {p} e f = subst (λ i. TurnsAway q T lent i p) e (subst (λ i. TurnsAway q T lent (r .number) i) f w)
+
+      once : {n p : ℕ} → TurnsAway q T lent n p → r .number ≡ n
+      once {n} a = let e : some (r .number) ≡ some n = sym (away-met w) ∙ away-met a in cc
+
+  abbrev Away : Check → Type 0
+  Away Check.Track = Unit {0}
+  Away (Check.Refused r) = (0 < r .number) × TurnsAway q T lent (r .number) (r .place)
+
+  away : Away (queryCheck (q .text) T)
+  away =
+      ways (q .text) T Away
+      (λ f. (omega arith, short-table (λ l. no (sym (long-full T l) ∙ f))))
+      (λ f l. (omega arith, long-text (full-long T f) (over l)))
+      (λ f l u. (omega arith, not-utf8 (full-long T f) (leb-true (length (q .text)) 65536 l) (test-broken (q .text) u)))
+      (λ f l u t. (omega arith, no-track (full-long T f) (leb-true (length (q .text)) 65536 l) (test-valid (q .text) u) (track-none T t)))
+      (λ f l u t. tt)
+    where
+      over : leb (length (q .text)) 65536 ≡ false → 65536 < length (q .text)
+      over l = leb-false (length (q .text)) 65536 l
 
   -- the check refuses
-  pub checked-query : (r : Refusal) → queryCheck text T ≡ Check.Refused r → (left : List ℕ) → left ≡ replicate (length lent) 0
-      → Queried text T lent ask reached placed name at (Resolved.Refused r) left
-  checked-query r h left z =
-      let g : Good (Check.Refused r) = rw h at (check-good text T) in
-      refused-query r (g .0) (g .1) (sym (check-number text T lent ask ∙ rw h)) left z
+  pub checked-query : (r : Refusal) → queryCheck (q .text) T ≡ Check.Refused r → (left : List ℕ) → left ≡ replicate (length lent) 0
+      → Queried q T lent (Resolved.Refused r) left
+  checked-query r h left z = let w : Away (Check.Refused r) = rw h at away in refused-query r (w .0) (w .1) left z
 
-  module _ (h : queryCheck text T ≡ Check.Track) where
+  module _ (h : queryCheck (q .text) T ≡ Check.Track) where
+    handed : Askable (q .text) T (trackAt T)
+    handed =
+        let a = check-taken (q .text) T h in
+        record { long-enough = full-long T (a .0 .full); short = a .1; valid = test-valid (q .text) (a .2); means = track-some T (a .0 .is-track) }
+
     -- a value of a region refuses
-    pub valued-query : (n : ℕ) → ask (trackAt T) ≡ refused n → 0 < n → (left : List ℕ) → left ≡ replicate (length lent) 0
-        → Queried text T lent ask reached placed name at (Resolved.Refused (record { number = n; place = 0 })) left
-    unfolding lastNumber
-    valued-query n e g left z =
-        refused-query (record { number = n; place = 0 }) refl g (sym (check-number text T lent ask ∙ rw (h, e))) left z
+    pub valued-query : (n : ℕ) → q .asks (trackAt T) ≡ refused n → (n ≡ 14) ⊎ (n ≡ 15) → (left : List ℕ) → left ≡ replicate (length lent) 0
+        → Queried q T lent (Resolved.Refused (record { number = n; place = 0 })) left
+    valued-query n e (inl g) left z =
+        rw g (refused-query (record { number = 14; place = 0 }) (omega arith) (own-size handed (rw g at e)) left z)
+    valued-query n e (inr g) left z =
+        rw g (refused-query (record { number = 15; place = 0 }) (omega arith) (own-color handed (rw g at e)) left z)
 
-    module _ (r : Resolution) (e : ask (trackAt T) ≡ is r) where
-      is-over : Over lent (r .ids) → isOver lent (r .ids) ≡ true
-      unfolding isOver
-      is-over (inl o) = rw (lt-ltb (length lent) (length (r .ids) * 4) o)
-      is-over (inr o) = by-test (ltb (length lent) (length (r .ids) * 4)) (λ t. rw t) (λ t. rw (t, lt-ltb 65536 (length (r .ids)) o))
-
-      not-over : length (r .ids) * 4 ≤ length lent → length (r .ids) ≤ 65536 → isOver lent (r .ids) ≡ false
-      unfolding isOver
-      not-over a b =
-          by-test (ltb (length lent) (length (r .ids) * 4)) (λ t. absurd (omega (arith, ltb-true (length lent) (length (r .ids) * 4) t)))
-          (λ t. rw t (by-test (ltb 65536 (length (r .ids))) (λ u. absurd (omega (arith, ltb-true 65536 (length (r .ids)) u))) (λ u. u)))
-
+    module _ (r : Resolution) (e : q .asks (trackAt T) ≡ is r) where
+      -- 18
       pub over-query : Over lent (r .ids) → (left : List ℕ) → left ≡ replicate (length lent) 0
-          → Queried text T lent ask reached placed name at (Resolved.Refused (record { number = 18; place = 0 })) left
-      unfolding lastNumber
-      over-query o left z =
-          refused-query (record { number = 18; place = 0 }) refl (omega arith) (sym (check-number text T lent ask ∙ rw (h, e, is-over o))) left z
+          → Queried q T lent (Resolved.Refused (record { number = 18; place = 0 })) left
+      over-query o left z = refused-query (record { number = 18; place = 0 }) (omega arith) (too-many handed e o) left z
 
-      module _ (exactly : Exactly (reached (trackAt T)) (r .ids)) (left : List ℕ) (kept : length left ≡ length lent) (w : Walk)
-          (style-is : styleOf (T .strings) w ≡ r .style) (ids-are : idsIn text (T .strings) left (w .count) ≡ r .ids) (tidy : Tidy (w .look))
-          (stood : Stood text (T .strings) left (w .count)) (behind : (c : ℕ) → w .count * 4 ≤ c → getD left c 0 ≡ 0)
-          (walked : placed (stateAt left w))
+      -- a style, or none
+      module _ (reached : Reached q (trackAt T) r) (left : List ℕ) (kept : length left ≡ length lent) (w : Walk)
+          (style-is : styleOf (T .strings) w ≡ r .style) (ids-are : idsIn (q .text) (T .strings) left (w .count) ≡ r .ids) (tidy : Tidy (w .look))
+          (stood : Stood (q .text) (T .strings) left (w .count)) (behind : (c : ℕ) → w .count * 4 ≤ c → getD left c 0 ≡ 0)
+          (walked : q .walks T (stateAt left w))
         where
           many : length (r .ids) ≡ w .count
-          many = rw (← ids-are) (ids-length text (T .strings) left (w .count))
+          many = rw (← ids-are) (ids-length (q .text) (T .strings) left (w .count))
 
-          no-number : numberFor text T lent ask ≡ 0
-          unfolding lastNumber
-          no-number = check-number text T lent ask ∙ rw (h, e, not-over (omega (arith, many, stood .fits, kept)) (omega (arith, many, stood .few)))
+          takes : Takes q T lent (trackAt T) r
+          takes = record { askable = handed; asked = e; rows = omega (arith, many, stood .fits, kept); few = omega (arith, many, stood .few) }
 
-          the-track : (k : Track Bytes) → trackIn T ≡ some k → k ≡ trackAt T
-          the-track k q = let s = track-some T (check-taken text T h .0 .is-track) in cc
+          table : left ≡ idTable (rowsIn left (w .count)) (length lent)
+          table =
+              let t = table-is (w .count) left (stood .fits) (stood .marks) behind in
+              rw (rows-count left (w .count), ← kept) t
 
-          marked : (i : ℕ) → getD left (i * 4 + 3) 0 ≡ 0
-          marked i =
-              by-test (ltb i (w .count)) (λ t. stood .marks i (ltb-true i (w .count) t))
-              (λ t. behind (i * 4 + 3) (omega (arith, ltb-false i (w .count) t)))
-
-          once : Distinct (rowsIn left (w .count))
-          once = distinct-rows text (T .strings) (rowsIn left (w .count)) (rw ids-are (exactly .once))
-
-          as-placed : (answer : Resolved) → countOf answer ≡ w .count → answer ≡ answerOf at w → Placed placed at answer left
-          as-placed answer c e = record {
-            walked = stateAt left w;
-            is-placed = walked;
-            told = e ∙ rw (rows-count left (w .count));
-            rows = rw c (record { all = λ a m. m; only = λ a m. m; once = once });
-          }
-
-          as-answer : (answer : Resolved) → numberOf answer ≡ 0 → placeOf answer ≡ 0 → styleIn (T .strings) answer ≡ styleOf (T .strings) w
-              → countOf answer ≡ w .count → ((b : Bytes) → nameIn text answer ≡ some b → b ≡ name) → AbsentZero answer
-              → answer ≡ answerOf at w → Queried text T lent ask reached placed name at answer left
-          as-answer answer n p s c m a v = record {
-            number = n ∙ sym no-number;
-            place = p;
-            style = λ z k q v o.
-                let x : is v ≡ is r = sym o ∙ (ap ask (the-track k q) ∙ e) in
-                let y : v ≡ r = cc in
-                s ∙ (style-is ∙ rw y);
+          gives : (answer : Resolved) → styleIn (T .strings) answer ≡ styleOf (T .strings) w → countOf answer ≡ w .count
+              → ((b : Bytes) → nameIn (q .text) answer ≡ some b → b ≡ q .name) → AbsentZero answer → answer ≡ answerOf (q .at) w
+              → Gives q T lent (trackAt T) r answer left
+          gives answer s c m a v = record {
+            style = s ∙ style-is;
             named = m;
             absent = a;
-            ids = λ z k q. rw (the-track k q, c, ids-are) exactly;
-            count = λ z k q l x. c ∙ (sym many ∙ same-count (r .ids) l exactly (rw (the-track k q) at x));
-            cells = λ z. as-placed answer c v;
-            fits = λ z. rw c (omega (arith, stood .fits, kept));
-            rows = λ z i l. stood .rows i (rw c at l);
-            marks = marked;
-            unused = λ i l. behind i (rw c at l);
-            as-long = kept;
-            cleared = λ z. never z n;
+            ids = rw c ids-are;
+            order = reached .1;
+            reached = reached .0;
+            count = λ l x. c ∙ (sym many ∙ same-count (r .ids) l (reached .0) x);
+            walked = stateAt left w;
+            is-walk = walked;
+            told = v ∙ rw (rows-count left (w .count));
+            table = table;
+            within = λ i l. stood .rows i (rw c at l);
           }
 
-          pub given-query : bytesAt text at ≡ name → Queried text T lent ask reached placed name at (answerOf at w) left
-          unfolding numberOf placeOf countOf nameIn styleIn
-          given-query q =
-              by-test (w .found)
-              (λ t. rw t (as-answer (Resolved.Style (record { name = at; look = w .look; ids = w .count })) refl refl (rw t) refl (λ b x. named
-              b x) tidy (rw t)))
-              (λ t. rw t (as-answer (Resolved.NoStyle (w .count)) refl refl (rw t) refl (λ b x. no-name x) tt (rw t)))
+          as-answer : (answer : Resolved) → numberOf answer ≡ 0 → Gives q T lent (trackAt T) r answer left → Queried q T lent answer left
+          as-answer answer n g = record {
+            taken = (λ z. (trackAt T, r, takes), λ t. n);
+            gives = λ k x t. same k x t;
+            refused = λ i p z. (λ s. never z (sym (s .0) ∙ n), λ a. taken-only takes a);
+            cleared = λ z. never z n;
+          }
             where
-              named : (b : Bytes) → some (bytesAt text at) ≡ some b → b ≡ name
-              named b x = let y : b ≡ bytesAt text at = cc in y ∙ q
+              same : (k : Track Bytes) (x : Resolution) → Takes q T lent k x → Gives q T lent k x answer left
+              same k x t =
+                  let a : some k ≡ some (trackAt T) = sym (t .askable .means) ∙ handed .means in
+                  let b : k ≡ trackAt T = cc in
+                  let c : is x ≡ is r = sym (t .asked) ∙ (ap (q .asks) b ∙ e) in
+                  let d : x ≡ r = cc in
+                  rw (b, d) g
+
+          pub given-query : bytesAt (q .text) (q .at) ≡ q .name → Queried q T lent (answerOf (q .at) w) left
+          unfolding numberOf countOf nameIn styleIn
+          given-query p =
+              by-test (w .found)
+              (λ t. rw t (as-answer (Resolved.Style (record { name = q .at; look = w .look; ids = w .count })) refl (gives _ (rw t) refl named tidy
+              (rw t))))
+              (λ t. rw t (as-answer (Resolved.NoStyle (w .count)) refl (gives _ (rw t) refl (λ b x. no-name x) tt (rw t))))
+            where
+              named : (b : Bytes) → some (bytesAt (q .text) (q .at)) ≡ some b → b ≡ q .name
+              named b x = let y : b ≡ bytesAt (q .text) (q .at) = cc in y ∙ p

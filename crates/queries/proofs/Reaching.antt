@@ -1,16 +1,19 @@
--- The ids of an answer are exactly those reached. Assumes nothing.
---     region-exactly, cue-exactly      of a region's, and of a cue's
-use Prim.Native.Nat.{ℕ, zero, suc, _+_, _*_, _≤_, _<_}
-use mathlib.Core.Path.{_≡_, refl, sym, ap, _∙_}
+-- The ids of an answer are exactly those reached, in the order of their first visit. Assumes nothing.
+--     region-exactly, cue-exactly              exactly those reached: of a region's answer, and of a cue's
+--     region-order, cue-order                  in that order
+--     value-reached, region-reached, cue-reached     both, of each query
+use Prim.Native.Nat.{ℕ}
+use mathlib.Core.Path.{_≡_, refl, sym, subst, _∙_}
 use mathlib.Core.Logic.{_⊎_, inl, inr}
-use mathlib.Core.List.{List, [], _∷_, _++_, List·Memᴰ·not-nil}
+use mathlib.Core.List.{List, [], List·Memᴰ·not-nil}
 use mathlib.Core.Option.{Option, none, some}
 use native.Mathlib.Omega.{arith}
 use Rattle.track.specs.Track.{Bytes, Look, Region, Style, Cue, Track}
 use Rattle.track.proofs.Exactly.{no-some}
 use Rattle.records.specs.Find.{findRegion}
-use Rattle.styles.specs.Reaches.{_∈_, Reaches, Distinct, empty, Exactly}
+use Rattle.styles.specs.Reaches.{chainWords, Reaches, empty, Exactly}
 use Rattle.styles.specs.Resolve.{Resolution, resolve}
+use Rattle.styles.specs.Listing.{InOrder, done}
 use Rattle.styles.specs.Own.{Read, is, refused, next, valueOf, ownValues}
 use Rattle.styles.specs.Queries.{
   nothing,
@@ -18,7 +21,6 @@ use Rattle.styles.specs.Queries.{
   withOwn,
   regionFound,
   regionStyle,
-  others,
   both,
   regionOptional,
   cueFound,
@@ -27,7 +29,9 @@ use Rattle.styles.specs.Queries.{
 }
 use Rattle.styles.proofs.Theorem.{resolve-answers}
 use Rattle.styles.proofs.Both.{both-exactly}
-use Rattle.queries.specs.Promise.{ByRegion, chained, ByCue, its-region, its-value}
+use Rattle.styles.proofs.Listing.{resolve-lists, optional-lists, both-lists}
+use Rattle.queries.specs.Promise.{ByRegion, chained, ByCue, its-region, its-value, chainNames, regionNames, cueNames}
+use Rattle.queries.specs.Promise.{Query, ofValue, ofRegion, ofCue}
 
 exactly-none : {P : Bytes → Type 0} → ((a : Bytes) → P a → ⊥) → Exactly P []
 exactly-none h = record { all = λ a p. absurd (h a p); only = λ a m. absurd (List·Memᴰ·not-nil m); once = empty }
@@ -122,3 +126,70 @@ module _ (k : Track Bytes) where
   pub cue-exactly : (i : ℕ) (r : Resolution) → effectiveStyle k i ≡ is r → Exactly (ByCue k i) (r .ids)
   unfolding effectiveStyle
   cue-exactly i r h = cue-found i (nth (k .cues) i) refl r h
+
+  -- ---- their order
+  -- the chain of a region that may be absent
+  abbrev chainIn : Option (Region Bytes) → Option Bytes
+  chainIn none = none
+  chainIn (some g) = valueOf "style" (g .extras)
+
+  abbrev chainAt : Option Bytes → Option Bytes
+  chainAt none = none
+  chainAt (some id) = chainIn (findRegion id (k .regions))
+
+  found-names : (o : Option (Region Bytes)) → chainWords (chainIn o) ≡ chainNames o
+  found-names none = refl
+  found-names (some g) = refl
+
+  its-names : (v : Option Bytes) → chainWords (chainAt v) ≡ regionNames k v
+  its-names none = refl
+  its-names (some id) = found-names (findRegion id (k .regions))
+
+  -- what it says itself adds no id
+  found-ids : (o : Option (Region Bytes)) (r : Resolution) → regionFound (k .styles) o ≡ is r → r .ids ≡ resolveOptional (k .styles) (chainIn o) .ids
+  found-ids none r h = sym (ids-of h)
+  found-ids (some g) r h = go (ownValues (g .extras)) h
+    where
+      go : (o : Read (Look Bytes)) → next o (λ own. is (withOwn (resolveOptional (k .styles) (valueOf "style" (g .extras))) own)) ≡ is r
+          → r .ids ≡ resolveOptional (k .styles) (valueOf "style" (g .extras)) .ids
+      go (refused n) q = not-refused q
+      go (is own) q = sym (ids-of q)
+
+  its-ids : (v : Option Bytes) (r : Resolution) → regionOptional k v ≡ is r → r .ids ≡ resolveOptional (k .styles) (chainAt v) .ids
+  unfolding regionStyle
+  its-ids none r h = sym (ids-of h)
+  its-ids (some id) r h = found-ids (findRegion id (k .regions)) r h
+
+  pub region-order : (id : Bytes) (r : Resolution) → regionStyle k id ≡ is r → InOrder (k .styles) (regionNames k (some id)) (r .ids)
+  region-order id r h = rw (its-ids (some id) r h, ← (its-names (some id))) (optional-lists (k .styles) (chainAt (some id)))
+
+  cue-listed : (o : Option (Cue Bytes)) (r : Resolution) → cueFound k o ≡ is r → InOrder (k .styles) (cueNames k o) (r .ids)
+  unfolding nothing
+  cue-listed none r h = done (sym (ids-of h))
+  cue-listed (some c) r h = go (regionOptional k (c .region)) refl h
+    where
+      go : (o : Read Resolution) → regionOptional k (c .region) ≡ o → next o (λ s. is (both s (resolveOptional (k .styles) (c .style)))) ≡ is r
+          → InOrder (k .styles) (cueNames k (some c)) (r .ids)
+      go (refused n) u q = not-refused q
+      go (is s) u q =
+          rw (← (ids-of q), its-ids (c .region) s u, ← (its-names (c .region))) (both-lists (k .styles) (chainAt (c .region)) (c .style))
+
+  pub cue-order : (i : ℕ) (r : Resolution) → effectiveStyle k i ≡ is r → InOrder (k .styles) (cueNames k (nth (k .cues) i)) (r .ids)
+  unfolding effectiveStyle
+  cue-order i r h = cue-listed (nth (k .cues) i) r h
+
+-- ---- of each query
+abbrev pub Reached : Query → Track Bytes → Resolution → Type 0
+Reached q k r = Exactly (q .reaches k) (r .ids) × InOrder (k .styles) (q .names k) (r .ids)
+
+module _ (k : Track Bytes) (r : Resolution) where
+  pub value-reached : (value : Bytes) → is (resolve (k .styles) value) ≡ is r → Reached (ofValue value) k r
+  value-reached value h =
+      let e : resolve (k .styles) value ≡ r = cc in
+      subst (Reached (ofValue value) k) e (resolve-answers (k .styles) value .ids-reached, resolve-lists (k .styles) value)
+
+  pub region-reached : (id : Bytes) → regionStyle k id ≡ is r → Reached (ofRegion id) k r
+  region-reached id h = (region-exactly k id r h, region-order k id r h)
+
+  pub cue-reached : (i : ℕ) → effectiveStyle k i ≡ is r → Reached (ofCue i) k r
+  cue-reached i h = (cue-exactly k i r h, cue-order k i r h)

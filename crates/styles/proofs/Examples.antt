@@ -141,6 +141,11 @@ cases =
     -- A cue: its region, then its own value; an id that both reach counts in both, and is given once
     ∷ (query (effectiveStyle (track (style "a" "d" (red ∷ []) ∷ style "d" "" (blue ∷ bold ∷ []) ∷ []) (region "r" (extra 9 "lime"
     ∷ extra 50 "d" ∷ []) ∷ []) (cue "r" "a" ∷ [])) 0) (styledAs (red ∷ bold ∷ []) ("d" ∷ "a" ∷ [])))
+    -- The order: an id, then its parents from left to right, each followed out fully; d is listed when it is named again
+    ∷ (case (resolve (style "a" "c b" [] ∷ style "b" "d" [] ∷ []) (ascii "a d")) (styledAs [] ("a" ∷ "c" ∷ "b" ∷ "d" ∷ [])))
+    -- Of a cue the region's ids first, then those of its style that are new
+    ∷ (query (effectiveStyle (track (style "a" "c b" [] ∷ style "b" "d" [] ∷ []) (region "r" (extra 50 "b e" ∷ []) ∷ []) (cue "r" "a d" ∷ [])) 0)
+    (styledAs [] ("b" ∷ "d" ∷ "e" ∷ "a" ∷ "c" ∷ [])))
     -- A cue index past the end
     ∷ (query (effectiveStyle (track (style "a" "" (red ∷ []) ∷ []) [] (cue "" "a" ∷ [])) 1) (noStyle []))
     ∷ []

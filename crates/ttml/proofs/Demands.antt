@@ -1,18 +1,18 @@
 -- The demands hold. Assumes nothing.
 use Prim.Native.Nat.{ℕ, zero, suc, _+_, _-_, _*_, _≤_, _<_}
 use mathlib.Core.Path.{_≡_, refl, sym, ap, subst, _∙_}
-use mathlib.Core.Bool.{Bool, true, false, cond, _||_, true≢false}
+use mathlib.Core.Bool.{true, false}
 use mathlib.Core.List.{List, [], _∷_, _++_}
 use mathlib.Core.Option.{Option, none, some}
 use mathlib.Core.Logic.{_↔_, _⊎_, inl, inr}
 use native.Mathlib.Omega.{arith}
-use lib.Dec.{leb, ltb}
+use lib.Dec.{leb}
 use lib.Ieee.{Float}
 use lib.ListN.{length, take, replicate}
 use lib.Seq.{sets}
 use native.Mathlib.Nat.{sub-zero}
-use borrow.Author.Tests.{le-leb, leb-true, leb-false, eq-eqb, ltb-true, lt-ltb}
-use Rattle.unicode.specs.Utf8.{Utf8, utf8End}
+use borrow.Author.Tests.{le-leb, leb-true, leb-false}
+use Rattle.unicode.specs.Utf8.{Utf8}
 use Rattle.scan.proofs.Every.{by-test}
 use Rattle.unicode.proofs.Utf8Laws.{utf8-end}
 use Rattle.grammar.specs.Tree.{Forest}
@@ -25,7 +25,7 @@ use Rattle.tree.specs.Posts.{Fits}
 use Rattle.track.specs.Track.{Bytes, Cue, Track}
 use Rattle.track.specs.Tables as track
 use Rattle.track.specs.Tables.{zeroFloat}
-use Rattle.track.specs.Meaning.{isTrack, isUtf8, cueIn, trackAt, trackIn}
+use Rattle.track.specs.Meaning.{isTrack, cueIn, trackAt, trackIn}
 use Rattle.track.proofs.Answers.{long-full}
 use Rattle.track.specs.Plain.{isPlainTrack}
 use Rattle.track.specs.Check.{Checked}
@@ -63,12 +63,17 @@ use Rattle.queries.specs.declared.query.Resolved.{Resolved}
 use Rattle.queries.specs.declared.query.Resolved.the-variants.{Style, NoStyle, Refused}
 use Rattle.styles.specs.Own as styles
 use Rattle.styles.specs.Resolve.{Resolution, resolve}
+use Rattle.styles.specs.Listing.{InOrder}
 use Rattle.styles.specs.Queries.{nth}
 use Rattle.styles.specs.Reaches.{Exactly}
+use Rattle.styles.specs.Ids.{idsIn}
 use Rattle.styles.proofs.Members.{same-count}
 use Rattle.styles.proofs.Theorem.{resolve-answers}
-use Rattle.queries.specs.Promise.{EqualButOrder, Asked, askedValue, askedRegion, askedCue, numberFor, trackNumber, lastNumber, isOver}
+use Rattle.styles.proofs.Listing.{lists-only}
+use Rattle.queries.specs.Promise.{styleIn, countOf, Query, ofValue, ofRegion, ofCue, TooMany, Askable, own-size, own-color, too-many}
+use Rattle.queries.specs.Promise.{Takes, Gives, Queried}
 use Rattle.queries.specs.Promise as query-promise
+use Rattle.queries.proofs.OwnNumbers.{region-refused, cue-refused}
 use Rattle.queries.proofs.Reaching.{region-exactly, cue-exactly}
 use Rattle.queries.proofs.Determined as query
 use Rattle.told.specs.Told.{told, treeTold, checkTold, Tells}
@@ -78,8 +83,8 @@ use Rattle.rewritten.specs.Recaption.{ThenWritten, Recaptioned}
 use Rattle.ttml.specs.declared.back.Back as call
 use Rattle.ttml.specs.ReadBack.{Back, Signed, Went}
 use Rattle.ttml.specs.ReadBack as returning
-use Rattle.ttml.specs.Demands.{Determined, DeterminedButOrder, DeterminedBoth, QueryInC, Demand1, meansTrack, meansCue, HasRoom, Leaves}
-use Rattle.ttml.specs.Demands.{Askable, Overflows, Demand2, Demand3, Demands}
+use Rattle.ttml.specs.Demands.{Determined, DeterminedBoth, QueryInC, Demand1, meansTrack, meansCue, HasRoom, Leaves}
+use Rattle.ttml.specs.Demands.{Demand2, Demand3, RequestK, Demands}
 
 -- ---- 1
 
@@ -125,17 +130,20 @@ told-same (Style a) o c d z x y n m p q = (p .0 ∙ sym (q .0), p .1 .cells ∙ 
 told-same (NoStyle k) o c d z x y n m p q = (p .0 ∙ sym (q .0), p .1 .cells ∙ sym (q .1 .cells), p .1 .float ∙ sym (q .1 .float))
 told-same (Refused k) o c d z x y n m p q = (p .0 ∙ sym (q .0), p .1 .cells ∙ sym (q .1 .cells), p .1 .float ∙ sym (q .1 .float))
 
-module _ (promise : Resolved → List ℕ → Type 0) (lent : List ℕ) (det : DeterminedButOrder promise) where
+pair-same : {A B : Type 0} (c d : A × B) → c .0 ≡ d .0 → c .1 ≡ d .1 → c ≡ d
+pair-same (a, b) (x, y) e f = rw (e, f) refl
+
+module _ (promise : Resolved → List ℕ → Type 0) (lent : List ℕ) (det : Determined promise) where
   query-in-C : QueryInC promise lent
-  query-in-C r s a b out c d size x y p q =
+  query-in-C out size r s a b c d p q =
       by-test (leb 27 (length out)) (λ t. by-test (leb 1 (length size)) (roomy t) (λ u. bare (p .no-float (leb-false 1 _ u)) (q .no-float (leb-false 1 _ u))))
       (λ t. bare (p .no-cells (leb-false 27 _ t)) (q .no-cells (leb-false 27 _ t)))
     where
       Same : Type 0
-      Same = (r ≡ s) × (c ≡ d) × (x ≡ y) × ((a ≡ b) ⊎ ((answer : Resolved) × EqualButOrder answer answer a b))
+      Same = (r ≡ s) × (a ≡ b) × (c ≡ d)
 
-      bare : NoRoom lent a out c size x r → NoRoom lent b out d size y s → Same
-      bare f g = (f .is ∙ sym (g .is), f .cells ∙ sym (g .cells), f .floats ∙ sym (g .floats), inl (f .ids ∙ sym (g .ids)))
+      bare : NoRoom lent a out (c .0) size (c .1) r → NoRoom lent b out (d .0) size (d .1) s → Same
+      bare f g = (f .is ∙ sym (g .is), f .ids ∙ sym (g .ids), pair-same c d (f .cells ∙ sym (g .cells)) (f .floats ∙ sym (g .floats)))
 
       roomy : leb 27 (length out) ≡ true → leb 1 (length size) ≡ true → Same
       roomy t u =
@@ -144,12 +152,11 @@ module _ (promise : Resolved → List ℕ → Type 0) (lent : List ℕ) (det : D
           let e = det (f .answer) (g .answer) a b (f .promised) (g .promised) in
           let o : List ℕ = replicate (length out) 0 in
           let z : List Float = replicate (length size) zeroFloat in
-          let h = subst (λ (w : Resolved). ToldAs w o d z y (g .number)) (sym (e .answer)) (g .stands) in
-          let k = told-same (f .answer) o c d z x y (f .number) (g .number) (f .stands) h in (
+          let h = subst (λ (w : Resolved). ToldAs w o (d .0) z (d .1) (g .number)) (sym (e .0)) (g .stands) in
+          let k = told-same (f .answer) o (c .0) (d .0) z (c .1) (d .1) (f .number) (g .number) (f .stands) h in (
             f .is ∙ (ap (λ (n : ℕ). told n 0) (k .0) ∙ sym (g .is)),
-            k .1,
-            k .2,
-            inr (f .answer, subst (λ (w : Resolved). EqualButOrder (f .answer) w a b) (sym (e .answer)) e),
+            e .1,
+            pair-same c d (k .1) (k .2),
           )
 
 -- a text read and written anew
@@ -379,55 +386,66 @@ cue-of : (m : Answer (Cue Bytes)) (t : Track Bytes) → answered alone m ≡ is 
 cue-of (is c) t e = (c, refl, cc)
 cue-of (refused n p) t e = absurd (let z : _≡_ {A = ℕ} 0 1 = cc in omega arith)
 
--- 18, or no number
-either : (a : Bool) (b : Bool) (n : ℕ) → n ≡ cond (a || b) 18 0 → (n ≡ 18) ↔ ((a ≡ true) ⊎ (b ≡ true))
-either true b n e = ((λ _. inl refl), (λ _. e))
-either false true n e = ((λ _. inr refl), (λ _. e))
-either false false n e = (
-  (λ f. absurd (omega (arith, e, f))),
-  (λ o. elim o [
-    | inl f ↦ absurd (true≢false (sym f))
-    | inr f ↦ absurd (true≢false (sym f))
-  ]),
-)
+-- a query whose promise holds of an outcome
+module _ (q : Query) {T : track.Tables} {lent left : List ℕ} {answer : Resolved} {t : Track Bytes} (p : Queried q T lent answer left) where
+  -- without a number: what it gives
+  module _ (e : trackIn T ≡ some t) (z : query-promise.numberOf answer ≡ 0) where
+    gives-it : (r : Resolution) × (q .asks t ≡ styles.is r) × Gives q T lent t r answer left
+    gives-it = of-track (p .taken .0 z)
+      where
+        of-track : ((k : Track Bytes) × (r : Resolution) × Takes q T lent k r)
+            → (r : Resolution) × (q .asks t ≡ styles.is r) × Gives q T lent t r answer left
+        of-track (k, r, h) =
+            let g : Takes q T lent t r = subst (λ (x : Track Bytes). Takes q T lent x r) (same-some (h .askable .means) e) h in
+            (r, g .asked, p .gives t r g)
 
-over-tests : (lent : List ℕ) (ids : List Bytes) → ((ltb (length lent) (length ids * 4) ≡ true) ⊎ (ltb 65536 (length ids) ≡ true)) ↔ Overflows lent ids
-over-tests lent ids = (
-  (λ o. elim o [
-    | inl e ↦ inl (ltb-true _ _ e)
-    | inr e ↦ inr (ltb-true _ _ e)
-  ]),
-  (λ o. elim o [
-    | inl h ↦ inl (lt-ltb _ _ h)
-    | inr h ↦ inr (lt-ltb _ _ h)
-  ]),
-)
+    style-is : (r : Resolution) → q .asks t ≡ styles.is r → styleIn (T .strings) answer ≡ r .style
+    style-is r f =
+        let g = gives-it in
+        g .2 .style ∙ one (g .1) f
+      where
+        one : {r s : Resolution} {o : styles.Read Resolution} → o ≡ styles.is r → o ≡ styles.is s → r .style ≡ s .style
+        one {r} {s} x y = let w : styles.is r ≡ styles.is s = sym x ∙ y in cc
 
--- the number of a query that meets none of 1, 2, 3 and 17
-module _ {text : Bytes} {T : track.Tables} {t : Track Bytes} (a : Askable text T t) (lent : List ℕ) (ask : Asked) where
-  valid : isUtf8 text ≡ true
-  unfolding isUtf8
-  valid = eq-eqb (utf8End text) (length text) (utf8-end text (a .valid))
+    ids-exactly : Exactly (q .reaches t) (idsIn (q .text) (T .strings) left (countOf answer))
+    ids-exactly = let g = gives-it in subst (Exactly (q .reaches t)) (sym (g .2 .ids)) (g .2 .reached)
 
-  asked-number : numberFor text T lent ask ≡ lastNumber lent (ask t)
-  unfolding numberFor trackNumber
-  asked-number = rw (long-full T (a .long-enough), le-leb (length text) 65536 (a .short), valid, a .means) refl
+    ids-order : InOrder (t .styles) (q .names t) (idsIn (q .text) (T .strings) left (countOf answer))
+    ids-order = let g = gives-it in subst (InOrder (t .styles) (q .names t)) (sym (g .2 .ids)) (g .2 .order)
 
-  module _ (answer : Resolved) (number : query-promise.numberOf answer ≡ numberFor text T lent ask) where
-    refuses : (n : ℕ) → ask t ≡ styles.refused n → query-promise.numberOf answer ≡ n
-    unfolding lastNumber
-    refuses n e = number ∙ (asked-number ∙ rw e refl)
+    ids-count : (l : List Bytes) → Exactly (q .reaches t) l → countOf answer ≡ length l
+    ids-count l x = gives-it .2 .count l x
 
-    overflows : {P : Bytes → Type 0} (r : Resolution) (ids : List Bytes) → ask t ≡ styles.is r → Exactly P (r .ids) → Exactly P ids
-        → (query-promise.numberOf answer ≡ 18) ↔ Overflows lent ids
-    unfolding lastNumber isOver
-    overflows r ids e x y =
-        let c : length (r .ids) ≡ length ids = same-count (r .ids) ids x y in
-        let n : query-promise.numberOf answer ≡ cond (ltb (length lent) (length ids * 4) || ltb 65536 (length ids)) 18 0 =
-        number ∙ (asked-number ∙ rw (e, sym c) refl) in
-        let k = either _ _ _ n in
-        let o = over-tests lent ids in
-        ((λ f. o .0 (k .0 f)), (λ f. k .1 (o .1 f)))
+  -- where none of 1, 2, 3 and 17 is met: which number it is
+  module _ (a : Askable (q .text) T t) where
+    refuses : (n : ℕ) → q .asks t ≡ styles.refused n → (n ≡ 14) ⊎ (n ≡ 15) → query-promise.numberOf answer ≡ n
+    refuses n e (inl g) = p .refused 14 0 (omega arith) .1 (own-size a (rw g at e)) .0 ∙ sym g
+    refuses n e (inr g) = p .refused 15 0 (omega arith) .1 (own-color a (rw g at e)) .0 ∙ sym g
+
+    overflows : (r : Resolution) (ids : List Bytes) → q .asks t ≡ styles.is r → Exactly (q .reaches t) (r .ids) → Exactly (q .reaches t) ids
+        → (query-promise.numberOf answer ≡ 18) ↔ TooMany lent ids
+    overflows r ids e x y = (
+      (λ f.
+          by-test (leb (length ids * 4) (length lent))
+          (λ u.
+          by-test (leb (length ids) 65536)
+          (λ v.
+          let n : query-promise.numberOf answer ≡ 0 = p .taken .1 (t, r, taken (leb-true _ _ u) (leb-true _ _ v)) in
+          absurd (omega (arith, n, f)))
+          (λ v. inr (leb-false _ _ v)))
+          (λ u. inl (leb-false _ _ u))),
+      (λ o. p .refused 18 0 (omega arith) .1 (too-many a e (over o)) .0),
+    )
+      where
+        same : length (r .ids) ≡ length ids
+        same = same-count (r .ids) ids x y
+
+        taken : length ids * 4 ≤ length lent → length ids ≤ 65536 → Takes q T lent t r
+        taken u v = record { askable = a; asked = e; rows = omega (arith, u, same); few = omega (arith, v, same) }
+
+        over : TooMany lent ids → TooMany lent (r .ids)
+        over (inl h) = inl (omega (arith, h, same))
+        over (inr h) = inr (omega (arith, h, same))
 
 pub demand-2 : Demand2
 demand-2 = record {
@@ -466,17 +484,15 @@ demand-2 = record {
   check-takes = λ T answer p. p .taken;
   check-refuses = λ T answer n p c h. c .refused n p h;
   resolver-follows = λ value T t lent left answer e p z. p .no-style z t e;
-  resolver-counts = λ value T t lent left answer e p z. p .queried .ids z t e;
-  region-gives = λ id T t r lent left answer e s p z. (p .style z t e r s, p .ids z t e);
-  effective-gives = λ i T t r lent left answer e s p z. (p .style z t e r s, p .ids z t e);
-  region-refused = λ id T t n lent left answer a e p. refuses a lent (askedRegion id) answer (p .number) n e;
-  effective-refused = λ i T t n lent left answer a e p. refuses a lent (askedCue i) answer (p .number) n e;
+  resolver-counts = λ value T t lent left answer e p z. ids-exactly (ofValue value) (p .queried) e z;
+  region-gives = λ id T t r lent left answer e s p z. (style-is (ofRegion id) p e z r s, ids-exactly (ofRegion id) p e z);
+  effective-gives = λ i T t r lent left answer e s p z. (style-is (ofCue i) p e z r s, ids-exactly (ofCue i) p e z);
+  region-refused = λ id T t n lent left answer a e p. refuses (ofRegion id) p a n e (region-refused t id e);
+  effective-refused = λ i T t n lent left answer a e p. refuses (ofCue i) p a n e (cue-refused t i e);
   resolver-full = λ value T t ids lent left answer a x p.
-      overflows a lent (askedValue value) answer (p .queried .number) (resolve (t .styles) value) ids refl (resolve-answers (t .styles) value .ids-reached) x;
-  region-full = λ id T t r ids lent left answer a e x p.
-      overflows a lent (askedRegion id) answer (p .number) r ids e (region-exactly t id r e) x;
-  effective-full = λ i T t r ids lent left answer a e x p.
-      overflows a lent (askedCue i) answer (p .number) r ids e (cue-exactly t i r e) x;
+      overflows (ofValue value) (p .queried) a (resolve (t .styles) value) ids refl (resolve-answers (t .styles) value .ids-reached) x;
+  region-full = λ id T t r ids lent left answer a e x p. overflows (ofRegion id) p a r ids e (region-exactly t id r e) x;
+  effective-full = λ i T t r ids lent left answer a e x p. overflows (ofCue i) p a r ids e (cue-exactly t i r e) x;
 }
 
 -- ---- 3
@@ -587,5 +603,17 @@ demand-3 = record {
     takes-of : (text : Bytes) (lent : xml.Tables) → xml.LongEnough lent → Utf8 text → (f : Forest) → Derives text f → xml.Takes text lent f
     takes-of text lent l u f d = record { readable = record { long-enough = l; short = d .size; valid = u }; derives = d }
 
+-- ---- the change requests
+pub order-of-ids : RequestK
+order-of-ids = record {
+  value-order = λ value T t lent left answer e p z. ids-order (ofValue value) (p .queried) e z;
+  region-order = λ id T t lent left answer e p z. ids-order (ofRegion id) p e z;
+  cue-order = λ i T t lent left answer e p z. ids-order (ofCue i) p e z;
+  one-order = λ styles ids l m x y. lists-only styles x y;
+  value-count = λ value T t ids lent left answer e x p z. ids-count (ofValue value) (p .queried) e z ids x;
+  region-count = λ id T t ids lent left answer e x p z. ids-count (ofRegion id) p e z ids x;
+  cue-count = λ i T t ids lent left answer e x p z. ids-count (ofCue i) p e z ids x;
+}
+
 pub demands : Demands
-demands = record { first = demand-1; second = demand-2; third = demand-3 }
+demands = record { first = demand-1; second = demand-2; third = demand-3; request-k = order-of-ids }

@@ -1,5 +1,5 @@
--- The customer's demands, as statements about the calls that a user has, in Rattle and in C, each sentence of document 01 beside its statement.
--- Definitions alone; proofs/Demands proves every one of them.
+-- The customer's demands, as statements about the calls that a user has, in Rattle and in C, each sentence of document 01, or of a change request
+-- in document 02, beside its statement. Definitions alone; proofs/Demands proves every one of them.
 --
 -- What is said of a call is said of every outcome that its promise holds of: a text or a track, the tables that are lent, the answer, and the
 -- tables that are left. That the running call has such an outcome, whatever it is given, is what its contract says and the checker has proved:
@@ -15,15 +15,16 @@
 --     written and read   `read_back`           Returned T out lent answer written left
 --     each in C          `pg_…`                Tells, ReadInC, AnswersInC of the above: 64 bits, counts, 27 cells and a float
 -- None of them asks anything of its caller.
-use Prim.Native.Nat.{ℕ, _-_, _*_, _≤_, _<_}
+use Prim.Native.Nat.{ℕ, _-_, _≤_, _<_}
 use mathlib.Core.Path.{_≡_}
 use mathlib.Core.Bool.{true}
-use mathlib.Core.Logic.{_↔_, _⊎_}
+use mathlib.Core.Logic.{_↔_}
 use mathlib.Core.List.{List, [], _++_}
 use mathlib.Core.Option.{none, some}
 use lib.ListN.{length, take, replicate}
 use lib.Ieee.{Float}
 use Rattle.unicode.specs.Utf8.{Utf8}
+use Rattle.unicode.specs.White.{words}
 use Rattle.entities.specs.Decode.{decoded}
 use Rattle.grammar.specs.Tree.{Forest}
 use Rattle.grammar.specs.Demand.{Derives, NoTwo, decodeForest}
@@ -31,7 +32,7 @@ use Rattle.tree.specs.Trees as placed
 use Rattle.tree.specs.Answers.{Says}
 use Rattle.tree.specs.declared.answers.Answer as tree
 use Rattle.derivation.specs.Strings.{treeIn}
-use Rattle.track.specs.Track.{Bytes, Cue, Track}
+use Rattle.track.specs.Track.{Bytes, Style, Cue, Track}
 use Rattle.track.specs.Tables as track
 use Rattle.track.specs.Meaning.{trackIn}
 use Rattle.track.specs.Check.{Checked}
@@ -55,12 +56,14 @@ use Rattle.walk.specs.Text.{textOf}
 use Rattle.spoken.specs.Promise.{PlainText, ofTrack}
 use Rattle.spoken.specs.Promise as spoken
 use Rattle.styles.specs.Own as styles
-use Rattle.styles.specs.Resolve.{Resolution}
 use Rattle.styles.specs.Queries.{regionStyle, effectiveStyle, nth}
 use Rattle.styles.specs.Reaches.{Reaches, Exactly}
+use Rattle.styles.specs.Resolve.{Resolution}
+use Rattle.styles.specs.Listing.{InOrder}
 use Rattle.styles.specs.Ids.{idsIn}
 use Rattle.queries.specs.declared.query.Resolved.{Resolved}
-use Rattle.queries.specs.Promise.{ReferencedStyle, RegionStyle, EffectiveStyle, EqualButOrder, ByRegion, ByCue, styleIn, countOf}
+use Rattle.queries.specs.Promise.{ReferencedStyle, RegionStyle, EffectiveStyle, Askable, TooMany, ByRegion, ByCue, regionNames, cueNames}
+use Rattle.queries.specs.Promise.{styleIn, countOf}
 use Rattle.queries.specs.Promise as query
 use Rattle.told.specs.Told.{Tells, checkTold, readTold, writtenTold}
 use Rattle.told.specs.Trees.{ReadInC}
@@ -74,20 +77,16 @@ use Rattle.ttml.specs.ReadBack.{Back, Signed, Returned}
 abbrev pub Determined : {Answer Left : Type 0} → (Answer → Left → Type 0) → Type 0
 Determined {Answer} {Left} promise = (x y : Answer) (a b : Left) → promise x a → promise y b → (x ≡ y) × (a ≡ b)
 
--- of a query, but for the order of the ids: "where the choice is the program's, say that, and what every choice has in common"
-abbrev pub DeterminedButOrder : (Resolved → List ℕ → Type 0) → Type 0
-DeterminedButOrder promise = (x y : Resolved) (a b : List ℕ) → promise x a → promise y b → EqualButOrder x y a b
-
 -- the same where two things are left
 abbrev pub DeterminedBoth : {Answer One Two : Type 0} → (Answer → One → Two → Type 0) → Type 0
 DeterminedBoth {Answer} {One} {Two} promise =
     (x y : Answer) (a b : One) (c d : Two) → promise x a c → promise y b d → (x ≡ y) × (a ≡ b) × (c ≡ d)
 
--- a query in C: its 64 bits, the 27 cells and the float of its answer, and the ids but for their order
+-- a query in C: its 64 bits, the ids, and the 27 cells and the float of its answer
 abbrev pub QueryInC : (Resolved → List ℕ → Type 0) → (lent : List ℕ) → Type 0
 QueryInC promise lent =
-    (r s : ℕ) (a b out c d : List ℕ) (size x y : List Float) → AnswersInC promise lent a out c size x r → AnswersInC promise lent b out d size y s
-    → (r ≡ s) × (c ≡ d) × (x ≡ y) × ((a ≡ b) ⊎ ((answer : Resolved) × EqualButOrder answer answer a b))
+    (out : List ℕ) (size : List Float)
+    → DeterminedBoth (λ (r : ℕ) left (told : List ℕ × List Float). AnswersInC promise lent left out (told .0) size (told .1) r)
 
 pub record Demand1 : Type 0 where
   pub tree-reader : (text : Bytes) (lent : xml.Tables) → Determined (xml.Parsed text lent)
@@ -97,9 +96,9 @@ pub record Demand1 : Type 0 where
   pub cue-to-bytes : (i : ℕ) (T : track.Tables) (out : Bytes) → Determined (Promise (cueNumber i) T out)
   pub plain-text : (T : spoken.Tables) (i : ℕ) (out : Bytes) → Determined (PlainText T i out)
   pub check-track : (T : track.Tables) (x y : Check) → Checked T x → Checked T y → x ≡ y
-  pub resolve-referenced-style : (value : Bytes) (T : track.Tables) (lent : List ℕ) → DeterminedButOrder (ReferencedStyle value T lent)
-  pub region-style : (id : Bytes) (T : track.Tables) (lent : List ℕ) → DeterminedButOrder (RegionStyle id T lent)
-  pub effective-style-for-cue-index : (T : track.Tables) (i : ℕ) (lent : List ℕ) → DeterminedButOrder (EffectiveStyle T i lent)
+  pub resolve-referenced-style : (value : Bytes) (T : track.Tables) (lent : List ℕ) → Determined (ReferencedStyle value T lent)
+  pub region-style : (id : Bytes) (T : track.Tables) (lent : List ℕ) → Determined (RegionStyle id T lent)
+  pub effective-style-for-cue-index : (T : track.Tables) (i : ℕ) (lent : List ℕ) → Determined (EffectiveStyle T i lent)
   pub recaption : (text : Bytes) (lent : Tables) (out : Bytes) → DeterminedBoth (Recaptioned text lent out)
   pub read-back : (T : track.Tables) (out : Bytes) (lent : Tables) → DeterminedBoth (Returned T out lent)
   -- the calls in C
@@ -131,17 +130,6 @@ HasRoom w out = (length w ≤ length out) × (length w ≤ 65536)
 
 abbrev pub Leaves : (w out : Bytes) → writer.Answer → (left : Bytes) → Type 0
 Leaves w out answer left = (answer ≡ writer.Answer.Bytes (length w)) × (left ≡ w ++ replicate (length out - length w) 0)
-
--- a query meets none of 1, 2, 3 and 17: the tables are long enough and mean t, and its text is UTF-8 of at most 65,536 bytes
-pub record Askable (text : Bytes) (T : track.Tables) (t : Track Bytes) : Type 0 where
-  pub long-enough : track.LongEnough (track.lengths T)
-  pub means : trackIn T ≡ some t
-  pub short : length text ≤ 65536
-  pub valid : Utf8 text
-
--- more ids than rows of four cells are lent, or than 65,536
-abbrev pub Overflows : (lent : List ℕ) → List Bytes → Type 0
-Overflows lent ids = (length lent < length ids * 4) ⊎ (65536 < length ids)
 
 pub record Demand2 : Type 0 where
   -- `parse` gives the track that the derived tree means, and no other: it calls no film malformed, nor gives an empty track for one that has
@@ -219,13 +207,13 @@ pub record Demand2 : Type 0 where
   -- "18" exactly where the ids reached, whatever their order, are more than the rows that are lent, or than 65,536
   pub resolver-full : (value : Bytes) (T : track.Tables) (t : Track Bytes) (ids : List Bytes) (lent left : List ℕ) (answer : Resolved)
       → Askable value T t → Exactly (Reaches (t .styles) value) ids → ReferencedStyle value T lent answer left
-      → (query.numberOf answer ≡ 18) ↔ Overflows lent ids
+      → (query.numberOf answer ≡ 18) ↔ TooMany lent ids
   pub region-full : (id : Bytes) (T : track.Tables) (t : Track Bytes) (r : Resolution) (ids : List Bytes) (lent left : List ℕ) (answer : Resolved)
       → Askable id T t → regionStyle t id ≡ styles.is r → Exactly (ByRegion t id) ids → RegionStyle id T lent answer left
-      → (query.numberOf answer ≡ 18) ↔ Overflows lent ids
+      → (query.numberOf answer ≡ 18) ↔ TooMany lent ids
   pub effective-full : (i : ℕ) (T : track.Tables) (t : Track Bytes) (r : Resolution) (ids : List Bytes) (lent left : List ℕ) (answer : Resolved)
       → Askable [] T t → effectiveStyle t i ≡ styles.is r → Exactly (ByCue t i) ids → EffectiveStyle T i lent answer left
-      → (query.numberOf answer ≡ 18) ↔ Overflows lent ids
+      → (query.numberOf answer ≡ 18) ↔ TooMany lent ids
 
 -- ---- 3. the grammar, and reading back
 
@@ -250,8 +238,38 @@ pub record Demand3 : Type 0 where
       → (out written : Bytes) (n : ℕ) → Promise wholeText T out (writer.Answer.Bytes n) written
       → (lent left : Tables) → Parsed (take n written) lent reader.Answer.Track left → Back t n written left
 
+-- ---- the change requests of document 02
+
+-- (k) "Order of the ids reached"
+pub record RequestK : Type 0 where
+  -- "The ids reached are listed in the order of their first visit: an id, then its parents from left to right, each followed out fully." So are
+  -- those in the table, from the ids that a value names on; from those that the region's chain names; and for a cue from those of its region,
+  -- then those of its style.
+  pub value-order : (value : Bytes) (T : track.Tables) (t : Track Bytes) (lent left : List ℕ) (answer : Resolved) → trackIn T ≡ some t
+      → ReferencedStyle value T lent answer left → query.numberOf answer ≡ 0
+      → InOrder (t .styles) (words value) (idsIn value (T .strings) left (countOf answer))
+  pub region-order : (id : Bytes) (T : track.Tables) (t : Track Bytes) (lent left : List ℕ) (answer : Resolved) → trackIn T ≡ some t
+      → RegionStyle id T lent answer left → query.numberOf answer ≡ 0
+      → InOrder (t .styles) (regionNames t (some id)) (idsIn id (T .strings) left (countOf answer))
+  pub cue-order : (i : ℕ) (T : track.Tables) (t : Track Bytes) (lent left : List ℕ) (answer : Resolved) → trackIn T ≡ some t
+      → EffectiveStyle T i lent answer left → query.numberOf answer ≡ 0
+      → InOrder (t .styles) (cueNames t (nth (t .cues) i)) (idsIn [] (T .strings) left (countOf answer))
+  -- "The order is thus no longer the program's choice": no other list is in that order
+  pub one-order : (styles : List (Style Bytes)) (ids l m : List Bytes) → InOrder styles ids l → InOrder styles ids m → l ≡ m
+  -- "and the count is what it was": "equal to the number of distinct ids reachable"
+  pub value-count : (value : Bytes) (T : track.Tables) (t : Track Bytes) (ids : List Bytes) (lent left : List ℕ) (answer : Resolved)
+      → trackIn T ≡ some t → Exactly (Reaches (t .styles) value) ids → ReferencedStyle value T lent answer left → query.numberOf answer ≡ 0
+      → countOf answer ≡ length ids
+  pub region-count : (id : Bytes) (T : track.Tables) (t : Track Bytes) (ids : List Bytes) (lent left : List ℕ) (answer : Resolved)
+      → trackIn T ≡ some t → Exactly (ByRegion t id) ids → RegionStyle id T lent answer left → query.numberOf answer ≡ 0
+      → countOf answer ≡ length ids
+  pub cue-count : (i : ℕ) (T : track.Tables) (t : Track Bytes) (ids : List Bytes) (lent left : List ℕ) (answer : Resolved)
+      → trackIn T ≡ some t → Exactly (ByCue t i) ids → EffectiveStyle T i lent answer left → query.numberOf answer ≡ 0
+      → countOf answer ≡ length ids
+
 -- ---- all of them
 pub record Demands : Type 0 where
   pub first : Demand1
   pub second : Demand2
   pub third : Demand3
+  pub request-k : RequestK

@@ -1,6 +1,7 @@
 //! A child module of the Rust's `ttml`, so that other crates can call what is private there.
 
-use oxideav_core::{Result, SubtitleCue};
+use crate::ir::SubtitleTrack;
+use oxideav_core::{Result, SubtitleCue, SubtitleStyle};
 
 macro_rules! pass_on {
     ($(fn $name:ident($($arg:ident: $type:ty),*) -> $answer:ty;)*) => {
@@ -54,4 +55,14 @@ pub fn parse_xml(src: &str) -> Result<Vec<Tree>> {
 /// The same for its time alone: the Rust's tree is made and dropped. How many nodes it has at top level.
 pub fn reads_xml(src: &str) -> Option<usize> {
     super::parse_xml(src).ok().map(|nodes| nodes.len())
+}
+
+/// The ids that the Rust visits for a value, as it fills its `visited`: the loop of `resolve_referenced_style`, whose own list is lost.
+pub fn visited(track: &SubtitleTrack, style_ref: &str) -> Vec<String> {
+    let mut visited = Vec::new();
+    let mut style = SubtitleStyle::new(style_ref);
+    for id in style_ref.split_whitespace() {
+        super::apply_style_ref(track, id, &mut style, &mut visited);
+    }
+    visited
 }

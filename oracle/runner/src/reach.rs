@@ -1,5 +1,5 @@
-//! Which ids a query reaches, in the order of their first visit, and which sizes are past their limits: document 01,
-//! written apart from the port. The Rust keeps its list of ids to itself.
+//! Which ids a query reaches, in the order of their first visit, and which sizes are past their limits: documents 01 and
+//! 02, written apart from the port and from the Rust.
 
 use crate::answer::Answer;
 use crate::extras::{REGION, value_of};
@@ -44,20 +44,21 @@ impl<'a> Reach<'a> {
         }
     }
 
-    /// The ids of a question; a cue's region comes first.
+    /// The values whose ids a question visits, one after the other; a cue's region comes first.
+    pub fn values(&self, question: &Question) -> Vec<String> {
+        let own = match question {
+            Question::Value(value) => Some(text(value)),
+            Question::Region(_) => None,
+            Question::Cue(at) => self.cues.get(*at).and_then(|cue| cue.1),
+        };
+        self.region_value(question, "style").into_iter().chain(own.map(String::from)).collect()
+    }
+
+    /// The ids of a question, going on from the first value's list with the second.
     pub fn ids(&self, question: &Question) -> Vec<String> {
         let mut ids = Ids::default();
-        if let Some(chain) = self.region_value(question, "style") {
-            ids.visit(&chain, &self.chains);
-        }
-        match question {
-            Question::Value(value) => ids.visit(text(value), &self.chains),
-            Question::Region(_) => {}
-            Question::Cue(at) => {
-                if let Some((_, Some(value))) = self.cues.get(*at) {
-                    ids.visit(value, &self.chains);
-                }
-            }
+        for value in self.values(question) {
+            ids.visit(&value, &self.chains);
         }
         ids.order
     }

@@ -1,5 +1,6 @@
 //! The three queries on handed tracks. The Rust reads a document; its track goes into the port's tables; both answer.
-//! Which ids are reached, and which sizes are past the limits, is judged by `reach.rs`, from document 01.
+//! Which ids are visited, in which order, is the Rust's own `visited`; `reach.rs` says the same from documents 01 and 02, and
+//! which sizes are past the limits.
 
 use super::Layer;
 use crate::answer::Answer;
@@ -14,6 +15,7 @@ use crate::handed::Lending;
 use crate::tables::{BYTES, Tables, marks, shown, with};
 use reference::ir::SubtitleTrack;
 use reference::ttml;
+use std::collections::HashSet;
 use std::fmt::{self, Debug, Formatter};
 
 pub const LAYER: Layer = Layer {
@@ -116,6 +118,8 @@ impl Side {
         let rust = rust(track, reach, question);
         let count = match &rust {
             Outcome::Found { ids, style } => {
+                // "That is the order in which the Rust fills `visited`."
+                run.same("document 02", format_args!("{:?}", Input(document, question, 0)), ids.clone(), reach.ids(question));
                 if let Question::Value(_) = question {
                     // "gives no style exactly if no id reachable through chains names one"
                     run.same("document 01", format_args!("{:?}", Input(document, question, 0)), style.is_some(), reach.named(ids));
@@ -231,6 +235,13 @@ fn name(question: &Question) -> &'static str {
     }
 }
 
+/// The Rust has a list of its own for each value: those of the second that are new are added to the first.
+fn visited(track: &SubtitleTrack, reach: &Reach, question: &Question) -> Vec<String> {
+    let mut seen = HashSet::new();
+    let ids = reach.values(question).into_iter().flat_map(|value| ttml::access::visited(track, &value));
+    ids.filter(|id| seen.insert(id.clone())).collect()
+}
+
 /// What the Rust answers, with the ids and the number that it does not tell. It stops on a colour, before any size.
 fn rust(track: &SubtitleTrack, reach: &Reach, question: &Question) -> Outcome {
     if let Question::Value(text) | Question::Region(text) = question
@@ -245,7 +256,7 @@ fn rust(track: &SubtitleTrack, reach: &Reach, question: &Question) -> Outcome {
     };
     match Answer::ask(|| Some(style()), |_| 15) {
         Answer::Is(_) if reach.beyond(question) => Outcome::Number(14),
-        Answer::Is(style) => Outcome::Found { style: style.map(Style::of), ids: reach.ids(question) },
+        Answer::Is(style) => Outcome::Found { style: style.map(Style::of), ids: visited(track, reach, question) },
         Answer::Number(number) => Outcome::Number(number),
         Answer::Nothing => unreachable!(),
     }

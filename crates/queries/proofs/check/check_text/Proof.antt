@@ -2,7 +2,7 @@
 use mathlib.Core.Path.{sym, _∙_}
 use borrow.Author.Tests.{le-leb, lt-leb}
 use Rattle.queries.specs.Steps.{checkRest, checkText}
-use Rattle.queries.proofs.Promising.{not-utf8, is-utf8}
+use Rattle.queries.proofs.Promising.{is-broken, is-utf8}
 use borrow.Author.Needs.{needs}
 use Rattle.queries.proofs.check.check_text.Statement.{statement}
 use Rattle.queries.proofs.check.check_text.Tie as tie
@@ -37,7 +37,7 @@ unfolding checkText checkRest
 returns-3 c =
     let c3 = c .before .before .before in
     let q = sym (c3 .before .before .is-short .ensures) ∙ c3 .before .if1 .left in
-    c .refused3 .ensures ∙ rw (q, le-leb _ 65536 (c3 .if2 .left), not-utf8 _ _ (c .before .before .utf8-end .ensures) (c .before .if3 .taken))
+    c .refused3 .ensures ∙ rw (q, le-leb _ 65536 (c3 .if2 .left), is-broken _ _ (c .before .before .utf8-end .ensures) (c .before .if3 .taken))
 
 returns-4 : tie.Need-returns-4
 unfolding checkText checkRest

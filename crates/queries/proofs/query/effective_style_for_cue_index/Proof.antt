@@ -5,6 +5,7 @@ use native.Mathlib.Omega.{arith}
 use Rattle.queries.proofs.Handed.{lengths, ready, has-regions, cues-few, cue-spans}
 use Rattle.queries.proofs.Promising.{check-taken, check-none-asked, checked-query}
 use Rattle.queries.proofs.Asking.{cue-past, cue-refuses, cue-asked}
+use Rattle.queries.specs.Promise.{ofCue}
 use borrow.Author.Needs.{needs}
 use Rattle.queries.proofs.query.effective_style_for_cue_index.Statement.{statement}
 use Rattle.queries.proofs.query.effective_style_for_cue_index.Tie as tie
@@ -112,7 +113,7 @@ returns-2 : tie.Need-returns-2
 returns-2 c =
     let c3 = c .before .before .before in
     let c6 = c3 .before .before .before in
-    checked-query _ _ _ _ _ _ _ _ _ (check-none-asked _ ∙ (sym (checked-is _ (c3 .check-track .ensures)) ∙ c .before .r .given .1)) _
+    checked-query (ofCue _) _ _ _ (check-none-asked _ ∙ (sym (checked-is _ (c3 .check-track .ensures)) ∙ c .before .r .given .1)) _
     (c6 .clear .ensures)
 
 same-length-3 : tie.Need-same-length-3

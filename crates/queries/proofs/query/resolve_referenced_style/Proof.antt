@@ -4,6 +4,7 @@ use native.Mathlib.Omega.{arith}
 use Rattle.queries.proofs.Handed.{lengths, ready}
 use Rattle.queries.proofs.Promising.{check-taken, checked-query}
 use Rattle.queries.proofs.Asking.{whole, no-bytes, referenced, value-asked}
+use Rattle.queries.specs.Promise.{ofValue}
 use borrow.Author.Needs.{needs}
 use Rattle.queries.proofs.query.resolve_referenced_style.Statement.{statement}
 use Rattle.queries.proofs.query.resolve_referenced_style.Tie as tie
@@ -56,7 +57,7 @@ returns : tie.Need-returns
 returns c =
     let c3 = c .before .before .before in
     let c6 = c3 .before .before .before in
-    referenced _ _ _ _ _ (checked-query _ _ _ _ _ _ _ _ _ (sym (c3 .check-query .ensures) ∙ c .before .r .given .1) _ (c6 .clear .ensures))
+    referenced _ _ _ _ _ (checked-query (ofValue _) _ _ _ (sym (c3 .check-query .ensures) ∙ c .before .r .given .1) _ (c6 .clear .ensures))
 
 same-length-2 : tie.Need-same-length-2
 same-length-2 c = search needs
