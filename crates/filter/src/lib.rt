@@ -5,7 +5,7 @@ use libc::STDOUT_FILENO;
 use scan::Written;
 
 // Reads TTML on standard input and writes it anew on standard output; on a refusal only the number, a blank, the place and LF.
-// It takes up to 1,330 KB of stack, most of it the tables: a shell's default of 8 MB is enough.
+// It takes up to 1,350 KB of stack, most of it the tables: a shell's default of 8 MB is enough.
 pub fn run() {
     // one byte more than a text may have: longer input meets 2
     let mut text = [0u8; 65537];
