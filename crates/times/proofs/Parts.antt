@@ -1,13 +1,13 @@
 -- Laws of time expressions, one for each way through the code: the parts between colons, the point, and the metric at the end. Assumes nothing.
 use Prim.Native.Nat.{ℕ, _+_, _-_, _≤_, _<_}
 use mathlib.Core.Path.{_≡_, refl, sym, _∙_}
-use mathlib.Core.Bool.{Bool, true, false, cond}
+use mathlib.Core.Bool.{Bool, true, false, cond, _||_, true≢false}
 use mathlib.Core.List.{List, [], _∷_}
 use native.Mathlib.Omega.{arith}
 use lib.Dec.{eqb, ltb}
 use lib.IntN.{ℤ, pos, _+ℤ_, _*ℤ_}
 use lib.ListN.{length, getD, take, drop, length-drop}
-use lib.Seq.{take-all, length-take-le}
+use lib.Seq.{take-all, length-take-le, getD-take}
 use borrow.Author.Tests.{ltb-true, ltb-false, lt-ltb, eqb-true, eqb-false, eq-eqb, ne-eqb}
 use Rattle.scan.proofs.Every.{by-test}
 use Rattle.scan.specs.Bytes.{other}
@@ -25,9 +25,10 @@ use Rattle.times.specs.declared.offset.TimingCtx.{TimingCtx}
 use Rattle.times.specs.declared.offset.Time.{Time}
 use Rattle.times.specs.Sums.{checked}
 use Rattle.times.specs.Expressions as spec
-use Rattle.times.specs.Expressions.{_>>=_, timeOf, timeDecimal, frameRate, tickRate, float, offsetTime, integer, wholeIn, tested}
+use Rattle.times.specs.Expressions.{_>>=_, _else_, timeOf, timeDecimal, frameRate, tickRate, float, offsetTime, integer, wholeIn, tested}
 use Rattle.times.specs.Expressions.{secondsOf, framesIn, clockOf, clockTime, timeIn}
-use Rattle.times.specs.Steps.{plus, eachTime, rateTime, fractioned, summed, afterSeconds, afterMinutes, afterHours}
+use Rattle.times.proofs.Counts.{no-count}
+use Rattle.times.specs.Steps.{plus, endsMetric, eachTime, rateTime, fractioned, summed, afterSeconds, afterMinutes, afterHours}
 
 -- ---- going on
 then-is : (t : Time) → (t >>= λ z. Time.Is z) ≡ t
@@ -43,6 +44,13 @@ then-then Time.Nothing f g = refl
 then-then Time.Beyond f g = refl
 then-then Time.LongFraction f g = refl
 then-then Time.Overflow f g = refl
+
+pub else-nothing : (t : Time) → (t else Time.Nothing) ≡ t
+else-nothing (Time.Is z) = refl
+else-nothing Time.Nothing = refl
+else-nothing Time.Beyond = refl
+else-nothing Time.LongFraction = refl
+else-nothing Time.Overflow = refl
 
 -- an answer that has no value is kept
 pub then-other : (t : Time) (f : ℤ → Time) → ((z : ℤ) → t ≡ Time.Is z → ⊥) → t ≡ (t >>= f)
@@ -197,32 +205,36 @@ module _ (s : List ℕ) (some : 0 < length s) where
   count n = timeDecimal (trimmed (take n s))
 
   module _ (ctx : TimingCtx) where
+    -- what the seven ways say, by the last byte, and by whether an m stands before it
     abbrev byLast : Bool → ℕ → Time
     byLast t b =
-        cond t (offsetTime (take (length s - 2) s) (spec.each 1000) ctx)
-        (cond (eqb b 115) (offsetTime (take (length s - 1) s) (spec.each 1000000) ctx)
-        (cond (eqb b 109) (offsetTime (take (length s - 1) s) (spec.each 60000000) ctx)
-        (cond (eqb b 104) (offsetTime (take (length s - 1) s) (spec.each 3600000000) ctx)
-        (cond (eqb b 102) (offsetTime (take (length s - 1) s) spec.by-frames ctx)
-        (cond (eqb b 116) (offsetTime (take (length s - 1) s) spec.by-ticks ctx)
-        (clockTime s ctx))))))
+        cond (eqb b 104 || (eqb b 109 || (eqb b 115 || (t || (eqb b 102 || (eqb b 116 || false)))))) Time.Nothing (clockTime s ctx)
+        else cond (eqb b 104) (offsetTime (take (length s - 1) s) spec.`h` ctx) Time.Nothing
+        else cond (eqb b 109) (offsetTime (take (length s - 1) s) spec.`m` ctx) Time.Nothing
+        else cond (eqb b 115) (offsetTime (take (length s - 1) s) spec.`s` ctx) Time.Nothing
+        else cond t (offsetTime (take (length s - 2) s) spec.`ms` ctx) Time.Nothing
+        else cond (eqb b 102) (offsetTime (take (length s - 1) s) spec.`f` ctx) Time.Nothing
+        else cond (eqb b 116) (offsetTime (take (length s - 1) s) spec.`t` ctx) Time.Nothing
+        else Time.Nothing
 
     by-last : spec.expression s ctx ≡ byLast (startsAt s (length s - 2) ms) (getD s (length s - 1) 0)
     unfolding spec.expression
-    by-last = rw (last-is 115, last-is 109, last-is 104, last-is 102, last-is 116)
+    by-last = rw (last-is 104, last-is 109, last-is 115, last-is 102, last-is 116)
 
     module _ (is-s : getD s (length s - 1) 0 ≡ 115) where
       pub metric-ms : 1 < length s → getD s (length s - 1 - 1) 0 ≡ 109 → spec.expression s ctx ≡ eachTime (count (length s - 1 - 1)) (float 1000)
       unfolding offsetTime
       metric-ms h e =
           let z : length s - 1 - 1 ≡ length s - 2 = omega arith in
-          by-last ∙ rw (ends-ms h (rw z at e) is-s, z)
+          let l : length (take (length s - 1) s) ≡ length s - 1 = length-take-le (length s - 1) s (omega arith) in
+          let m : getD (take (length s - 1) s) (length s - 2) 0 ≡ 109 = getD-take (length s - 1) s (length s - 2) 0 (omega arith) ∙ rw (← z) e in
+          by-last ∙ rw (ends-ms h (rw z at e) is-s, is-s, z, no-count (take (length s - 1) s) (omega arith) (rw (l, z) m)) (else-nothing _)
 
       pub metric-s : (1 < length s → getD s (length s - 1 - 1) 0 ≡ 109 → ⊥) → spec.expression s ctx ≡ eachTime (count (length s - 1)) (float 1000000)
       unfolding offsetTime
       metric-s n =
           let z : length s - 1 - 1 ≡ length s - 2 = omega arith in
-          by-last ∙ rw (not-ms (λ h m e. n h (rw (← z) at m)), is-s)
+          by-last ∙ rw (not-ms (λ h m e. n h (rw (← z) at m)), is-s) (else-nothing _)
 
     -- the other metrics
     module _ (b : ℕ) (is-b : getD s (length s - 1) 0 ≡ b) (not-s : b ≡ 115 → ⊥) where
@@ -231,23 +243,34 @@ module _ (s : List ℕ) (some : 0 < length s) where
 
     pub metric-m : getD s (length s - 1) 0 ≡ 109 → spec.expression s ctx ≡ eachTime (count (length s - 1)) (float 60000000)
     unfolding offsetTime
-    metric-m e = by-byte 109 e (λ z. omega arith)
+    metric-m e = by-byte 109 e (λ z. omega arith) ∙ else-nothing _
 
     pub metric-h : getD s (length s - 1) 0 ≡ 104 → spec.expression s ctx ≡ eachTime (count (length s - 1)) (float 3600000000)
     unfolding offsetTime
-    metric-h e = by-byte 104 e (λ z. omega arith)
+    metric-h e = by-byte 104 e (λ z. omega arith) ∙ else-nothing _
 
     pub metric-f : getD s (length s - 1) 0 ≡ 102 → spec.expression s ctx ≡ rateTime (count (length s - 1)) (frameRate ctx)
     unfolding offsetTime
-    metric-f e = by-byte 102 e (λ z. omega arith)
+    metric-f e = by-byte 102 e (λ z. omega arith) ∙ else-nothing _
 
     pub metric-t : getD s (length s - 1) 0 ≡ 116 → spec.expression s ctx ≡ rateTime (count (length s - 1)) (tickRate ctx)
     unfolding offsetTime
-    metric-t e = by-byte 116 e (λ z. omega arith)
+    metric-t e = by-byte 116 e (λ z. omega arith) ∙ else-nothing _
 
     module _ (b : ℕ) (is-b : getD s (length s - 1) 0 ≡ b) where
       pub metric-none : (b ≡ 115 → ⊥) → (b ≡ 109 → ⊥) → (b ≡ 104 → ⊥) → (b ≡ 102 → ⊥) → (b ≡ 116 → ⊥) → spec.expression s ctx ≡ clockTime s ctx
-      metric-none a m h f t = by-byte b is-b a ∙ rw (ne-eqb b 115 a, ne-eqb b 109 m, ne-eqb b 104 h, ne-eqb b 102 f, ne-eqb b 116 t)
+      metric-none a m h f t =
+          by-byte b is-b a ∙ rw (ne-eqb b 115 a, ne-eqb b 109 m, ne-eqb b 104 h, ne-eqb b 102 f, ne-eqb b 116 t) (else-nothing _)
+
+-- the letters that metrics end in, as the program tests them
+module _ (b : ℕ) where
+  pub ends-none : endsMetric b ≡ false → (b ≡ 115 → ⊥) × (b ≡ 109 → ⊥) × (b ≡ 104 → ⊥) × (b ≡ 102 → ⊥) × (b ≡ 116 → ⊥)
+  ends-none n =
+      let not-one : (a : ℕ) → endsMetric a ≡ true → b ≡ a → ⊥ = λ a t e. true≢false (sym t ∙ (rw e at n)) in
+      (not-one 115 refl, not-one 109 refl, not-one 104 refl, not-one 102 refl, not-one 116 refl)
+
+  pub ends-last : endsMetric b ≡ true → (b ≡ 104 → ⊥) → (b ≡ 109 → ⊥) → (b ≡ 115 → ⊥) → (b ≡ 102 → ⊥) → b ≡ 116
+  ends-last t h m a f = eqb-true b 116 (rw (ne-eqb b 104 h, ne-eqb b 109 m, ne-eqb b 115 a, ne-eqb b 102 f) at t)
 
 -- ---- white space around it
 module _ (s : List ℕ) (a e : ℕ) (w : Trimmed s a e) (ctx : TimingCtx) where

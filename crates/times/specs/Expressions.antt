@@ -7,7 +7,7 @@
 use Prim.Native.Nat.{ℕ, zero, suc, _-_, _^_}
 use mathlib.Core.Path.{_≡_}
 use mathlib.Core.Logic.{_↔_}
-use mathlib.Core.Bool.{Bool, true, cond, _&&_}
+use mathlib.Core.Bool.{Bool, true, false, cond, _&&_, _||_}
 use mathlib.Core.List.{List, [], _∷_, _++_}
 use lib.ListN.{length, take, replicate}
 use lib.Dec.{eqb, leb, ltb}
@@ -95,48 +95,6 @@ frameRate ctx = given (ctx .«has_frame_rate») (ctx .«frame_rate»)
 abbrev pub tickRate : TimingCtx → Rate
 tickRate ctx = given (ctx .«has_tick_rate») (ctx .«tick_rate»)
 
--- ---- offset times
--- a metric: so many microseconds each, or counted by a rate
-pub data Metric : Type 0 where
-  each : (microseconds : ℕ) → Metric
-  by-frames by-ticks : Metric
-
-infix 70 _counts_
-pub data Suffix : Type 0 where
-  _counts_ : (suffix : List ℕ) → Metric → Suffix
-
--- in the order in which the Rust looks for them
-abbrev pub metrics : List Suffix
-metrics =
-    ascii "ms" counts each 1000
-    ∷ ascii "s" counts each 1000000
-    ∷ ascii "m" counts each 60000000
-    ∷ ascii "h" counts each 3600000000
-    ∷ ascii "f" counts by-frames
-    ∷ ascii "t" counts by-ticks
-    ∷ []
-
--- no time without a rate, or with one at or below 0
-abbrev pub counted : Float → Rate → Time
-counted v (rate r) = cond (le r (float 0)) Nothing (Is (atRate v r))
-counted v no-rate = Nothing
-
--- v of a metric; a product is rounded before it is cut
-abbrev pub inMetric : Metric → TimingCtx → Float → Time
-inMetric (each u) ctx v = Is (truncated (mul binary64 v (float u)))
-inMetric by-frames ctx v = counted v (frameRate ctx)
-inMetric by-ticks ctx v = counted v (tickRate ctx)
-
--- go on with the value of a decimal
-abbrev pub withValue : Decimal → (Float → Time) → Time
-withValue (Decimal.Is d) next = next (valueIn binary64 (d .negative) (d .digits) (d .scale))
-withValue Decimal.Nothing next = Nothing
-withValue Decimal.Beyond next = Beyond
-
--- a time-count and its metric; white space may stand around the count
-unfoldable pub offsetTime : List ℕ → Metric → TimingCtx → Time
-offsetTime n m ctx = withValue (timeDecimal (trimmed n)) (inMetric m ctx)
-
 -- ---- clock times
 -- hours, minutes, seconds: whole numbers, as Rust reads an i64
 abbrev pub integer : List ℕ → Numeral
@@ -223,20 +181,96 @@ unfoldable pub clockTime : List ℕ → TimingCtx → Time
 unfolding splitAt secondsOf
 clockTime s ctx = clockOf (splitAt 58 s) ctx
 
+-- ---- offset times
+-- TTML's metrics, in the order of its text, and how each is written
+pub data Metric : Type 0 where
+  `h` `m` `s` `ms` `f` `t` : Metric
+
+abbrev pub metrics : List Metric
+metrics = `h` ∷ `m` ∷ `s` ∷ `ms` ∷ `f` ∷ `t` ∷ []
+
+abbrev pub letters : Metric → List ℕ
+letters `h` = ascii "h"
+letters `m` = ascii "m"
+letters `s` = ascii "s"
+letters `ms` = ascii "ms"
+letters `f` = ascii "f"
+letters `t` = ascii "t"
+
+-- no time without a rate, or with one at or below 0
+abbrev pub counted : Float → Rate → Time
+counted v (rate r) = cond (le r (float 0)) Nothing (Is (atRate v r))
+counted v no-rate = Nothing
+
+-- so many microseconds each; the product is rounded before it is cut
+abbrev pub each : ℕ → Float → Time
+each u v = Is (truncated (mul binary64 v (float u)))
+
+-- v of a metric
+abbrev pub inMetric : Metric → TimingCtx → Float → Time
+inMetric `h` ctx v = each 3600000000 v
+inMetric `m` ctx v = each 60000000 v
+inMetric `s` ctx v = each 1000000 v
+inMetric `ms` ctx v = each 1000 v
+inMetric `f` ctx v = counted v (frameRate ctx)
+inMetric `t` ctx v = counted v (tickRate ctx)
+
+-- go on with the value of a decimal
+abbrev pub withValue : Decimal → (Float → Time) → Time
+withValue (Decimal.Is d) next = next (valueIn binary64 (d .negative) (d .digits) (d .scale))
+withValue Decimal.Nothing next = Nothing
+withValue Decimal.Beyond next = Beyond
+
+-- a time-count and its metric; white space may stand around the count
+unfoldable pub offsetTime : List ℕ → Metric → TimingCtx → Time
+offsetTime n m ctx = withValue (timeDecimal (trimmed n)) (inMetric m ctx)
+
 -- ---- a time expression
--- s without its last n bytes
+-- The seven ways to be a time, in the order of TTML's text (document 02, (d)): "clock time first, then offset time with the metrics h, m, s,
+-- ms, f, t".
+pub data Way : Type 0 where
+  clock : Way
+  offset : Metric → Way
+
+abbrev pub ways : List Way
+ways = clock ∷ offset `h` ∷ offset `m` ∷ offset `s` ∷ offset `ms` ∷ offset `f` ∷ offset `t` ∷ []
+
+-- s ends in w; s without so many bytes at its end
+abbrev pub endsIn : List ℕ → List ℕ → Bool
+endsIn w s = startsAt s (length s - length w) w
+
 abbrev pub without : ℕ → List ℕ → List ℕ
 without n s = take (length s - n) s
 
--- an offset time by the first metric that s ends in, or a clock time
-abbrev pub timeBy : List Suffix → List ℕ → TimingCtx → Time
-timeBy [] s ctx = clockTime s ctx
-timeBy (m counts u ∷ more) s ctx =
-    cond (startsAt s (length s - length m) m) (offsetTime (without (length m) s) u ctx) (timeBy more s ctx)
+-- s ends in one of these metrics
+abbrev pub endsInOne : List Metric → List ℕ → Bool
+endsInOne [] s = false
+endsInOne (m ∷ more) s = endsIn (letters m) s || endsInOne more s
 
+-- What s is in one way, by the rule of that way: no other way is asked, and no order. That it ends in no metric is part of what a clock time
+-- is: the Rust comes to its clock rule with no other text. Without this condition `0:0:0:s` would be 0, and `0:0:5.5s` 5 s.
+abbrev pub timeBy : Way → List ℕ → TimingCtx → Time
+timeBy clock s ctx = cond (endsInOne metrics s) Nothing (clockTime s ctx)
+timeBy (offset m) s ctx = cond (endsIn (letters m) s) (offsetTime (without (length (letters m)) s) m ctx) Nothing
+
+-- the first answer; where that is no time, the second
+infixr 50 _else_
+abbrev pub _else_ : Time → Time → Time
+Nothing else u = u
+Is z else u = Is z
+Beyond else u = Beyond
+LongFraction else u = LongFraction
+Overflow else u = Overflow
+
+-- the answer of the first of these ways that gives one, a time or a number
+abbrev pub firstOf : List Way → List ℕ → TimingCtx → Time
+firstOf [] s ctx = Nothing
+firstOf (way ∷ more) s ctx = timeBy way s ctx else firstOf more s ctx
+
+-- a time expression: the ways tried in their order, each going on to the next where it gives no time
 unfoldable pub expression : List ℕ → TimingCtx → Time
 unfolding offsetTime clockTime
-expression s ctx = timeBy metrics s ctx
+expression s ctx = firstOf ways s ctx
 
 -- white space around the whole is passed over, and nothing else is no time (the Rust's `parse_ttml_time`)
 unfoldable pub timeIn : List ℕ → TimingCtx → Time
@@ -252,3 +286,19 @@ pub record ReadsTime (t r : Time) : Type 0 where
   pub beyond : Says r 14 [] ↔ (t ≡ Beyond)
   pub long-fraction : Says r 15 [] ↔ (t ≡ LongFraction)
   pub overflow : Says r 16 [] ↔ (t ≡ Overflow)
+
+-- ---- one way for each time (document 02, (d))
+-- s, without the white space around it, is t in this way: a time, or the number that it meets
+abbrev pub TimeBy : Way → List ℕ → TimingCtx → Time → Type 0
+TimeBy way s ctx t = (timeBy way (trimmed s) ctx ≡ t) × ¬ (t ≡ Nothing)
+
+-- "Every answer is as it was": the order of trial before the change, which is the Rust's. The first of these metrics that s ends in decides,
+-- also where its count is no decimal; a clock time is what ends in none.
+abbrev pub byFirstMetric : List Metric → List ℕ → TimingCtx → Time
+byFirstMetric [] s ctx = clockTime s ctx
+byFirstMetric (m ∷ more) s ctx =
+    cond (endsIn (letters m) s) (offsetTime (without (length (letters m)) s) m ctx) (byFirstMetric more s ctx)
+
+abbrev pub inRustsOrder : List ℕ → TimingCtx → Time
+inRustsOrder s ctx =
+    cond (eqb (length (trimmed s)) 0) Nothing (byFirstMetric (`ms` ∷ `s` ∷ `m` ∷ `h` ∷ `f` ∷ `t` ∷ []) (trimmed s) ctx)

@@ -1,7 +1,7 @@
 -- Steps of the program, which contracts of inner functions cite. They need not be believed: `proofs/Parts.antt` shows that they make up
 -- what `Expressions` says.
 use Prim.Native.Nat.{ℕ, _+_, _-_, _*_}
-use mathlib.Core.Bool.{cond}
+use mathlib.Core.Bool.{Bool, cond, _||_}
 use mathlib.Core.List.{List, [], _∷_}
 use lib.ListN.{getD}
 use lib.Dec.{eqb, ltb}
@@ -24,6 +24,10 @@ plus (Sum.Is a) Sum.Overflow = Sum.Overflow
 plus Sum.Overflow b = Sum.Overflow
 
 -- ---- offset times
+-- a metric ends in this letter
+abbrev pub endsMetric : ℕ → Bool
+endsMetric b = eqb b 104 || eqb b 109 || eqb b 115 || eqb b 102 || eqb b 116
+
 abbrev pub eachTime : Decimal → Float → Time
 eachTime d u = withValue d (λ v. Time.Is (truncated (mul binary64 v u)))
 

@@ -194,27 +194,28 @@ fn clock_time(text: &[u8], ctx: TimingCtx) -> Time
     }
 }
 
-// A time expression without white space around it.
+// A time expression without white space around it, the steps in TTML's order: a clock time, then the metrics h, m, s, ms, f, t.
 fn expression(text: &[u8], ctx: TimingCtx) -> Time
     requires { ⌜ 0 < length (now text) ⌝ }
     ensures { λ r. ⌜ r ≡ expressions.expression (now (text .entry)) ctx ⌝ }
 {
     let end = text.len() - 1;
     let last = text[end];
+    if !crate::offset::ends_metric(last) {
+        return clock_time(text, ctx);
+    }
     match last {
-        b's' => {
-            if 0 < end {
-                if text[end - 1] == b'm' {
-                    return crate::offset::units(&text[..end - 1], 1000.0);
-                }
-            }
-            crate::offset::units(&text[..end], 1000000.0)
-        }
-        b'm' => crate::offset::units(&text[..end], 60000000.0),
         b'h' => crate::offset::units(&text[..end], 3600000000.0),
+        b'm' => crate::offset::units(&text[..end], 60000000.0),
+        b's' => {
+            // no count of seconds ends in m
+            if end == 0 || text[end - 1] != b'm' {
+                return crate::offset::units(&text[..end], 1000000.0);
+            }
+            crate::offset::units(&text[..end - 1], 1000.0)
+        }
         b'f' => crate::offset::at_rate(&text[..end], ctx.has_frame_rate, ctx.frame_rate),
-        b't' => crate::offset::at_rate(&text[..end], ctx.has_tick_rate, ctx.tick_rate),
-        _ => clock_time(text, ctx),
+        _ => crate::offset::at_rate(&text[..end], ctx.has_tick_rate, ctx.tick_rate),
     }
 }
 

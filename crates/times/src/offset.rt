@@ -2,7 +2,7 @@
 ghost use mathlib.Core.Path.{_≡_};
 ghost use Rattle.unicode.specs.White.{trimmed};
 ghost use Rattle.times.specs.Expressions.{timeDecimal, given};
-ghost use Rattle.times.specs.Steps.{eachTime, rateTime};
+ghost use Rattle.times.specs.Steps.{endsMetric, eachTime, rateTime};
 use decimals::Decimal;
 
 // The frame rate and the tick rate that a document gives, if it does.
@@ -25,6 +25,20 @@ pub enum Time {
     LongFraction,
     // 16: a product or a sum overflows
     Overflow,
+}
+
+// Does a metric end in this letter?
+pub fn ends_metric(b: u8) -> bool
+    ensures { λ r. ⌜ r ≡ endsMetric b ⌝ }
+{
+    match b {
+        b'h' => true,
+        b'm' => true,
+        b's' => true,
+        b'f' => true,
+        b't' => true,
+        _ => false,
+    }
 }
 
 // The decimal that a count spells, white space around it passed over.

@@ -22,6 +22,7 @@ use Rattle.grammar.proofs.Theorem as grammar
 use Rattle.tree.specs.declared.answers.Answer as tree-answer
 use Rattle.tree.specs.declared.answers.Refusal as tree-refusal
 use Rattle.tree.specs.Posts.{Fits}
+use Rattle.times.proofs.Ways as ways
 use Rattle.track.specs.Track.{Bytes, Cue, Track}
 use Rattle.track.specs.Tables as track
 use Rattle.track.specs.Tables.{zeroFloat}
@@ -84,7 +85,7 @@ use Rattle.ttml.specs.declared.back.Back as call
 use Rattle.ttml.specs.ReadBack.{Back, Signed, Went}
 use Rattle.ttml.specs.ReadBack as returning
 use Rattle.ttml.specs.Demands.{Determined, DeterminedBoth, QueryInC, Demand1, meansTrack, meansCue, HasRoom, Leaves}
-use Rattle.ttml.specs.Demands.{Demand2, Demand3, RequestK, Demands}
+use Rattle.ttml.specs.Demands.{Demand2, Demand3, RequestD, RequestK, Demands}
 
 -- ---- 1
 
@@ -603,7 +604,10 @@ demand-3 = record {
     takes-of : (text : Bytes) (lent : xml.Tables) → xml.LongEnough lent → Utf8 text → (f : Forest) → Derives text f → xml.Takes text lent f
     takes-of text lent l u f d = record { readable = record { long-enough = l; short = d .size; valid = u }; derives = d }
 
--- ---- the change requests
+-- ---- the change requests of document 02
+pub times-in-order : RequestD
+times-in-order = record { in-order = ways.in-order; some-way = ways.some-way; no-two-ways = ways.one-way; as-before = ways.as-before }
+
 pub order-of-ids : RequestK
 order-of-ids = record {
   value-order = λ value T t lent left answer e p z. ids-order (ofValue value) (p .queried) e z;
@@ -616,4 +620,4 @@ order-of-ids = record {
 }
 
 pub demands : Demands
-demands = record { first = demand-1; second = demand-2; third = demand-3; request-k = order-of-ids }
+demands = record { first = demand-1; second = demand-2; third = demand-3; request-d = times-in-order; request-k = order-of-ids }

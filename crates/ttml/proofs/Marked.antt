@@ -22,15 +22,15 @@ use Rattle.grammar.proofs.Examples as grammar
 use Rattle.times.specs.Sums.{checked}
 use Rattle.times.specs.declared.offset.TimingCtx.{TimingCtx}
 use Rattle.times.specs.declared.offset.Time.the-variants.{Nothing}
-use Rattle.times.specs.Expressions.{float, frameRate, counted, charsLength, microsOf, offsetTime, timeIn}
+use Rattle.times.specs.Expressions.{float, frameRate, counted, charsLength, microsOf, offsetTime, _else_, timeIn}
 use Rattle.times.specs.Written.{clockText}
 use Rattle.meaning.proofs.Computing.{computing}
 use Rattle.meaning.proofs.Examples.{below-zero}
 use Rattle.promised.proofs.Cases.{parsed-case}
 use Rattle.ttml.specs.Marked.{NoFrames, oneCue, film, Holds, All, marked}
 
--- five frames, counted by whatever rate there is
-five : (ctx : TimingCtx) → timeIn (ascii "5f") ctx ≡ counted (float 5) (frameRate ctx)
+-- five frames, counted by whatever rate there is; no way after that gives a time
+five : (ctx : TimingCtx) → timeIn (ascii "5f") ctx ≡ (counted (float 5) (frameRate ctx) else Nothing)
 unfolding timeIn offsetTime trimmed whiteAt whiteBefore isWhite sequenceAt charAt loop go digitByte runLength startsAt numeralOf decimalOf ofInt round
 five ctx = refl
 

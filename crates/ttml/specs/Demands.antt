@@ -19,12 +19,12 @@ use Prim.Native.Nat.{ℕ, _-_, _≤_, _<_}
 use mathlib.Core.Path.{_≡_}
 use mathlib.Core.Bool.{true}
 use mathlib.Core.Logic.{_↔_}
-use mathlib.Core.List.{List, [], _++_}
+use mathlib.Core.List.{List, [], _∷_, _++_}
 use mathlib.Core.Option.{none, some}
 use lib.ListN.{length, take, replicate}
 use lib.Ieee.{Float}
 use Rattle.unicode.specs.Utf8.{Utf8}
-use Rattle.unicode.specs.White.{words}
+use Rattle.unicode.specs.White.{trimmed, words}
 use Rattle.entities.specs.Decode.{decoded}
 use Rattle.grammar.specs.Tree.{Forest}
 use Rattle.grammar.specs.Demand.{Derives, NoTwo, decodeForest}
@@ -32,6 +32,9 @@ use Rattle.tree.specs.Trees as placed
 use Rattle.tree.specs.Answers.{Says}
 use Rattle.tree.specs.declared.answers.Answer as tree
 use Rattle.derivation.specs.Strings.{treeIn}
+use Rattle.times.specs.declared.offset.Time.{Time}
+use Rattle.times.specs.declared.offset.TimingCtx.{TimingCtx}
+use Rattle.times.specs.Expressions.{`h`, `m`, `s`, `ms`, `f`, `t`, Way, clock, offset, firstOf, timeIn, TimeBy, inRustsOrder}
 use Rattle.track.specs.Track.{Bytes, Style, Cue, Track}
 use Rattle.track.specs.Tables as track
 use Rattle.track.specs.Meaning.{trackIn}
@@ -240,6 +243,20 @@ pub record Demand3 : Type 0 where
 
 -- ---- the change requests of document 02
 
+-- (d) Times in the standard's order. `timeIn` is the time of a text for every call that reads one, `TimeBy` what a text is in one of the seven
+-- ways: a time, or the number that it meets.
+pub record RequestD : Type 0 where
+  -- "put the steps in the order of the standard's own text": "clock time first, then offset time with the metrics h, m, s, ms, f, t"
+  pub in-order : (text : Bytes) (ctx : TimingCtx) → timeIn text ctx
+      ≡ firstOf (clock ∷ offset `h` ∷ offset `m` ∷ offset `s` ∷ offset `ms` ∷ offset `f` ∷ offset `t` ∷ []) (trimmed text) ctx
+  -- a text has an answer exactly if it has that answer in one of the ways
+  pub some-way : (text : Bytes) (ctx : TimingCtx) (t : Time)
+      → ((timeIn text ctx ≡ t) × ¬ (t ≡ Time.Nothing)) ↔ ((way : Way) × TimeBy way text ctx t)
+  -- "no text is a time in two of these seven ways"; nor does one meet a number in one way and have an answer in another
+  pub no-two-ways : (text : Bytes) (ctx : TimingCtx) (v w : Way) (t u : Time) → TimeBy v text ctx t → TimeBy w text ctx u → v ≡ w
+  -- "Every answer is as it was."
+  pub as-before : (text : Bytes) (ctx : TimingCtx) → timeIn text ctx ≡ inRustsOrder text ctx
+
 -- (k) "Order of the ids reached"
 pub record RequestK : Type 0 where
   -- "The ids reached are listed in the order of their first visit: an id, then its parents from left to right, each followed out fully." So are
@@ -272,4 +289,5 @@ pub record Demands : Type 0 where
   pub first : Demand1
   pub second : Demand2
   pub third : Demand3
+  pub request-d : RequestD
   pub request-k : RequestK

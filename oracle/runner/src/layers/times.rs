@@ -23,7 +23,7 @@ pub const LAYER: Layer = Layer {
 /// What decides how a time reads: every text of up to 6 of these is asked, 12,204,241 in all.
 const SYMBOLS: &[char] = &['0', '1', '9', ':', '.', '+', '-', 's', 'm', 'h', 'f', 't', 'e', 'é', ' '];
 
-/// Parts of clock times: every one of up to 4 of these is asked, at each of 3 rates.
+/// Parts of clock times: every one of up to 4 of these is asked, at each of 3 rates, and with each metric behind it.
 const PARTS: &[&str] = &[
     "", "0", "1", "59", "+1", "-1", "-60", " 1", "x", "é", "0.5", "1.+5", "-1.-5", "1.éééé", "54.775807", "2562047788",
     "-2562047789", "153722867280", "9223372036854", "9223372036854775807", "-9223372036854775808", "1e3", "nan",
@@ -42,6 +42,10 @@ fn compare(run: &mut Run) {
         let text = parts.join(":");
         for &rate in &RATES[..3] {
             check(run, &text, (rate, None));
+        }
+        // What ends in a metric is no clock time.
+        for metric in METRICS {
+            check(run, &format!("{text}{metric}"), (Some(25.0), Some(50.0)));
         }
     });
     every_usual(|text| check(run, text, (None, None)));
@@ -172,6 +176,11 @@ const CORNERS: &[&[&str]] = &[
         "00:05", "00:00:01.1234567", "00:00:01.+5", "00:00:01.5é", "-1s", "5f", "5", "1.001s", "201f", "0.29h",
         "2562047788:1:-60", "999999999999999ms", "1000000000000000ms", "0.0000000000000000000001s",
         "0.00000000000000000000001s", "1.000000000000000s", "1e3f", "0:0:0:nan", "1e3s", "infs", "nanms", "-inft",
+    ],
+    // document 02, (d): what ends in a metric is no clock time, what ends in ms no count of seconds
+    &[
+        "0:0:0:s", "0:0:0:m", "0:0:0:h", "0:0:0:f", "0:0:0:t", "0:0:0:ms", "0:0:0.s", "0:0:5.5s", "0:0:1:5f",
+        "0:0:0:x", "0:0:0:inf", "0:0:0:infinity", "5ms", "5 ms", "5m s", "5mms", "5 m ms", "infms", "5smm",
     ],
     // offset times
     &[
@@ -369,6 +378,7 @@ fn given(text: &str, (frames, ticks): Rates) -> Vec<u8> {
 
 fn bench(bench: &mut Bench) {
     let clock = |n: usize| format!("{:02}:{:02}:{:02}.{:03}", n % 24, n * 7 % 60, n * 13 % 60, n * 37 % 1000);
+    let other = |n: usize| format!("{}:{:02}:{:02}.{:02}", n % 240, n * 7 % 60, n * 13 % 60, n * 37 % 100);
     let framed = |n: usize| format!("{:02}:{:02}:{:02}:{:02}", n % 24, n * 7 % 60, n * 13 % 60, n % 25);
     let offset = |n: usize| format!("{}.{:03}{}", n * 17 % 4000, n * 37 % 1000, METRICS[n / 3 % METRICS.len()]);
     let mixed = |n: usize| [clock(n), offset(n), framed(n)][n % 3].clone();
@@ -379,8 +389,13 @@ fn bench(bench: &mut Bench) {
         (ask_port(text, rates, &mut out) == 1).then_some(out[0])
     };
     bench.texts("parse_ttml_time, clock times", &pieces(clock), rust, port);
+    bench.texts("parse_ttml_time, other clock times", &pieces(other), rust, port);
     bench.texts("parse_ttml_time, clock times with frames", &pieces(framed), rust, port);
     bench.texts("parse_ttml_time, offset times", &pieces(offset), rust, port);
+    for metric in METRICS {
+        let offset = |n: usize| format!("{}.{:03}{metric}", n * 17 % 4000, n * 37 % 1000);
+        bench.texts(&format!("parse_ttml_time, offset times in {metric}"), &pieces(offset), rust, port);
+    }
     bench.texts("parse_ttml_time, all three", &pieces(mixed), rust, port);
 
     let times: Vec<i64> = (0..5_000).map(|n| n * 17_654_321).collect();
