@@ -1,7 +1,7 @@
 -- Laws of colours as they are read: places where a character starts, channels, and the forms of a colour. Assumes nothing.
 use Prim.Native.Nat.{ℕ, ◌+◌, ◌-◌, ◌≤◌, ◌<◌}
 use mathlib.Core.Path.{◌≡◌, refl, sym, ◌∙◌}
-use mathlib.Core.Bool.{true, false, and_false, or_true}
+use mathlib.Core.Bool.{true, false, and-false, or-true}
 use mathlib.Core.List.{List, [], ◌∷◌}
 use native.Mathlib.Omega.{arith}
 use native.Mathlib.Nat.{sub-zero}
@@ -40,7 +40,7 @@ module _ (s : List ℕ) (a e : ℕ) (times : List ℕ → List ℕ) where
 
   pub channel_cut_end : boundary s e ≡ false → hex_channel s a e times ≡ Channel.Cut
   unfolding hex_channel
-  channel_cut_end f = rw (f, and_false)
+  channel_cut_end f = rw (f, and-false)
 
   pub channel_is : (w : List ℕ) → boundary s a ≡ true → boundary s e ≡ true → times (part a e s) ≡ w
       → hex_channel s a e times ≡ channel_of (numeral_of w 16 255 false)
@@ -87,7 +87,7 @@ module _ (s : List ℕ) where
 
   pub rgb_short : length s - 1 < 4 → is_rgb s ≡ false
   unfolding is_rgb
-  rgb_short l = rw (lt-leb 5 (length s) (omega arith), and_false)
+  rgb_short l = rw (lt-leb 5 (length s) (omega arith), and-false)
 
   pub rgb_unmarked : starts_at s 0 (ascii "rgb(") ≡ false → is_rgb s ≡ false
   unfolding is_rgb
@@ -95,7 +95,7 @@ module _ (s : List ℕ) where
 
   pub rgb_open : (get_or s (length s - 1) 0 ≡ 41 → ⊥) → is_rgb s ≡ false
   unfolding is_rgb
-  rgb_open n = rw (ne_eqb (get_or s (length s - 1) 0) 41 n, and_false)
+  rgb_open n = rw (ne_eqb (get_or s (length s - 1) 0) 41 n, and-false)
 
 -- ---- what stands between commas, by the places where the runs of other bytes end
 module _ (b : ℕ) (s : List ℕ) (p r : ℕ) (x : Ends (other b) s p r) where

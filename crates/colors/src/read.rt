@@ -8,7 +8,7 @@ ghost use Rattle.colors.specs.Steps.{Small, Channels, channel_at, hex_channels, 
 
 use numerals::Numeral;
 
-#[derive(Drop)]
+#[derive(Clone, Copy)]
 pub struct Rgba {
     pub r: u8,
     pub g: u8,
@@ -17,7 +17,7 @@ pub struct Rgba {
 }
 
 // What a text is as a colour. `number_of` gives document 01's number for each answer.
-#[derive(Drop)]
+#[derive(Clone, Copy)]
 pub enum Color {
     Is(Rgba),
     // no colour
@@ -27,7 +27,7 @@ pub enum Color {
 }
 
 // What a part of a text is as a channel.
-#[derive(Drop)]
+#[derive(Clone, Copy)]
 pub enum Channel {
     Is(u8),
     Nothing,

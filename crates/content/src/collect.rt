@@ -19,13 +19,13 @@ use track::Span;
 use tree::{ELEMENT, NODE_CELLS, Refusal, SECTION};
 
 // How many rows of segments there are, and whether what follows stands at a boundary.
-#[derive(Drop)]
+#[derive(Clone, Copy)]
 pub struct Run {
     pub rows: usize,
     pub boundary: bool,
 }
 
-#[derive(Drop)]
+#[derive(Clone, Copy)]
 pub enum Collecting {
     Is(Run),
     Refused(Refusal),
@@ -198,13 +198,13 @@ fn wrap_with_style(
 }
 
 // When a span begins: its own begin, if that is a time, counted from `base`.
-#[derive(Drop)]
+#[derive(Clone, Copy)]
 pub struct Begin {
     pub has: bool,
     pub time: i64,
 }
 
-#[derive(Drop)]
+#[derive(Clone, Copy)]
 pub enum Beginning {
     Is(Begin),
     Refused(Refusal),

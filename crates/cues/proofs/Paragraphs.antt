@@ -4,7 +4,7 @@
 --     wrap-given, styled-some, styled-none                         what a p's attributes make of its content
 use Prim.Native.Nat.{ℕ, ◌+◌, ◌-◌, ◌*◌, ◌%◌, ◌≤◌, ◌<◌}
 use mathlib.Core.Path.{◌≡◌, refl, sym, ◌∙◌}
-use mathlib.Core.Bool.{Bool, true, false, cond, ◌&&◌, and_false}
+use mathlib.Core.Bool.{Bool, true, false, cond, ◌&&◌, and-false}
 use mathlib.Core.List.{List, [], ◌∷◌, ◌++◌, append_assoc, append-nil}
 use mathlib.Core.Option.{none, some}
 use native.Mathlib.Omega.{arith}
@@ -125,7 +125,7 @@ not_one track.done e = refl
 not_one (track.text s x) e = refl
 not_one (track.break x) e = refl
 not_one (track.timestamp z x) e = refl
-not_one (track.wrap w c x) e = rw e (sym (and_false (is_bare_font w)))
+not_one (track.wrap w c x) e = rw e (sym (and-false (is_bare_font w)))
 
 pub bare-none : (f : Segments Span) → segment_rows f ≡ 0 → false ≡ is_bare f
 unfolding segment_rows

@@ -2,7 +2,7 @@
 use tree::Refusal;
 
 // How many cues there are, rows of segments and rows of extras; and when the last element ends.
-#[derive(Drop)]
+#[derive(Clone, Copy)]
 pub struct Line {
     pub cues: usize,
     pub rows: usize,
@@ -10,7 +10,7 @@ pub struct Line {
     pub end: i64,
 }
 
-#[derive(Drop)]
+#[derive(Clone, Copy)]
 pub enum Lining {
     Is(Line),
     Refused(Refusal),

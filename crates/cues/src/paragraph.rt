@@ -17,14 +17,14 @@ use track::{FONT, SEGMENT_CELLS, Span};
 use tree::Refusal;
 
 // How many rows of segments there are.
-#[derive(Drop)]
+#[derive(Clone, Copy)]
 pub enum Styled {
     Is(usize),
     Refused(Refusal),
 }
 
 // A value that may be absent.
-#[derive(Drop)]
+#[derive(Clone, Copy)]
 pub struct Part {
     pub has: bool,
     pub span: Span,

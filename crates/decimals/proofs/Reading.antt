@@ -10,7 +10,7 @@
 --     decimal-none, decimal-minus, decimal-bare, decimal-signed     the sign
 --     value-limit, decimal-limits    a decimal is within the limits that it was read by
 use Rattle.std.proofs.Common.{◌≡◌, ℕ, suc, ◌+◌, ◌-◌, ◌*◌, ◌^◌, ◌<◌, ◌≤◌, Bool, true, false, cond, ◌&&◌, ◌||◌, eqb, ltb, leb, List, [], ◌∷◌, ◌++◌, length, get_or, take, drop, sym, refl, ap, ◌∙◌, mul-le-mul_right, mul_assoc, mul_comm, pow-suc, mul-one, mul_left_comm, add-one, arith, lit≤, length-append, length-drop, drop_of_length-le, length-take, take_all, drop-cons, drop-drop, ltb-false, ltb-true, lt-ltb, eq-eqb, ne_eqb, eqb-true, le-leb, leb-true}
-use mathlib.Core.Bool.{and_false, or_true, and-eq-true_iff}
+use mathlib.Core.Bool.{and-false, or-true, and-eq-true_iff}
 use native.Mathlib.Nat.{one-le-pow, pow-le-pow_right}
 use borrow.Author.Tests.{eqb-false, lt-leb}
 use Rattle.scan.specs.Bytes.{digit_byte, run_length_of, run_end_of}
@@ -57,7 +57,7 @@ module _ (b x y : ℕ) where
   is-first e = rw (eq-eqb b x e)
 
   pub is-second : eqb b y ≡ true → (eqb b x || eqb b y) ≡ true
-  is-second e = rw e (or_true (eqb b x))
+  is-second e = rw e (or-true (eqb b x))
 
   pub is-neither : (b ≡ x → ⊥) → eqb b y ≡ false → (eqb b x || eqb b y) ≡ false
   is-neither n e = rw (ne_eqb b x n, e)
@@ -70,7 +70,7 @@ module _ (s : List ℕ) where
 
   pub word-second : same_folded s (105 ∷ 110 ∷ 102 ∷ 105 ∷ 110 ∷ 105 ∷ 116 ∷ 121 ∷ []) ≡ true → is_word s ≡ true
   unfolding is_word
-  word-second e = rw (e, or_true)
+  word-second e = rw (e, or-true)
 
   pub word-last : same_folded s (105 ∷ 110 ∷ 102 ∷ []) ≡ false → same_folded s (105 ∷ 110 ∷ 102 ∷ 105 ∷ 110 ∷ 105 ∷ 116 ∷ 121 ∷ []) ≡ false
       → is_word s ≡ same_folded s (110 ∷ 97 ∷ 110 ∷ [])
@@ -224,7 +224,7 @@ module _ (minus : Bool) (s : List ℕ) (digits decimals whole from end : ℕ) (f
 module _ (minus : Bool) (ds : List ℕ) (scale digits decimals : ℕ) where
   pub limited-far : decimals < scale → limited minus ds scale digits decimals ≡ Beyond
   unfolding limited
-  limited-far h = rw (lt-leb scale decimals h, and_false)
+  limited-far h = rw (lt-leb scale decimals h, and-false)
 
   pub limited-long : digits < significant ds → limited minus ds scale digits decimals ≡ Beyond
   unfolding limited

@@ -4,7 +4,7 @@
 --     bits_right, bits_left   the whole part from the bits: the digits, moved by the exponent
 --     cut_high, cut_low, cut_none, cut_whole, cut_minus   the float as an i64, by those comparisons
 use Rattle.std.proofs.Common.{◌≡◌, ℕ, zero, suc, ◌+◌, ◌-◌, ◌*◌, ◌/◌, ◌%◌, ◌^◌, ◌<◌, ◌≤◌, min, Bool, true, false, cond, not, ◌&&◌, ◌||◌, T, eqb, ltb, leb, ℤ, pos, negsuc, neg_ℤ, sym, refl, ap, ◌∙◌, true≢false, le_trans, le_of_eq, lt_of_lt_of_le, lt_irrefl, mul-le-mul_right, mod-lt, mod-eq_of_lt, mul_assoc, mul_comm, div-lt_iff_lt-mul, add-sub_of_le, lt_of_mul-lt-mul_right, mul-lt-mul_of_pos_right, mul-pos, one-mul, lt_of_not-le, le-div_iff_mul-le, mul-one, mul_right_comm, le_of_mul-le-mul_right, mul-div_cancel, arith, ltb→lt, leb→le, pow_pos, pow_mono, pow-add, shl_lt, w64, SFits, le-ltb, lt-ltb, eq-eqb, ne_eqb, eqb-true, leb-false, leb-true}
-use mathlib.Core.Bool.{and-true, or_true}
+use mathlib.Core.Bool.{and-true, or-true}
 use lib.Ieee.{Float, nan, inf, fin, binary64, odd, of_fields, of_bits, to_bits, fits, up, down, le, lt, neg, is_nan, to_unsigned, to_signed}
 use lib.Ieee.Bits.{of_bits-to_bits}
 use lib.Ieee.Casts.{to_unsigned-lt}
@@ -36,7 +36,7 @@ below_or_level p b d D = by (leb p (b / d)) refl
         split (eqb (p * d) b) refl l
       where
         split : (u : Bool) → eqb (p * d) b ≡ u → p * d ≤ b → (ltb (p * d) b || eqb (p * d) b) ≡ true
-        split true w l = rw w (or_true (ltb (p * d) b))
+        split true w l = rw w (or-true (ltb (p * d) b))
         split false w l = let n : p * d ≡ b → ⊥ = eqb-false (p * d) b w in let g : p * d < b = omega arith in rw (lt-ltb (p * d) b g)
     by false e =
         let l : b < p * d = (div-lt_iff_lt-mul D).0 (leb-false p (b / d) e) in

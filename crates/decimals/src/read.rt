@@ -8,14 +8,14 @@ ghost use Rattle.decimals.specs.Steps.{OneMore, Room, Further, Digital, PointAt,
 use scan::Class;
 
 // digits / 10^scale, negative or not
-#[derive(Drop)]
+#[derive(Clone, Copy)]
 pub struct Digits {
     pub negative: bool,
     pub digits: u64,
     pub scale: u32,
 }
 
-#[derive(Drop)]
+#[derive(Clone, Copy)]
 pub enum Decimal {
     Is(Digits),
     // Rust's parser takes no such text
@@ -25,14 +25,14 @@ pub enum Decimal {
 }
 
 // Digits read so far: how many after leading zeros, and their value while they are at most 18.
-#[derive(Drop)]
+#[derive(Clone, Copy)]
 pub struct Count {
     pub value: u64,
     pub significant: usize,
 }
 
 // The value of digits, and where they end.
-#[derive(Drop)]
+#[derive(Clone, Copy)]
 pub struct Run {
     pub end: usize,
     pub value: u64,

@@ -8,7 +8,7 @@ use crate::read::Digits;
 use scan::Written;
 
 // The spelling is that of digits / 10^scale, with no zero at the end behind the point.
-#[derive(Drop)]
+#[derive(Clone, Copy)]
 pub struct Size {
     pub value: f32,
     pub negative: bool,

@@ -9,7 +9,7 @@ use native.Mathlib.Omega.{arith}
 use mathlib.Core.Bool.{true}
 use mathlib.Core.List.{List, [], ◌∷◌}
 use lib.ListN.{length, get_or, take, drop, length-append, length-drop, drop_of_length-le}
-use lib.Seq.{take-nil, drop-drop, drop_length}
+use lib.Seq.{take-nil, drop-drop, drop-length}
 use lib.Dec.{eqb, ltb}
 use borrow.Author.Tests.{ltb-true, ltb-false}
 use Rattle.scan.specs.Marks.{starts_at, seek, past}
@@ -89,7 +89,7 @@ module _ (m s : List ℕ) where
       ∙ by-test (ltb (seek m s i) (length s))
       (λ e. rw (past-got m s i (seek m s i) refl (ltb-true (seek m s i) (length s) e)))
       (λ e. let l : length s ≤ seek m s i = ltb-false (seek m s i) (length s) e in
-      rw (past-none m s i (seek m s i) refl l, drop_length s) (drop_of_length-le s {i = seek m s i + length m} (omega arith)))
+      rw (past-none m s i (seek m s i) refl l, drop-length s) (drop_of_length-le s {i = seek m s i + length m} (omega arith)))
 
   before-take : (i : ℕ) → i ≤ length s → before m (drop i s) ≡ take (seek m s i - i) (drop i s)
   unfolding before

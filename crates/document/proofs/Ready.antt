@@ -8,7 +8,7 @@ use native.Mathlib.Omega.{arith}
 use lib.ListN.{length, get_or}
 use lib.Dec.{eqb, leb}
 use lib.Ieee.{Float}
-use borrow.Author.Tests.{eqb-true, not_true}
+use borrow.Author.Tests.{eqb-true, not-true}
 use Rattle.decimals.specs.declared.size.Size.{Size}
 use Rattle.decimals.specs.Size.{is_size}
 use Rattle.decimals.proofs.Sizes.{size-says}
@@ -47,7 +47,7 @@ use Rattle.document.specs.Roots.{ParamReady, OwnersReady, RootReady, WholeReady}
 near : (c d s : ℕ) (v : Float) → is_size_at c d s v ≡ true → not (eqb c 0) ≡ true → (size_at c d s v).scale ≤ 10
 unfolding is_size_at size_at
 near c d s v h e =
-    let q : eqb c 0 ≡ false = not_true (eqb c 0) e in
+    let q : eqb c 0 ≡ false = not-true (eqb c 0) e in
     let x : Size = record { value = v; negative = eqb c 2; digits = d; scale = s } in
     let g : leb c 2 && is_size x ≡ true = rw q at h in
     rw q (size-says x (both {a = leb c 2} {b = is_size x} g).1).near

@@ -11,7 +11,7 @@ use native.Mathlib.Omega.{arith}
 use lib.ListN.{length, get_or}
 use lib.Dec.{eqb}
 use lib.Ieee.{Float}
-use borrow.Author.Tests.{not_true}
+use borrow.Author.Tests.{not-true}
 use Rattle.scan.specs.Part.{string_at}
 use Rattle.scan.specs.declared.table.Written.{Written}
 use Rattle.entities.specs.Escape.{escaped}
@@ -49,7 +49,7 @@ module _ (t z name : List ℕ) (needed n j : ℕ) (e : first_with t z name 27 ne
 
   row_has : eqb (get_or t (j * 27 + needed) 0) 0 ≡ false
   row_has =
-      not_true (eqb (get_or t (j * 27 + needed) 0) 0)
+      not-true (eqb (get_or t (j * 27 + needed) 0) 0)
       (both {a = not (eqb (get_or t (j * 27 + needed) 0) 0)} {b = is_named t z name (j * 27)} (with_first t z name 27 n needed j e).passes).0
 
 module _ (T : Tables) (name : Bytes) (n : ℕ) where

@@ -11,7 +11,7 @@ use mathlib.Core.List.{List, [], ◌∷◌, ◌++◌}
 use native.Mathlib.Omega.{arith}
 use lib.ListN.{length, get_or, length-append}
 use lib.Dec.{ltb}
-use borrow.Author.Tests.{ne_eqb, eqb-false, lt-ltb, ltb-true, ltb-false, not_true}
+use borrow.Author.Tests.{ne_eqb, eqb-false, lt-ltb, ltb-true, ltb-false, not-true}
 use Rattle.scan.specs.Bytes.{other, text_byte, run_end_of, run_length_of}
 use Rattle.scan.specs.Names.{same_bytes_of}
 use Rattle.scan.specs.Text.{ascii}
@@ -75,7 +75,7 @@ module _ (q : Bool) (n : ℕ) (f : plain q n ≡ false) (a : n ≡ 38 → ⊥) w
   holds s = every-at (other n) (escaped q s) 0 (every-escaped (other n) q s (λ b. other_byte b (way q n)))
 
   pub absent : (s : List ℕ) (k : ℕ) → k < length (escaped q s) → get_or (escaped q s) k 0 ≡ n → ⊥
-  absent s k h e = eqb-false (get_or (escaped q s) k 0) n (not_true _ (holds s k h)) e
+  absent s k h e = eqb-false (get_or (escaped q s) k 0) n (not-true _ (holds s k h)) e
 
   pub absent-run : (s : List ℕ) → run_end_of (other n) (escaped q s) 0 ≡ length (escaped q s)
   absent-run s = by (ltb (run_end_of (other n) (escaped q s) 0) (length (escaped q s))) refl

@@ -14,7 +14,7 @@ use native.Mathlib.Numerals.{add-one}
 use lib.ListN.{length, get_or, drop, set, length-append, length-drop, take-append-drop, drop_of_length-le}
 use lib.Seq.{sets, length-sets, drop-cons, drop-drop, get_or-drop, get_or-take, length-take-le}
 use lib.Dec.{eqb}
-use borrow.Author.Tests.{ne_eqb, eqb-true, eqb-false, not_true, not_false}
+use borrow.Author.Tests.{ne_eqb, eqb-true, eqb-false, not-true, not-false}
 use Rattle.scan.specs.Bytes.{other}
 use Rattle.scan.specs.Part.{part}
 use Rattle.scan.specs.Posts.{Ends, Appended}
@@ -112,11 +112,11 @@ decoded-run s i e w =
         let g : k < e - i = omega arith in
         let y : get_or s (i + k) 0 ≡ 38 = sym (get_or-take (e - i) (drop i s) k 0 g ∙ get_or-drop i s k 0) ∙ x in
         let m : i + k < e = omega arith in
-        eqb-false (get_or s (i + k) 0) 38 (not_true _ (run-all (other 38) s i (i + k) (omega arith) (rw w.is at m))) y
+        eqb-false (get_or s (i + k) 0) 38 (not-true _ (run-all (other 38) s i (i + k) (omega arith) (rw w.is at m))) y
 
 -- and the `&` where it ends
 pub run-mark : (s : List ℕ) (i e : ℕ) → Ends (other 38) s i e → e < length s → get_or s e 0 ≡ 38
-run-mark s i e w h = eqb-true (get_or s e 0) 38 (not_false _ (w.stops h))
+run-mark s i e w h = eqb-true (get_or s e 0) 38 (not-false _ (w.stops h))
 
 -- one `&`
 module _ (s : List ℕ) (p at : ℕ) (t t' : List ℕ) (h : p < length s) (e : get_or s p 0 ≡ 38) where

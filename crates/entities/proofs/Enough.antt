@@ -5,7 +5,7 @@
 --     reference-run, length_run what follows an `&`, and how long its name is, by the bytes that the program takes
 use Prim.Native.Nat.{ℕ, zero, suc, ◌≤◌, ◌<◌}
 use mathlib.Core.Path.{◌≡◌, refl, sym, ap, ◌∙◌}
-use mathlib.Core.Bool.{Bool, true, false, cond, not, not_not, ◌&&◌, ◌||◌, and_false, false≢true, true≢false}
+use mathlib.Core.Bool.{Bool, true, false, cond, not, not-not, ◌&&◌, ◌||◌, and-false, false≢true, true≢false}
 use mathlib.Core.List.{List, [], ◌∷◌}
 use mathlib.Core.Logic.{◌⊎◌, inl, inr}
 use native.Mathlib.Omega.{arith}
@@ -68,7 +68,7 @@ module _ (b : ℕ) (s : List ℕ) where
 
   ends-ascii : b < 128 → ends_name (b ∷ s) ≡ not (taken_byte b)
   unfolding ends_name taken_byte
-  ends-ascii h = rw (starts_ascii h) (sym (not_not _))
+  ends-ascii h = rw (starts_ascii h) (sym (not-not _))
 
 taken-high : (b : ℕ) → taken_byte b ≡ false → b < 128
 unfolding taken_byte
@@ -86,7 +86,7 @@ taken-high b e = by (ltb b 128) refl
           ne_eqb b 32 (λ z. omega arith),
           lt-leb b 13
               (omega arith),
-          and_false,
+          and-false,
         ) in
         absurd (true≢false (sym n ∙ e))
 

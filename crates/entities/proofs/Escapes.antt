@@ -12,7 +12,7 @@ use native.Mathlib.Numerals.{add-one}
 use lib.ListN.{length, get_or, drop, length-append, length-take, length-drop, drop_of_length-le, take-append-drop}
 use lib.Seq.{length-sets, drop-drop, drop-cons, get_or-take, get_or-drop}
 use lib.Dec.{eqb}
-use borrow.Author.Tests.{eqb-true, eqb-false, ne_eqb, not_false}
+use borrow.Author.Tests.{eqb-true, eqb-false, ne_eqb, not-false}
 use Rattle.scan.specs.Part.{part}
 use Rattle.scan.specs.Posts.{Ends, Appended, Wrote, WroteInPart}
 use Rattle.scan.specs.declared.table.Written.{Written}
@@ -33,7 +33,7 @@ module _ (q : Bool) (b : ℕ) (a : b ≡ 38 → ⊥) (l : b ≡ 60 → ⊥) (g :
   escape_rest = rw (ne_eqb b 38 a, ne_eqb b 60 l, ne_eqb b 62 g)
 
   pub escape_quote : plain q b ≡ false → escape_byte q b ≡ 38 ∷ 113 ∷ 117 ∷ 111 ∷ 116 ∷ 59 ∷ []
-  escape_quote e = rw (escape_rest, not_false (q && eqb b 34) (sym plain-rest ∙ e))
+  escape_quote e = rw (escape_rest, not-false (q && eqb b 34) (sym plain-rest ∙ e))
 
 pub plain-quote : (q : Bool) → plain q 34 ≡ not q
 unfolding plain

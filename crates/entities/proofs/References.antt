@@ -10,7 +10,7 @@
 --     refers_out, refers_long, refers_open, refers_none, refers_to   the same at a place of a text, as the program asks
 use Prim.Native.Nat.{ℕ, suc, ◌+◌, ◌-◌, ◌≤◌, ◌<◌}
 use mathlib.Core.Path.{◌≡◌, refl, sym, ap, ◌∙◌}
-use mathlib.Core.Bool.{Bool, true, false, cond, not, ◌&&◌, ◌||◌, and_false}
+use mathlib.Core.Bool.{Bool, true, false, cond, not, ◌&&◌, ◌||◌, and-false}
 use mathlib.Core.List.{List, [], ◌∷◌}
 use mathlib.Core.Logic.{◌⊎◌, inl, inr}
 use native.Mathlib.Omega.{arith}
@@ -191,7 +191,7 @@ module _ (s : List ℕ) where
   reference-open e = reference-run s ∙ rw (ne_eqb (get_or s (taken s) 0) 59 e)
 
   pub reference-long : 16 < taken s → reference s ≡ Unknown
-  reference-long h = reference-run s ∙ rw (lt-leb (taken s) 16 h, and_false)
+  reference-long h = reference-run s ∙ rw (lt-leb (taken s) 16 h, and-false)
 
 -- what is known of a reference s to the character c
 pub record Referred (s : List ℕ) (c : ℕ) : Type 0 where

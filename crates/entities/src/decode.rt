@@ -7,7 +7,7 @@ ghost use Rattle.entities.specs.Steps.{Stepped};
 use crate::reference::Target;
 
 // Where the next byte is read, and where the next byte is written.
-#[derive(Drop)]
+#[derive(Clone, Copy)]
 pub struct Step {
     pub from: usize,
     pub to: usize,

@@ -7,14 +7,14 @@ ghost use Rattle.entities.specs.Steps.{taken_byte, NameEnd, Refers};
 use numerals::Numeral;
 
 // What a name stands for.
-#[derive(Drop)]
+#[derive(Clone, Copy)]
 pub enum Entity {
     Char(u32),
     Unknown,
 }
 
 // What stands after an `&`: a reference, with its character and the place after its `;`, or just bytes.
-#[derive(Drop)]
+#[derive(Clone, Copy)]
 pub enum Target {
     To(u32, usize),
     Literal,

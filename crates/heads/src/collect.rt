@@ -7,13 +7,13 @@ use tree::{NODE_CELLS, Refusal};
 use xml::Found;
 
 // Rows of a table, and rows of extras up to and with theirs.
-#[derive(Drop)]
+#[derive(Clone, Copy)]
 pub struct Count {
     pub rows: usize,
     pub extras: usize,
 }
 
-#[derive(Drop)]
+#[derive(Clone, Copy)]
 pub enum Counting {
     Is(Count),
     Refused(Refusal),
@@ -155,14 +155,14 @@ fn find_regions(
 }
 
 // How many styles and regions there are, and rows of their extras.
-#[derive(Drop)]
+#[derive(Clone, Copy)]
 pub struct Heads {
     pub styles: usize,
     pub regions: usize,
     pub extras: usize,
 }
 
-#[derive(Drop)]
+#[derive(Clone, Copy)]
 pub enum Heading {
     Is(Heads),
     Refused(Refusal),

@@ -9,7 +9,7 @@ use tree::Refusal;
 use xml::Value;
 
 // A row more, with so many extras; no id, and so nothing; or a number.
-#[derive(Drop)]
+#[derive(Clone, Copy)]
 pub enum Made {
     Row(usize),
     Skipped,

@@ -10,7 +10,7 @@ use styling::TimeSaid;
 use times::{Sum, TimingCtx};
 use tree::Refusal;
 
-#[derive(Drop)]
+#[derive(Clone, Copy)]
 pub enum Moment {
     Is(i64),
     Refused(Refusal),
@@ -27,13 +27,13 @@ fn add(a: i64, b: i64, place: usize) -> Moment
 }
 
 // A time that may be absent.
-#[derive(Drop)]
+#[derive(Clone, Copy)]
 pub struct Given {
     pub has: bool,
     pub time: i64,
 }
 
-#[derive(Drop)]
+#[derive(Clone, Copy)]
 pub enum Giving {
     Is(Given),
     Refused(Refusal),
@@ -111,13 +111,13 @@ pub fn lasting_to(
 }
 
 // When a p begins and ends.
-#[derive(Drop)]
+#[derive(Clone, Copy)]
 pub struct Interval {
     pub start: i64,
     pub end: i64,
 }
 
-#[derive(Drop)]
+#[derive(Clone, Copy)]
 pub enum Timed {
     Is(Interval),
     Refused(Refusal),

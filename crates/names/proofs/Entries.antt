@@ -10,7 +10,7 @@ use mathlib.Core.List.{List, [], ◌∷◌, ◌++◌}
 use native.Mathlib.Omega.{arith}
 use native.Mathlib.Nat.{add-zero, add-suc, suc-add, zero-add}
 use lib.ListN.{length, get_or}
-use borrow.Author.Tests.{not_true}
+use borrow.Author.Tests.{not-true}
 use Rattle.scan.specs.Bytes.{run_length_of}
 use Rattle.scan.specs.Names.{same_bytes_of, same_folded}
 pub use Rattle.scan.specs.Every.{every}
@@ -55,16 +55,16 @@ pub distinct_at : (ns : List (List ℕ)) → distinct ns ≡ true → (i j : ℕ
     → same_folded (get_or ns i []) (get_or ns j []) ≡ false
 distinct_at [] e i j h l ne = absurd (omega arith)
 distinct_at (n ∷ ns) e zero zero h l ne = absurd (ne refl)
-distinct_at (n ∷ ns) e zero (suc j) h l ne = not_true _ (every-at (differs n) ns [] (both {b = distinct ns} e).0 j (omega arith))
+distinct_at (n ∷ ns) e zero (suc j) h l ne = not-true _ (every-at (differs n) ns [] (both {b = distinct ns} e).0 j (omega arith))
 distinct_at (n ∷ ns) e (suc i) zero h l ne =
-    folded_sym_false n (get_or ns i []) (not_true _ (every-at (differs n) ns [] (both {b = distinct ns} e).0 i (omega arith)))
+    folded_sym_false n (get_or ns i []) (not-true _ (every-at (differs n) ns [] (both {b = distinct ns} e).0 i (omega arith)))
 distinct_at (n ∷ ns) e (suc i) (suc j) h l ne =
     distinct_at ns (both {a = every (differs n) ns} e).1 i j (omega arith) (omega arith) (λ q. ne (ap suc q))
 
 pub apart_at : (ms ns : List (List ℕ)) → apart ms ns ≡ true → (i j : ℕ) → i < length ms → j < length ns
     → same_folded (get_or ms i []) (get_or ns j []) ≡ false
 apart_at ms ns e i j h l =
-    not_true _ (every-at (differs (get_or ms i [])) ns [] (every-at (λ (m : List ℕ). every (differs m) ns) ms [] e i h) j l)
+    not-true _ (every-at (differs (get_or ms i [])) ns [] (every-at (λ (m : List ℕ). every (differs m) ns) ms [] e i h) j l)
 
 -- ---- what an answer says
 -- the number r counts from k on, and the name s is the one with that number
@@ -107,7 +107,7 @@ number-there k s (n ∷ ns) e (suc i) h f =
     rw (other, add-suc k i, ← (suc-add k i)) (number-there (suc k) s ns (both {a = every (differs n) ns} e).1 i (omega arith) f)
   where
     apart_here : same_folded n (get_or ns i []) ≡ false
-    apart_here = not_true _ (every-at (differs n) ns [] (both {b = distinct ns} e).0 i (omega arith))
+    apart_here = not-true _ (every-at (differs n) ns [] (both {b = distinct ns} e).0 i (omega arith))
 
     other : same_folded s n ≡ false
     other = not_so (same_folded s n) (λ g. true≢false (sym (folded_trans n s (get_or ns i []) (same_folded-sym s n g) f) ∙ apart_here))
@@ -117,7 +117,7 @@ pub number-nowhere : (k : ℕ) (s : List ℕ) (ns : List (List ℕ)) → every (
 unfolding number_from
 number-nowhere k s [] e = refl
 number-nowhere k s (n ∷ ns) e =
-    rw (not_true (same_folded s n) (both {b = every (differs s) ns} e).0) (number-nowhere (suc k) s ns (both {a = differs s n} e).1)
+    rw (not-true (same_folded s n) (both {b = every (differs s) ns} e).0) (number-nowhere (suc k) s ns (both {a = differs s n} e).1)
 
 pub in_there : (ns : List (List ℕ)) (i : ℕ) → i < length ns → is_in (get_or ns i []) ns ≡ true
 unfolding is_in

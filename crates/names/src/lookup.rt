@@ -9,7 +9,7 @@ ghost use Rattle.names.specs.Steps.{slot_of, slots, is_initial, can_begin};
 use crate::tables::Listed;
 
 // A name's number in a list, from 0 on, or it is not listed.
-#[derive(Drop)]
+#[derive(Clone, Copy)]
 pub enum Number {
     At(usize),
     Nothing,

@@ -6,7 +6,7 @@ ghost use Rattle.names.specs.Lists.{names, name_of, style_extra, inline_extra, r
 ghost use Rattle.names.specs.Posts.{Cut, Holds, HoldsAt};
 
 // The lists, after the Rust's constants.
-#[derive(Drop)]
+#[derive(Clone, Copy)]
 pub enum Listed {
     StyleExtra,
     InlineExtra,
@@ -16,7 +16,7 @@ pub enum Listed {
 }
 
 // The name is the first `len` bytes; the rest are blanks.
-#[derive(Drop)]
+#[derive(Clone, Copy)]
 pub struct Name {
     pub bytes: [u8; 25],
     pub len: usize,

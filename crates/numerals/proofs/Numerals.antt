@@ -1,7 +1,7 @@
 -- Laws of digits, of the value of a row of digits and of whole numbers. Assumes nothing.
 use Prim.Native.Nat.{ℕ, ◌+◌, ◌-◌, ◌*◌, ◌/◌, ◌≤◌, ◌<◌}
 use mathlib.Core.Path.{◌≡◌, refl, sym, ap, ◌∙◌}
-use mathlib.Core.Bool.{Bool, true, false, cond, ◌&&◌, and_assoc, and_false}
+use mathlib.Core.Bool.{Bool, true, false, cond, ◌&&◌, and_assoc, and-false}
 use mathlib.Core.List.{List, [], ◌∷◌, ◌++◌}
 use native.Mathlib.Omega.{arith}
 use native.Mathlib.Nat.{le-mul_of_pos_right, le-div_iff_mul-le, div-lt_iff_lt-mul}
@@ -97,7 +97,7 @@ module _ (radix most : ℕ) where
   pub unsigned-over : (s : List ℕ) → most < value_from radix 0 s → unsigned_of s radix most ≡ Unsigned.Nothing
   unfolding unsigned_of
   unsigned-over [] h = refl
-  unsigned-over (b ∷ s) h = rw (lt-leb (value_from radix 0 (b ∷ s)) most h, and_false)
+  unsigned-over (b ∷ s) h = rw (lt-leb (value_from radix 0 (b ∷ s)) most h, and-false)
 
 -- whether a product is within the largest, asked of the quotient
 module _ (radix most v : ℕ) (r : 1 ≤ radix) where

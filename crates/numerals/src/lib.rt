@@ -8,20 +8,20 @@ ghost use Rattle.numerals.specs.Numerals.{digit_of, unsigned_of, signed_by_of, n
 
 pub use write::{decimal_width, put_digits};
 
-#[derive(Drop)]
+#[derive(Clone, Copy)]
 pub struct Whole {
     pub negative: bool,
     pub magnitude: u64,
 }
 
-#[derive(Drop)]
+#[derive(Clone, Copy)]
 pub enum Numeral {
     Is(Whole),
     Nothing,
 }
 
 // A number without its sign.
-#[derive(Drop)]
+#[derive(Clone, Copy)]
 pub enum Unsigned {
     Is(u64),
     Nothing,

@@ -14,14 +14,14 @@ use tree::Refusal;
 use xml::Value;
 
 // A rate; no such parameter, or none that is a rate; or 14 at the attribute.
-#[derive(Drop)]
+#[derive(Clone, Copy)]
 pub enum RateSaid {
     Is(f64),
     Nothing,
     Refused(Refusal),
 }
 
-#[derive(Drop)]
+#[derive(Clone, Copy)]
 pub enum TimingSaid {
     Is(TimingCtx),
     Refused(Refusal),

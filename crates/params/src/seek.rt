@@ -7,7 +7,7 @@ use tree::ATTR_CELLS;
 use xml::Value;
 
 // The name whole, or a parameter's name without its prefix.
-#[derive(Drop)]
+#[derive(Clone, Copy)]
 pub enum Sought {
     Whole,
     Param,

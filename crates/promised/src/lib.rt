@@ -7,7 +7,7 @@
 use tree::Refusal;
 
 // The track stands in the tables; or a number of document 01 and a place, and every cell is zero.
-#[derive(Drop)]
+#[derive(Clone, Copy)]
 pub enum Answer {
     Track,
     Refused(Refusal),

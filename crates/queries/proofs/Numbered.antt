@@ -13,7 +13,7 @@ use native.Mathlib.Omega.{arith}
 use native.Mathlib.Nat.{add-zero}
 use lib.ListN.{length, get_or}
 use lib.Dec.{eqb}
-use borrow.Author.Tests.{not_true, eqb-true, eqb-false, eq-eqb, ne_eqb}
+use borrow.Author.Tests.{not-true, eqb-true, eqb-false, eq-eqb, ne_eqb}
 use Rattle.scan.specs.Names.{same_bytes_of}
 use Rattle.scan.proofs.Every.{by-test, both}
 use Rattle.decimals.proofs.Tests.{no}
@@ -43,8 +43,8 @@ once_at (x ∷ l) b (suc k) = not (same_bytes_of x b) && once_at l b k
 
 none-at : (l : List (List ℕ)) (b : List ℕ) → none_of_lem l b ≡ true → (i : ℕ) → same_bytes_of (get_or l i []) b ≡ false
 unfolding none_of_lem
-none-at [] b h i = not_true (same_bytes_of [] b) h
-none-at (x ∷ l) b h zero = not_true (same_bytes_of x b) (both {a = not (same_bytes_of x b)} {b = none_of_lem l b} h).0
+none-at [] b h i = not-true (same_bytes_of [] b) h
+none-at (x ∷ l) b h zero = not-true (same_bytes_of x b) (both {a = not (same_bytes_of x b)} {b = none_of_lem l b} h).0
 none-at (x ∷ l) b h (suc i) = none-at l b (both {a = not (same_bytes_of x b)} {b = none_of_lem l b} h).1 i
 
 pub only_at : (l : List (List ℕ)) (b : List ℕ) (k : ℕ) → once_at l b k ≡ true → (i : ℕ) → same_bytes_of (get_or l i []) b ≡ eqb i k
@@ -52,7 +52,7 @@ unfolding once_at
 only_at [] b k h i = no (sym h)
 only_at (x ∷ l) b zero h zero = (both {a = same_bytes_of x b} {b = none_of_lem l b} h).0 ∙ sym (eq-eqb 0 0 refl)
 only_at (x ∷ l) b zero h (suc i) = none-at l b (both {a = same_bytes_of x b} {b = none_of_lem l b} h).1 i ∙ sym (ne_eqb (suc i) 0 (λ e. omega arith))
-only_at (x ∷ l) b (suc k) h zero = not_true (same_bytes_of x b) (both {b = once_at l b k} h).0 ∙ sym (ne_eqb 0 (suc k) (λ e. omega arith))
+only_at (x ∷ l) b (suc k) h zero = not-true (same_bytes_of x b) (both {b = once_at l b k} h).0 ∙ sym (ne_eqb 0 (suc k) (λ e. omega arith))
 only_at (x ∷ l) b (suc k) h (suc i) = only_at l b k (both {a = not (same_bytes_of x b)} {b = once_at l b k} h).1 i ∙ same i k
   where
     same : (i k : ℕ) → eqb i k ≡ eqb (suc i) (suc k)

@@ -25,40 +25,40 @@ const FONT_WEIGHT: usize = 22;
 const TEXT_ALIGN: usize = 39;
 
 // An attribute's value; without one its part is empty.
-#[derive(Drop)]
+#[derive(Clone, Copy)]
 pub struct Value {
     pub has: bool,
     pub span: Span,
 }
 
 // A colour; without one it is zero. Cut is number 15.
-#[derive(Drop)]
+#[derive(Clone, Copy)]
 pub struct Paint {
     pub has: bool,
     pub color: Rgba,
 }
 
-#[derive(Drop)]
+#[derive(Clone, Copy)]
 pub enum ColorRead {
     Is(Paint),
     Cut,
 }
 
 // A size; without one it is zero. Beyond is number 14.
-#[derive(Drop)]
+#[derive(Clone, Copy)]
 pub struct Measure {
     pub has: bool,
     pub size: Size,
 }
 
-#[derive(Drop)]
+#[derive(Clone, Copy)]
 pub enum SizeRead {
     Is(Measure),
     Beyond,
 }
 
 // What is said; or number 14 or 15.
-#[derive(Drop)]
+#[derive(Clone, Copy)]
 pub enum OwnRead {
     Is(Look),
     Refused(u32),

@@ -11,7 +11,7 @@ use tree::Refusal;
 
 // A style: its name, a part of the query's text; what it says, its family being a part of the track's
 // strings; and how many ids were reached.
-#[derive(Drop)]
+#[derive(Clone, Copy)]
 pub struct Styled {
     pub name: Span,
     pub look: Look,
@@ -19,7 +19,7 @@ pub struct Styled {
 }
 
 // Without a style there is how many ids were reached.
-#[derive(Drop)]
+#[derive(Clone, Copy)]
 pub enum Resolved {
     Style(Styled),
     NoStyle(usize),

@@ -7,14 +7,14 @@ use records::Found;
 use track::{Look, Span};
 
 // A region's own look, and the place of its chain among the strings. Without a region, or a chain, they are blank.
-#[derive(Drop)]
+#[derive(Clone, Copy)]
 pub struct Part {
     pub look: Look,
     pub chain: Span,
 }
 
 // Or number 14 or 15.
-#[derive(Drop)]
+#[derive(Clone, Copy)]
 pub enum PartRead {
     Is(Part),
     Refused(u32),

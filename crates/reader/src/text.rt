@@ -8,7 +8,7 @@ use promised::Answer;
 use tree::Refusal;
 
 // The track of the first tt, or the cue of the first p.
-#[derive(Drop)]
+#[derive(Clone, Copy)]
 pub enum Wanted {
     Track,
     Cue,

@@ -11,7 +11,7 @@ use decimals::Size;
 use track::{Rows, Span};
 
 // A row is added, and there are so many now; or the table is full (number 13).
-#[derive(Drop)]
+#[derive(Clone, Copy)]
 pub enum Added {
     Next(usize),
     Full,

@@ -6,7 +6,7 @@ ghost use Rattle.records.specs.Posts.{SmallHead, head_row};
 use track::Span;
 
 // How many rows each table has, xml:lang, and how many bytes of the byte tables are used.
-#[derive(Drop)]
+#[derive(Clone, Copy)]
 pub struct Head {
     pub params: usize,
     pub styles: usize,

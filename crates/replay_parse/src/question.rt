@@ -2,7 +2,7 @@
 use crate::{answer, sums};
 use tree::Refusal;
 
-#[derive(Drop)]
+#[derive(Clone, Copy)]
 enum Call {
     Parse,
     Cue,

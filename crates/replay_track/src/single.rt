@@ -3,7 +3,7 @@ use crate::ask::ask;
 use crate::tables::{Bytes, Cells, Sizes, Times, place};
 
 // What a cell holds: `size` in the table of sizes, `cell` in any other.
-#[derive(Drop)]
+#[derive(Clone, Copy)]
 pub struct Value {
     pub cell: u32,
     pub size: f32,

@@ -5,7 +5,7 @@ ghost use Rattle.std.specs.Prelude.{◌≡◌, ◌+◌, ◌^◌, ◌≤◌, ◌<
 
 use libc::STDOUT_FILENO;
 
-#[derive(Drop)]
+#[derive(Clone, Copy)]
 pub struct Tally {
     pub agree: u64,
     pub differ: u64,
@@ -13,7 +13,7 @@ pub struct Tally {
 
 // A line's kind, and how many bytes were given and told. What is no such line, or is too long for
 // the tables, is not whole.
-#[derive(Drop)]
+#[derive(Clone, Copy)]
 pub struct Line {
     pub whole: bool,
     pub kind: u8,

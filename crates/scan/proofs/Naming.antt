@@ -7,14 +7,14 @@
 --     first-colon                     the part after the first
 use Prim.Native.Nat.{ℕ, zero, suc, ◌+◌, ◌-◌, ◌≤◌, ◌<◌}
 use mathlib.Core.Path.{◌≡◌, refl, sym, ap, ◌∙◌}
-use mathlib.Core.Bool.{Bool, true, false, cond, ◌&&◌, and_false, false≢true, true≢false}
+use mathlib.Core.Bool.{Bool, true, false, cond, ◌&&◌, and-false, false≢true, true≢false}
 use mathlib.Core.List.{List, [], ◌∷◌, map, map-id}
 use native.Mathlib.Omega.{arith}
 use native.Mathlib.Numerals.{add-one}
 use lib.ListN.{length, get_or, drop, drop_of_length-le}
 use lib.Seq.{drop-cons}
 use lib.Dec.{eqb}
-use borrow.Author.Tests.{eq-eqb, ne_eqb, eqb-true, le-leb, lt-leb, not_true, not_false}
+use borrow.Author.Tests.{eq-eqb, ne_eqb, eqb-true, le-leb, lt-leb, not-true, not-false}
 use Rattle.scan.specs.Bytes.{other, run_end_of}
 use Rattle.scan.specs.Names.{lower, same_bytes_of, same_folded, has_colon, after_last_colon, past_colon, after_first_colon, PartFrom}
 use Rattle.scan.proofs.Runs.{run-ind}
@@ -48,7 +48,7 @@ module _ (f : ℕ → ℕ) where
   agree_lengths [] [] h = absurd (h refl)
   agree_lengths [] (y ∷ b) h = refl
   agree_lengths (x ∷ a) [] h = refl
-  agree_lengths (x ∷ a) (y ∷ b) h = rw (agree_lengths a b (λ e. h (ap suc e)), and_false)
+  agree_lengths (x ∷ a) (y ∷ b) h = rw (agree_lengths a b (λ e. h (ap suc e)), and-false)
 
   -- the bytes of both from a place on
   module _ (a b : List ℕ) (i : ℕ) where
@@ -116,7 +116,7 @@ module _ (b : ℕ) where
 
   pub lower-above : 90 < b → lower b ≡ b
   unfolding lower
-  lower-above h = rw (lt-leb b 90 h, and_false)
+  lower-above h = rw (lt-leb b 90 h, and-false)
 
 -- ---- colons
 module _ (s : List ℕ) (i : ℕ) where
@@ -184,7 +184,7 @@ module _ (s : List ℕ) where
   goes : (i : ℕ) → i < length s → other 58 (get_or s i 0) ≡ true → Passing s i → Passing s (i + 1)
   unfolding has_colon past_colon
   goes i h e j =
-      let n : eqb (get_or s i 0) 58 ≡ false = not_true _ e in
+      let n : eqb (get_or s i 0) 58 ≡ false = not-true _ e in
       record {
         has = j.has ∙ rw (add-one i, drop-cons s i 0 h, n);
         past = j.past ∙ rw (add-one i, drop-cons s i 0 h, n);
@@ -193,7 +193,7 @@ module _ (s : List ℕ) where
   stops : (i : ℕ) → i < length s → other 58 (get_or s i 0) ≡ false → Passing s i → FirstColon s i
   unfolding has_colon past_colon after_first_colon
   stops i h e j =
-      let n : eqb (get_or s i 0) 58 ≡ true = not_false _ e in
+      let n : eqb (get_or s i 0) 58 ≡ true = not-false _ e in
       let b : has_colon s ≡ true = j.has ∙ rw (drop-cons s i 0 h, n) in
       let p : past_colon s ≡ drop (i + 1) s = j.past ∙ rw (add-one i, drop-cons s i 0 h, n) in
       record {

@@ -8,7 +8,7 @@ use native.Mathlib.Numerals.{add-one}
 use lib.ListN.{length, get_or, drop, length-drop, drop_of_length-le}
 use lib.Seq.{drop-cons, get_or-drop}
 use lib.Dec.{eqb, ltb}
-use borrow.Author.Tests.{lt-ltb, le-ltb, ltb-true, ltb-false, eq-eqb, ne_eqb, eqb-true, eqb-false, not_true}
+use borrow.Author.Tests.{lt-ltb, le-ltb, ltb-true, ltb-false, eq-eqb, ne_eqb, eqb-true, eqb-false, not-true}
 use Rattle.scan.specs.Bytes.{other, run_end_of}
 use Rattle.scan.specs.Marks.{starts_at, seek, past}
 use Rattle.scan.specs.Posts.{Ends, Found, Passed}
@@ -150,7 +150,7 @@ module _ (m s : List ℕ) (n i : ℕ) (h : n < length m) where
       differs j l g false z =
           let y : j ≡ i → ⊥ = eqb-false j i z in
           let u : j + n < run_end_of (other (get_or m n 0)) s q = omega (arith, f.is) in
-          eqb-false _ _ (not_true _ (run-all (other (get_or m n 0)) s q (j + n) (omega arith) u))
+          eqb-false _ _ (not-true _ (run-all (other (get_or m n 0)) s q (j + n) (omega arith) u))
 
   pub seek-short : i ≤ length s → length s ≤ i + n → seek m s i ≡ length s
   seek-short l g =

@@ -5,7 +5,7 @@ ghost use Rattle.scan.specs.Bytes.{blank, name_byte, attr_name_byte, digit_byte,
 ghost use Rattle.scan.specs.Posts.{Ends, Passes, Skips};
 
 // The classes that the grammar names.
-#[derive(Drop)]
+#[derive(Clone, Copy)]
 pub enum Class {
     // space, tab, LF, CR
     Blank,

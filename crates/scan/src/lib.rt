@@ -1,3 +1,4 @@
+#![tactic(auto)]
 // Bytes, marks, names and lent tables: what every reader and writer above is made of.
 //
 // A text is a slice of bytes and a place in it is an index. A scan starts at a place, reads to the

@@ -5,14 +5,14 @@ ghost use Rattle.std.specs.Float.{fin};
 ghost use Rattle.scan.specs.Posts.{Appended, Wrote};
 
 // A row, or there is none.
-#[derive(Drop)]
+#[derive(Clone, Copy)]
 pub enum Found {
     Row(usize),
     Nothing,
 }
 
 // Where the next byte goes, or there is no room.
-#[derive(Drop)]
+#[derive(Clone, Copy)]
 pub enum Written {
     At(usize),
     Full,

@@ -4,7 +4,7 @@
 --     walk_is, is-walk           `walk` meets the equations; what meets them is `walk`
 use Prim.Native.Nat.{ℕ, zero, suc, ◌+◌, ◌≤◌, ◌<◌}
 use mathlib.Core.Path.{◌≡◌, refl, sym, ap, ◌∙◌}
-use mathlib.Core.Bool.{Bool, true, false, cond, ◌&&◌, and_false}
+use mathlib.Core.Bool.{Bool, true, false, cond, ◌&&◌, and-false}
 use mathlib.Core.Logic.{◌⊎◌, inl, inr}
 use mathlib.Core.Option.{Option, none, some}
 use mathlib.Core.List.Memᴰ
@@ -68,7 +68,7 @@ module _ (a : Bytes) (v : List Bytes) (new : is_in a v ≡ false) where
     where
       rest : same_bytes_of x.name a ≡ false → (first_that chained l ≡ none) ⊎ (left l (v ++ (a ∷ [])) < left l v)
           → (first_that chained (x ∷ l) ≡ none) ⊎ (left (x ∷ l) (v ++ (a ∷ [])) < left (x ∷ l) v)
-      rest e (inl q) = inl (rw (e, and_false (is_some x.chain), q))
+      rest e (inl q) = inl (rw (e, and-false (is_some x.chain), q))
       rest e (inr q) =
           inr (by-test (is_in x.name v) (λ f. rw (f, still v (v ++ (a ∷ [])) more x.name f) q)
           (λ f. by-test (is_in x.name (v ++ (a ∷ []))) (λ g. rw (f, g) (omega arith)) (λ g. rw (f, g) (omega arith))))

@@ -12,7 +12,7 @@ use native.Mathlib.Nat.{zero-add}
 use lib.ListN.{length, get_or}
 use lib.Dec.{eqb}
 use lib.Ieee.{Float}
-use borrow.Author.Tests.{not_true}
+use borrow.Author.Tests.{not-true}
 use Rattle.scan.specs.Part.{string_at}
 use Rattle.unicode.specs.White.{words, words_from}
 use Rattle.unicode.proofs.WhiteLaws.{words_from-none, white_end-low}
@@ -75,7 +75,7 @@ module _ (s : List ℕ) (f : List Float) (e z : List ℕ) (n : ℕ) (name : Byte
     chain_row_within = omega (arith, first-chain.within)
 
     has_chain : eqb (get_or s (i * 27 + 3) 0) 0 ≡ false
-    has_chain = not_true _ (both first-chain.passes).0
+    has_chain = not-true _ (both first-chain.passes).0
 
     pub chain_row : parents (styles_in s f e z n) name ≡ words (string_at z (get_or s (i * 27 + 2) 0) (get_or s (i * 27 + 3) 0))
     unfolding parents

@@ -7,7 +7,7 @@ use mathlib.Core.List.{List}
 use lib.ListN.{get_or}
 use lib.Dec.{eqb}
 use lib.Ieee.{Float}
-use borrow.Author.Tests.{not_false}
+use borrow.Author.Tests.{not-false}
 use Rattle.decimals.proofs.Tests.{no}
 use Rattle.track.specs.declared.values.Look.{Look}
 use Rattle.track.specs.Tables.{cell, optional, color_at, size_at, size_cell, look_at, style_at}
@@ -36,7 +36,7 @@ tidy_look t v i = record {
   color = λ h. rw h;
   back = λ h. rw h;
   family = λ h. rw h;
-  size = λ h. let e : eqb (get_or t (i + 17) 0) 0 ≡ true = not_false _ h in rw e;
+  size = λ h. let e : eqb (get_or t (i + 17) 0) 0 ≡ true = not-false _ h in rw e;
 }
 
 pub tidy_style : (t : List ℕ) (f : List Float) (i : ℕ) → Tidy (style_at t f i).look

@@ -14,7 +14,7 @@ use unicode::Word;
 
 // What is known on the way: how many ids were visited, whether a style was met, and the styles met, each
 // over those before it.
-#[derive(Drop)]
+#[derive(Clone, Copy)]
 pub struct Walk {
     pub count: usize,
     pub found: bool,
@@ -22,7 +22,7 @@ pub struct Walk {
 }
 
 // More ids than there are rows for is Full (number 18).
-#[derive(Drop)]
+#[derive(Clone, Copy)]
 pub enum Applied {
     Done(Walk),
     Full,

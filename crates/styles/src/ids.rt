@@ -94,7 +94,7 @@ pub fn is_visited(
 }
 
 // Where a search that finds nothing ends: at a row, numbered from 1, that has no row on this side; or at 0, an empty bucket.
-#[derive(Drop)]
+#[derive(Clone, Copy)]
 pub struct Slot {
     pub row: usize,
     pub second: bool,

@@ -11,14 +11,14 @@ use decimals::Size;
 use track::{Font, Look};
 use tree::Refusal;
 
-#[derive(Drop)]
+#[derive(Clone, Copy)]
 pub enum LookSaid {
     Is(Look),
     Refused(Refusal),
 }
 
 // Its two colours.
-#[derive(Drop)]
+#[derive(Clone, Copy)]
 pub struct Tint {
     pub has_color: bool,
     pub color: Rgba,

@@ -1,13 +1,13 @@
 -- What ends in m is no count, so that a time in ms is none in s. Assumes nothing.
 use Prim.Native.Nat.{ℕ, zero, suc, ◌-◌, ◌<◌}
 use mathlib.Core.Path.{◌≡◌, refl, ap, ◌∙◌}
-use mathlib.Core.Bool.{Bool, true, false, not, ◌||◌, and_false}
+use mathlib.Core.Bool.{Bool, true, false, not, ◌||◌, and-false}
 use mathlib.Core.List.{List, [], ◌∷◌}
 use native.Mathlib.Omega.{arith}
 use lib.ListN.{length, get_or, drop, length-drop, drop_of_length-le}
 use lib.Seq.{take_all}
 use lib.Dec.{eqb, ltb}
-use borrow.Author.Tests.{ltb-true, ltb-false, ne_eqb, not_true}
+use borrow.Author.Tests.{ltb-true, ltb-false, ne_eqb, not-true}
 use Rattle.scan.specs.Bytes.{digit_byte, run_length_of}
 use Rattle.scan.specs.Every.{every}
 use Rattle.scan.specs.Names.{lower, same_folded}
@@ -65,12 +65,12 @@ short (more b {s} e) w = by-test (digit_byte b) (λ d. short e (omega (arith, rw
 
 not_digits : {s : List ℕ} → EndsInM s → only_digits s ≡ false
 unfolding only_digits
-not_digits {s} e = rw (ne_eqb (run_length_of digit_byte s) (length s) (short e)) (and_false (ltb 0 (length s)))
+not_digits {s} e = rw (ne_eqb (run_length_of digit_byte s) (length s) (short e)) (and-false (ltb 0 (length s)))
 
 not_exponent : {s : List ℕ} → EndsInM s → is_exponent s ≡ false
 unfolding is_exponent
 not_exponent last = refl
-not_exponent (more b {s} e) = rw (not_digits (behind-sign e)) (and_false (eqb b 101 || eqb b 69))
+not_exponent (more b {s} e) = rw (not_digits (behind-sign e)) (and-false (eqb b 101 || eqb b 69))
 
 -- a word without an m
 abbrev other : ℕ → Bool
@@ -79,9 +79,9 @@ other b = not (eqb 109 (lower b))
 not_folded : {s : List ℕ} → EndsInM s → (w : List ℕ) → every other w ≡ true → same_folded s w ≡ false
 unfolding same_folded
 not_folded last [] n = refl
-not_folded last (b ∷ w) n = rw (not_true (eqb 109 (lower b)) (both {a = other b} {b = every other w} n).0)
+not_folded last (b ∷ w) n = rw (not-true (eqb 109 (lower b)) (both {a = other b} {b = every other w} n).0)
 not_folded (more b e) [] n = refl
-not_folded (more b e) (c ∷ w) n = rw (not_folded e w (both {a = other c} {b = every other w} n).1) (and_false (eqb (lower b) (lower c)))
+not_folded (more b e) (c ∷ w) n = rw (not_folded e w (both {a = other c} {b = every other w} n).1) (and-false (eqb (lower b) (lower c)))
 
 not_word : {s : List ℕ} → EndsInM s → is_word s ≡ false
 unfolding is_word lower

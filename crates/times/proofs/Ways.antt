@@ -2,7 +2,7 @@
 -- one in two ways; and the Rust's order of trial gives the same. Assumes nothing.
 use Prim.Native.Nat.{ℕ, ◌+◌, ◌-◌, ◌<◌}
 use mathlib.Core.Path.{◌≡◌, refl, sym, ap, ◌∙◌}
-use mathlib.Core.Bool.{Bool, true, false, cond, or_true}
+use mathlib.Core.Bool.{Bool, true, false, cond, or-true}
 use mathlib.Core.List.{List, [], ◌∷◌}
 use mathlib.Core.Logic.{◌↔◌, ◌⊎◌, inl, inr}
 use native.Mathlib.Omega.{arith}
@@ -66,11 +66,11 @@ module _ (s : List ℕ) (ctx : TimingCtx) where
 
   one : (m : Metric) → ends_in (letters m) s ≡ true → ends_in_one metrics s ≡ true
   one `h` e = rw e
-  one `m` e = simp (e, or_true)
-  one `s` e = simp (e, or_true)
-  one `ms` e = simp (e, or_true)
-  one `f` e = simp (e, or_true)
-  one `t` e = simp (e, or_true)
+  one `m` e = simp (e, or-true)
+  one `s` e = simp (e, or-true)
+  one `ms` e = simp (e, or-true)
+  one `f` e = simp (e, or-true)
+  one `t` e = simp (e, or-true)
 
   -- its last byte, where it is one letter
   letter : (b : ℕ) → ends_in (b ∷ []) s ≡ true → get_or s (length s - 1) 0 ≡ b

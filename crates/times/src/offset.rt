@@ -7,7 +7,7 @@ ghost use Rattle.times.specs.Steps.{ends_metric, each_time, rate_time};
 use decimals::Decimal;
 
 // The frame rate and the tick rate that a document gives, if it does.
-#[derive(Drop)]
+#[derive(Clone, Copy)]
 pub struct TimingCtx {
     pub frame_rate: f64,
     pub has_frame_rate: bool,
@@ -16,7 +16,7 @@ pub struct TimingCtx {
 }
 
 // What a text is as a time. `number_of` gives document 01's number for each answer.
-#[derive(Drop)]
+#[derive(Clone, Copy)]
 pub enum Time {
     // microseconds
     Is(i64),

@@ -4,7 +4,7 @@ ghost use Rattle.times.specs.Sums.{checked, signed, Adds};
 
 use numerals::Whole;
 
-#[derive(Drop)]
+#[derive(Clone, Copy)]
 pub enum Sum {
     Is(i64),
     Overflow,

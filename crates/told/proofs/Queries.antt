@@ -5,7 +5,7 @@
 --     room_of                                cleared, there is as much room
 use Prim.Native.Nat.{ℕ, ◌≤◌}
 use mathlib.Core.Path.{◌≡◌, refl, sym, ◌∙◌}
-use mathlib.Core.Bool.{true, false, ◌&&◌, and_false, true≢false}
+use mathlib.Core.Bool.{true, false, ◌&&◌, and-false, true≢false}
 use mathlib.Core.List.{List}
 use lib.ListN.{length, replicate, length-replicate}
 use lib.Dec.{leb}
@@ -52,7 +52,7 @@ module _ {P : Resolved → List ℕ → Type 0} {lent left out out' : List ℕ} 
   answers x number h p e a b t = record {
     room = λ g f. record { answer = x; promised = p; number = number; is = e; stands = rw (a, b) at t };
     no_cells = λ g. absurd (true≢false (sym h ∙ rw (lt-leb 27 (length out) g)));
-    no_float = λ g. absurd (true≢false (sym h ∙ rw (lt-leb 1 (length size) g) (and_false (leb 27 (length out)))));
+    no_float = λ g. absurd (true≢false (sym h ∙ rw (lt-leb 1 (length size) g) (and-false (leb 27 (length out)))));
   }
 
   pub as_promised : {x : Resolved} {found : List ℕ} → length found ≡ length lent → P x found

@@ -5,7 +5,7 @@
 --     cue-row                                                each row is a cue whose segments begin where its cell 7 says
 use Prim.Native.Nat.{ℕ, zero, suc, ◌+◌, ◌-◌, ◌≤◌, ◌<◌}
 use mathlib.Core.Path.{◌≡◌}
-use mathlib.Core.Bool.{true, false, ◌&&◌, and_false}
+use mathlib.Core.Bool.{true, false, ◌&&◌, and-false}
 use mathlib.Core.List.{List}
 use native.Mathlib.Omega.{arith}
 use native.Mathlib.Nat.{add-zero}
@@ -23,11 +23,11 @@ module _ (t e g z y : List ℕ) (most from i : ℕ) where
 
   pub cue_from_not : (cell 11 t i 7 ≡ from → ⊥) → is_cue t e g z y most from i ≡ false
   unfolding is_cue
-  cue_from_not n = rw (ne_eqb (cell 11 t i 7) from n, and_false (cue_values t e z i))
+  cue_from_not n = rw (ne_eqb (cell 11 t i 7) from n, and-false (cue_values t e z i))
 
   pub cue_room_not : most < from + cell 11 t i 8 → is_cue t e g z y most from i ≡ false
   unfolding is_cue
-  cue_room_not h = rw (lt-leb (from + cell 11 t i 8) most h, and_false (cue_values t e z i && eqb (cell 11 t i 7) from))
+  cue_room_not h = rw (lt-leb (from + cell 11 t i 8) most h, and-false (cue_values t e z i && eqb (cell 11 t i 7) from))
 
   pub cue_is : cue_values t e z i ≡ true → cell 11 t i 7 ≡ from → from + cell 11 t i 8 ≤ most
       → is_cue t e g z y most from i ≡ are_segments g z y 512 (cell 11 t i 8) from

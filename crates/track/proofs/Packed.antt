@@ -10,7 +10,7 @@
 --     marked-size                          marks that pass it say a size
 use Prim.Native.Nat.{ℕ, zero, suc, ◌+◌, ◌-◌, ◌*◌, ◌/◌, ◌%◌, ◌≤◌, ◌<◌}
 use mathlib.Core.Path.{◌≡◌, refl, sym, ap, ◌∙◌}
-use mathlib.Core.Bool.{Bool, true, false, cond, not, ◌&&◌, and_false}
+use mathlib.Core.Bool.{Bool, true, false, cond, not, ◌&&◌, and-false}
 use native.Mathlib.Omega.{arith}
 use native.Mathlib.Nat.{zero-add}
 use lib.Dec.{T, eqb, leb, ltb}
@@ -19,7 +19,7 @@ use lib.Signed.{mag, le_z, non_neg}
 use mir.Syntax.{w64}
 use mir.Val.{SFits, to_z}
 use mir.Facts.{to_z_pos}
-use borrow.Author.Tests.{ltb-true, ltb-false, leb-false, not_true, lt-ltb, le-ltb, le-leb, lt-leb, eq-eqb, ne_eqb}
+use borrow.Author.Tests.{ltb-true, ltb-false, leb-false, not-true, lt-ltb, le-ltb, le-leb, lt-leb, eq-eqb, ne_eqb}
 use Rattle.scan.proofs.Every.{both, by-test}
 use Rattle.decimals.specs.declared.size.Size.{Size}
 use Rattle.decimals.specs.Size.{is_size, is_spelling, spelled_value, spelled_bits}
@@ -177,7 +177,7 @@ module _ (m bits : ℕ) where
   module _ (n : sign_mark m ≡ 0 → ⊥) where
     pub marked-not : is_spelling (digits_mark m) (scale_mark m) ≡ false → is_marked m bits ≡ false
     unfolding is_marked
-    marked-not e = rw (ne_eqb (sign_mark m) 0 n, e, and_false (leb (sign_mark m) 2))
+    marked-not e = rw (ne_eqb (sign_mark m) 0 n, e, and-false (leb (sign_mark m) 2))
 
     pub marked-bits : sign_mark m ≤ 2 → is_spelling (digits_mark m) (scale_mark m) ≡ true
         → is_marked m bits ≡ eqb bits (spelled_bits (eqb (sign_mark m) 2) (digits_mark m) (scale_mark m))
@@ -188,7 +188,7 @@ module _ (m bits : ℕ) where
 pub marked-size : (m bits : ℕ) → is_marked m bits ≡ true → not (eqb (sign_mark m) 0) ≡ true → is_size (marked_size m) ≡ true
 unfolding is_marked marked_size size_at
 marked-size m bits h e =
-    let z = not_true (eqb (sign_mark m) 0) e in
+    let z = not-true (eqb (sign_mark m) 0) e in
     let x = both {a = leb (sign_mark m) 2 && is_spelling (digits_mark m) (scale_mark m)} (rw z at h) in
     rw z (size-spelled (record {
       value = spelled_value (eqb (sign_mark m) 2) (digits_mark m) (scale_mark m);

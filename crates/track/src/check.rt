@@ -12,7 +12,7 @@ use crate::limits::{
 use tree::{BYTES, Refusal};
 
 // What is said of a handed track: it is one; or a number of document 01's list, 1 or 17, with place 0.
-#[derive(Drop)]
+#[derive(Clone, Copy)]
 pub enum Check {
     Track,
     Refused(Refusal),

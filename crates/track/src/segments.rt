@@ -9,7 +9,7 @@ use crate::limits::{
 use crate::strings::Span;
 use decimals::Size;
 
-#[derive(Drop)]
+#[derive(Clone, Copy)]
 pub struct Rgb {
     pub r: u8,
     pub g: u8,
@@ -17,7 +17,7 @@ pub struct Rgb {
 }
 
 // A family and a size, each of which may be absent.
-#[derive(Drop)]
+#[derive(Clone, Copy)]
 pub struct Font {
     pub has_family: bool,
     pub family: Span,
@@ -26,7 +26,7 @@ pub struct Font {
 }
 
 // A segment without its children: text, a break, a timestamp, or a wrapper with its data.
-#[derive(Drop)]
+#[derive(Clone, Copy)]
 pub enum Segment {
     Text(Span),
     Break,

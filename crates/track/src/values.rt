@@ -5,27 +5,27 @@ use colors::Rgba;
 use decimals::Size;
 
 // A parameter of tt: its name without the prefix.
-#[derive(Drop)]
+#[derive(Clone, Copy)]
 pub struct Param {
     pub name: Span,
     pub value: Span,
 }
 
 // An attribute that is kept as it was: the number of its name in its list.
-#[derive(Drop)]
+#[derive(Clone, Copy)]
 pub struct Extra {
     pub number: usize,
     pub value: Span,
 }
 
 // Rows of extras: the first, and how many.
-#[derive(Drop)]
+#[derive(Clone, Copy)]
 pub struct Rows {
     pub first: usize,
     pub count: usize,
 }
 
-#[derive(Drop)]
+#[derive(Clone, Copy)]
 pub enum Align {
     Start,
     Center,
@@ -35,7 +35,7 @@ pub enum Align {
 }
 
 // What a style says.
-#[derive(Drop)]
+#[derive(Clone, Copy)]
 pub struct Look {
     pub has_color: bool,
     pub color: Rgba,
@@ -53,7 +53,7 @@ pub struct Look {
 }
 
 // A named style. A chain without bytes is none.
-#[derive(Drop)]
+#[derive(Clone, Copy)]
 pub struct Style {
     pub name: Span,
     pub chain: Span,
@@ -61,14 +61,14 @@ pub struct Style {
     pub extras: Rows,
 }
 
-#[derive(Drop)]
+#[derive(Clone, Copy)]
 pub struct Region {
     pub id: Span,
     pub extras: Rows,
 }
 
 // Times in microseconds; the rows of its segments.
-#[derive(Drop)]
+#[derive(Clone, Copy)]
 pub struct Cue {
     pub start: i64,
     pub end: i64,

@@ -9,7 +9,7 @@ ghost use Rattle.scan.specs.Posts.{Ends};
 
 use crate::answers::Content;
 
-#[derive(Drop)]
+#[derive(Clone, Copy)]
 pub struct XmlParser<'a> {
     pub src: &'a [u8],
     pub pos: usize,

@@ -9,7 +9,7 @@ use tree::Refusal;
 use writer::Answer;
 
 // So many bytes were written, and their track stands in the tables; or they, or the track that was handed, met a number.
-#[derive(Drop)]
+#[derive(Clone, Copy)]
 pub enum Back {
     Track(usize),
     Unread(usize, Refusal),

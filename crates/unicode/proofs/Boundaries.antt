@@ -5,7 +5,7 @@
 --     utf8_cut, utf8_part      the two parts on the sides of a boundary, and that between two, are UTF-8
 use Prim.Native.Nat.{ℕ, zero, suc, ◌+◌, ◌-◌, ◌≤◌, ◌<◌}
 use mathlib.Core.Path.{◌≡◌, refl, sym, ◌∙◌}
-use mathlib.Core.Bool.{Bool, true, false, ◌&&◌, or_true, and_false, and-eq-true_iff, true≢false}
+use mathlib.Core.Bool.{Bool, true, false, ◌&&◌, or-true, and-false, and-eq-true_iff, true≢false}
 use mathlib.Core.List.{List, [], ◌∷◌, ◌++◌}
 use native.Mathlib.Omega.{arith}
 use native.Mathlib.Nat.{add-zero, zero-add}
@@ -25,7 +25,7 @@ module _ (s : List ℕ) (i : ℕ) where
 
   pub boundary_end : i ≡ length s → boundary s i ≡ true
   unfolding boundary
-  boundary_end e = rw (eq-eqb i (length s) e, or_true)
+  boundary_end e = rw (eq-eqb i (length s) e, or-true)
 
   module _ (n : i ≡ 0 → ⊥) (h : i < length s) where
     pub boundary-inside : 0x80 ≤ get_or s i 0 → get_or s i 0 ≤ 0xBF → boundary s i ≡ false
@@ -40,7 +40,7 @@ module _ (s : List ℕ) (i : ℕ) where
     pub boundary-above : 0xBF < get_or s i 0 → boundary s i ≡ true
     unfolding boundary
     boundary-above g =
-        rw (ne_eqb i 0 n, ne_eqb i (length s) (λ e. omega arith), lt-leb (get_or s i 0) 0xBF g, and_false)
+        rw (ne_eqb i 0 n, ne_eqb i (length s) (λ e. omega arith), lt-leb (get_or s i 0) 0xBF g, and-false)
 
 -- ---- the bytes of a sequence after its first
 abbrev pub Inside : List ℕ → ℕ → Type 0

@@ -10,7 +10,7 @@ use mathlib.Core.List.{List, [], ◌∷◌, ◌++◌, append_assoc, append-nil}
 use native.Mathlib.Omega.{arith}
 use native.Mathlib.Nat.{add-zero, zero-add, sub-zero, max-eq_left, max-eq_right}
 use lib.ListN.{length, get_or, take, drop, length-append, length-drop, take-append-drop, get_or-append}
-use lib.Seq.{length-take-le, take-length, drop_length, take-nil, take-append_seam, take-append-le, take_at, drop-append_seam, drop-append-le}
+use lib.Seq.{length-take-le, take-length, drop-length, take-nil, take-append_seam, take-append-le, take_at, drop-append_seam, drop-append-le}
 use lib.Seq.{drop-append-add, drop-drop, take-add}
 use lib.Seq.{get_or-append-add}
 use lib.Dec.{eqb, leb, ltb}
@@ -359,7 +359,7 @@ module _ (s a t b : List ℕ) (e : s ≡ a ++ (t ++ b)) (white-a : WhiteSpace a)
   only_none z =
       let y : length a + length t ≡ length a = omega arith in
       let w : white_end s 0 ≡ length s = path_end s (path_join s first-path (rw y at second_path)) ∙ white_end-out s (length s) (omega arith) in
-      rw (w, drop_length s, take-nil (white_start s - length s)) (empty t z)
+      rw (w, drop-length s, take-nil (white_start s - length s)) (empty t z)
     where
       empty : (l : List ℕ) → length l ≡ 0 → [] ≡ l
       empty [] z = refl

@@ -1,7 +1,7 @@
 -- Laws of UTF-8. Assumes nothing.
 use Prim.Native.Nat.{ℕ, zero, suc, ◌+◌, ◌-◌, ◌*◌, ◌/◌, ◌%◌, ◌≤◌, ◌<◌}
 use mathlib.Core.Path.{◌≡◌, refl, sym, ap, subst, ◌∙◌}
-use mathlib.Core.Bool.{Bool, true, false, cond, ◌&&◌, ◌||◌, and_false, and-eq-true_iff, true≢false}
+use mathlib.Core.Bool.{Bool, true, false, cond, ◌&&◌, ◌||◌, and-false, and-eq-true_iff, true≢false}
 use mathlib.Core.List.{List, [], ◌∷◌, ◌++◌, append_assoc, append-nil}
 use native.Mathlib.Omega.{arith}
 use native.Mathlib.Nat.{add-zero, zero-add}
@@ -29,7 +29,7 @@ pub below_range : (b low high : ℕ) → b < low → within b (low to high) ≡ 
 below_range b low high h = rw (lt-leb low b h)
 
 pub above_range : (b low high : ℕ) → high < b → within b (low to high) ≡ false
-above_range b low high h = rw (lt-leb b high h) (and_false (leb low b))
+above_range b low high h = rw (lt-leb b high h) (and-false (leb low b))
 
 pub range_low : (b low high : ℕ) → within b (low to high) ≡ true → low ≤ b
 range_low b low high h = leb-true low b ((and-eq-true_iff (leb low b) (leb b high)).0 h).0
@@ -45,7 +45,7 @@ module _ (s : List ℕ) (p : ℕ) (r : Range) (rs : List Range) where
 
   pub fits_not : within (get_or s p 0) r ≡ false → fits_at s p (r ∷ rs) ≡ false
   unfolding fits_at
-  fits_not g = rw (g, and_false (ltb p (length s)))
+  fits_not g = rw (g, and-false (ltb p (length s)))
 
   pub fits-first : fits_at s p (r ∷ rs) ≡ true → (p < length s) × (within (get_or s p 0) r ≡ true) × (fits_at s (p + 1) rs ≡ true)
   unfolding fits_at

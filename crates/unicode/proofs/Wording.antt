@@ -6,7 +6,7 @@ use mathlib.Core.List.{List, [], ◌∷◌, ◌++◌, append_assoc, append-nil}
 use native.Mathlib.Omega.{arith}
 use native.Mathlib.Nat.{add-zero, sub-zero}
 use lib.ListN.{length, take, drop, length-append, length-drop, take-append-drop}
-use lib.Seq.{length-take-le, take-append_seam, take-append-le, take_all, take-length, drop_length, drop-append_seam, drop-append-add, drop-append-le}
+use lib.Seq.{length-take-le, take-append_seam, take-append-le, take_all, take-length, drop-length, drop-append_seam, drop-append-add, drop-append-le}
 use lib.Dec.{eqb, ltb}
 use borrow.Author.Tests.{eqb-true, eqb-false, ltb-true, ltb-false}
 use Rattle.scan.specs.Part.{part}
@@ -59,7 +59,7 @@ module _ (s : List ℕ) where
       let k : ℕ = white_at s e in
       subst Parted (take-append-drop k (drop e s))
       (white (take k (drop e s)) (drop k (drop e s)) (white-part s e k h refl (stop (ltb-true e (length s) t)))))
-      (λ t. let z : e ≡ length s = omega (arith, ltb-false e (length s) t) in rw (z, drop_length s) ends)
+      (λ t. let z : e ≡ length s = omega (arith, ltb-false e (length s) t) in rw (z, drop-length s) ends)
 
   bare : (a e : ℕ) → a < e → e ≤ length s → ((i : ℕ) → a ≤ i → i < e → white_at s i ≡ 0) → Bare (part a e s)
   bare a e h g f =

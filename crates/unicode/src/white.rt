@@ -12,13 +12,13 @@ const WHITE_SPACE: [u32; 25] = [
 ];
 
 // A part of a text, from its start up to its end.
-#[derive(Drop)]
+#[derive(Clone, Copy)]
 pub struct Span {
     pub start: usize,
     pub end: usize,
 }
 
-#[derive(Drop)]
+#[derive(Clone, Copy)]
 pub enum Word {
     At(Span),
     Nothing,

@@ -13,7 +13,7 @@ use native.Mathlib.Omega.{arith}
 use lib.ListN.{length, get_or, take, drop, length-take, length-drop}
 use lib.Seq.{sets, length-sets, length-take-le, get_or-take, get_or-drop}
 use lib.Dec.{eqb}
-use borrow.Author.Tests.{ne_eqb, eqb-false, not_true}
+use borrow.Author.Tests.{ne_eqb, eqb-false, not-true}
 use mathlib.Core.Logic.{inr}
 use native.Mathlib.Numerals.{add-one}
 use Rattle.scan.specs.Bytes.{other}
@@ -38,7 +38,7 @@ decoded-part s p q a z w l m h = decoded-plain (part a z s) plain
     plain k g x =
         let n : length (part a z s) ≡ z - a = length-take-le (z - a) (drop a s) (simp length-drop (omega arith)) in
         let y : get_or s (a + k) 0 ≡ 38 = sym (get_or-take (z - a) (drop a s) k 0 (omega arith) ∙ get_or-drop a s k 0) ∙ x in
-        eqb-false (get_or s (a + k) 0) 38 (not_true _ (w (a + k) (omega arith) (omega arith))) y
+        eqb-false (get_or s (a + k) 0) 38 (not-true _ (w (a + k) (omega arith) (omega arith))) y
 
 -- ---- one row
 place_low : (t : List ℕ) (k : ℕ) → get_or t (k * 6 + 2) 0 ≤ node_place t k

@@ -8,7 +8,7 @@ use scan::Found;
 use tree::{ATTR_CELLS, ELEMENT, NODE_CELLS};
 
 // An attribute: its place in the text, and the place and length of its value in the strings.
-#[derive(Drop)]
+#[derive(Clone, Copy)]
 pub struct Attribute {
     pub at: usize,
     pub place: usize,
@@ -16,14 +16,14 @@ pub struct Attribute {
 }
 
 // An attribute with its value, or there is no such attribute.
-#[derive(Drop)]
+#[derive(Clone, Copy)]
 pub enum Value {
     At(Attribute),
     Absent,
 }
 
 // An element: its place in the text, its name in the strings, the row after its subtree, and its attributes' rows.
-#[derive(Drop)]
+#[derive(Clone, Copy)]
 pub struct Element {
     pub place: usize,
     pub name_len: usize,

@@ -11,7 +11,7 @@ ghost use Rattle.xml.specs.Steps.{attr_written, attr_strings_read};
 use tree::{ATTR_CELLS, ELEMENT, NODE_CELLS, TEXT};
 
 // A part of the text in which no `&` stands.
-#[derive(Drop)]
+#[derive(Clone, Copy)]
 pub struct Plain {
     pub from: usize,
     pub end: usize,

@@ -1,6 +1,6 @@
 -- `hex_channel` answers the channel between the two places, its one digit taken twice, or that one of them is inside a character.
 use mathlib.Core.Path.{sym, ap, ◌∙◌}
-use borrow.Author.Tests.{not_true, not_false}
+use borrow.Author.Tests.{not-true, not-false}
 use Rattle.colors.specs.Colors.{channel_of}
 use Rattle.colors.proofs.Reading.{small, channel_cut_start, channel_cut_end, channel_is, narrow, wide}
 use borrow.Author.Rules.{rules}
@@ -13,7 +13,7 @@ is-boundary-requires c κs = search rules
 returns : tie.Need-returns
 returns c =
     let c3 = c.before.before.before in
-    sym (channel_cut_start c3.args.text.now c3.args.at _ _ (sym c.before.is-boundary.ensures ∙ not_true _ c.if1.true))
+    sym (channel_cut_start c3.args.text.now c3.args.at _ _ (sym c.before.is-boundary.ensures ∙ not-true _ c.if1.true))
 
 add-is-boundary : tie.Need-overflow-add-is-boundary
 add-is-boundary c = search rules
@@ -24,7 +24,7 @@ is-boundary-requires-2 c κs = search rules
 returns-2 : tie.Need-returns-2
 returns-2 c =
     let c5 = c.before.before.before.before.before in
-    sym (channel_cut_end c5.args.text.now c5.args.at _ _ (sym c.before.is-boundary2.ensures ∙ not_true _ c.if2.true))
+    sym (channel_cut_end c5.args.text.now c5.args.at _ _ (sym c.before.is-boundary2.ensures ∙ not-true _ c.if2.true))
 
 shared-slice-read-t9 : tie.Need-shared-slice-read-t9
 shared-slice-read-t9 c = search rules
@@ -52,7 +52,7 @@ returns-3 c =
     c.small-channel.ensures
     ∙ (ap channel_of c.before.read-numeral.ensures
     ∙ sym (channel_is c11.args.text.now c11.args.at _ _ _ (sym c9.is-boundary.ensures
-    ∙ not_false _ c8.if1.false) (sym c7.is-boundary2.ensures ∙ not_false _ c6.if2.false)
+    ∙ not-false _ c8.if1.false) (sym c7.is-boundary2.ensures ∙ not-false _ c6.if2.false)
     (narrow c11.args.text.now c11.args.at c11.args.width c5.if3.true c11.requires.2)))
 
 add-read-numeral : tie.Need-overflow-add-read-numeral
@@ -84,7 +84,7 @@ returns-4 c =
     c.small-channel2.ensures
     ∙ (ap channel_of c.before.read-numeral2.ensures
     ∙ sym (channel_is c9.args.text.now c9.args.at _ _ _ (sym c7.is-boundary.ensures
-    ∙ not_false _ c6.if1.false) (sym c5.is-boundary2.ensures ∙ not_false _ c4.if2.false)
+    ∙ not-false _ c6.if1.false) (sym c5.is-boundary2.ensures ∙ not-false _ c4.if2.false)
     (wide c9.args.text.now c9.args.at c9.args.width c3.if3.false _)))
 
 pub hex-channel-spec : {M : Type 1} → statement M

@@ -2,7 +2,7 @@
 use mathlib.Core.Path.{sym, ◌∙◌}
 use mathlib.Core.Logic.{⊎_elim}
 use lib.ListN.{length}
-use borrow.Author.Tests.{not_true, not_false, eqb-true, eqb-false}
+use borrow.Author.Tests.{not-true, not-false, eqb-true, eqb-false}
 use borrow.Author.Rules.{rules}
 use Rattle.scan.proofs.Splits.{whole_part}
 use Rattle.colors.proofs.Reading.{hex-none}
@@ -13,13 +13,13 @@ use Rattle.colors.proofs.read.hex_color.Tie as tie
 returns : tie.Need-returns
 returns c =
     let s = c.before.before.before.before.args.text.now in
-    sym (hex-none s c.before.before.if1.false c.before.if2.true (eqb-false (length s) 8 (not_true _ c.if3.true)))
+    sym (hex-none s c.before.before.if1.false c.before.if2.true (eqb-false (length s) 8 (not-true _ c.if3.true)))
 
 by_width : (c : tie.Joined1) → HexWidth c.before.before.args.text.now c.if1.width
 by_width c =
     let s = c.before.before.args.text.now in
     ⊎_elim (λ v. rw v.1 (hex-once s v.0.taken))
-    (λ v. rw v.2 (⊎_elim (λ w. hex-alpha s (eqb-true (length s) 8 (not_false _ w.1.left))) (λ w. hex-twice s w.left) v.1.came))
+    (λ v. rw v.2 (⊎_elim (λ w. hex-alpha s (eqb-true (length s) 8 (not-false _ w.1.left))) (λ w. hex-twice s w.left) v.1.came))
     c.if1.branch
 
 is-hex-requires : tie.Need-is-hex-requires

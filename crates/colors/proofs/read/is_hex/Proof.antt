@@ -4,7 +4,7 @@ use mathlib.Core.Bool.{and-true}
 use native.Mathlib.Omega.{arith}
 use lib.ListN.{length, drop}
 use borrow.Author.Rules.{rules}
-use borrow.Author.Tests.{not_true, not_false}
+use borrow.Author.Tests.{not-true, not-false}
 use Rattle.numerals.specs.Numerals.{digits_only}
 use Rattle.colors.specs.Steps.{hex_at}
 use Rattle.colors.proofs.Digits.{one_step, three_step, no_more, from-three, from-six, all_eight}
@@ -17,7 +17,7 @@ from-fourth : (c : tie.Else1)
 from-fourth c =
     let a = c.before.before.before in
     let s = a.args.text.now in
-    three_step s 0 (from-three s a.requires) ∙ rw (sym c.before.are-hex-digits.ensures ∙ not_false _ c.if1.false)
+    three_step s 0 (from-three s a.requires) ∙ rw (sym c.before.are-hex-digits.ensures ∙ not-false _ c.if1.false)
 
 from-seventh : (c : tie.Else3)
     → digits_only 16 c.before.before.before.before.before.before.args.text.now
@@ -27,7 +27,7 @@ from-seventh c =
     let a = e.before.before.before.before in
     let s = a.args.text.now in
     from-fourth e.before
-    ∙ (three_step s 3 (from-six s a.requires e.if2.false) ∙ rw (sym c.before.are-hex-digits2.ensures ∙ not_false _ c.if3.false))
+    ∙ (three_step s 3 (from-six s a.requires e.if2.false) ∙ rw (sym c.before.are-hex-digits2.ensures ∙ not-false _ c.if3.false))
 
 eight : (c : tie.Else4) → length c.before.before.before.before.before.before.before.args.text.now ≡ 8
 eight c =
@@ -42,7 +42,7 @@ returns : tie.Need-returns
 returns c =
     let a = c.before.before.before in
     let s = a.args.text.now in
-    sym (three_step s 0 (from-three s a.requires) ∙ rw (sym c.before.are-hex-digits.ensures ∙ not_true _ c.if1.true))
+    sym (three_step s 0 (from-three s a.requires) ∙ rw (sym c.before.are-hex-digits.ensures ∙ not-true _ c.if1.true))
 
 returns-2 : tie.Need-returns-2
 returns-2 c = sym (from-fourth c.before ∙ no_more c.before.before.before.before.args.text.now 3 (omega (arith, c.if2.true)))
@@ -56,7 +56,7 @@ returns-3 c =
     let a = e.before.before.before.before in
     let s = a.args.text.now in
     sym (from-fourth e.before
-    ∙ (three_step s 3 (from-six s a.requires e.if2.false) ∙ rw (sym c.before.are-hex-digits2.ensures ∙ not_true _ c.if3.true)))
+    ∙ (three_step s 3 (from-six s a.requires e.if2.false) ∙ rw (sym c.before.are-hex-digits2.ensures ∙ not-true _ c.if3.true)))
 
 returns-4 : tie.Need-returns-4
 returns-4 c =
@@ -74,7 +74,7 @@ returns-5 c =
     let e = c.before.before.before in
     let s = e.before.before.before.before.before.before.before.args.text.now in
     sym (from-seventh e.before
-    ∙ (one_step s 6 7 refl (omega (arith, eight e)) ∙ rw (sym c.before.is-hex-digit.ensures ∙ not_true _ c.if5.true)))
+    ∙ (one_step s 6 7 refl (omega (arith, eight e)) ∙ rw (sym c.before.is-hex-digit.ensures ∙ not-true _ c.if5.true)))
 
 shared-slice-read-is-hex-digit-2 : tie.Need-shared-slice-read-is-hex-digit-2
 shared-slice-read-is-hex-digit-2 c = omega (arith, eight c.before.before.before.before)
@@ -87,7 +87,7 @@ returns-6 c =
     let d = c.before.before in
     let e = d.before.before.before in
     let s = e.before.before.before.before.before.before.before.args.text.now in
-    let first = sym d.before.is-hex-digit.ensures ∙ not_false _ d.if5.false in
+    let first = sym d.before.is-hex-digit.ensures ∙ not-false _ d.if5.false in
     let last : digits_only 16 (drop 7 s) ≡ hex_at s 7 =
     rw (one_step s 7 8 refl (omega (arith, eight e)), no_more s 8 (omega (arith, eight e)), and-true) in
     c.is-hex-digit2.ensures ∙ sym (from-seventh e.before ∙ (one_step s 6 7 refl (omega (arith, eight e)) ∙ rw first last))

@@ -1,6 +1,6 @@
 -- `digits_end` meets its contract. The loop's invariant: the run from `from` ends where the run from `i` does. The measure is what is left.
 use Rattle.std.proofs.Common.{◌≡◌, ◌-◌, ◌≤◌, length, sym, refl, ◌∙◌, arith, rules}
-use borrow.Author.Tests.{not_true, not_false}
+use borrow.Author.Tests.{not-true, not-false}
 use Rattle.scan.specs.Bytes.{digit_byte, run_end_of}
 use Rattle.scan.proofs.Runs.{run_on, ends-here, ends-out}
 use Rattle.decimals.proofs.read.digits_end.Statement.{statement}
@@ -26,7 +26,7 @@ returns c =
     let a = c.before.before.before.before.before.before.args in
     let l = c.before.before.before.before.loop in
     ends-here digit_byte a.text.now _ _ l.invariant.1 l.invariant.2 c.before.before.before.loop-test.true
-    (sym c.before.is-of.ensures ∙ not_true _ c.if1.true)
+    (sym c.before.is-of.ensures ∙ not-true _ c.if1.true)
 
 add-i : tie.Need-overflow-add-i invariant-loop decreases-loop
 add-i c = omega arith
@@ -41,7 +41,7 @@ loop-again c =
       omega arith,
       omega arith,
       l.invariant.2 ∙ run_on digit_byte a.text.now _ c.before.before.before.loop-test.true
-          (sym c.before.is-of.ensures ∙ not_false _ c.if1.false),
+          (sym c.before.is-of.ensures ∙ not-false _ c.if1.false),
     )
 
 returns-2 : tie.Need-returns-2 invariant-loop decreases-loop

@@ -1,6 +1,6 @@
 -- `few_digits` meets its contract. The loop's invariant: the digits before `i` are read, and the run goes on there. The measure is what is left.
 use Rattle.std.proofs.Common.{◌-◌, length, sym, ◌∙◌, arith, rules}
-use borrow.Author.Tests.{not_true, not_false}
+use borrow.Author.Tests.{not-true, not-false}
 use Rattle.decimals.proofs.Counting.{Running, running_start, running_step, running_stop, running_out, digit_bounds, room}
 use Rattle.decimals.proofs.read.few_digits.Statement.{statement}
 use Rattle.decimals.proofs.read.few_digits.Tie as tie
@@ -27,7 +27,7 @@ returns c =
     let l = c.before.before.before.before.loop in
     let a = c.before.before.before.before.before.before.args in
     running_stop a.before a.text.now a.from l.value l.i l.invariant c.before.before.before.loop-test.true
-    (sym c.before.is-of.ensures ∙ not_true _ c.if1.true)
+    (sym c.before.is-of.ensures ∙ not-true _ c.if1.true)
 
 mul-value : tie.Need-overflow-mul-value invariant-loop decreases-loop
 mul-value c =
@@ -36,17 +36,17 @@ mul-value c =
     omega (arith, v)
 
 sub-value : tie.Need-overflow-sub-value invariant-loop decreases-loop
-sub-value c = (digit_bounds _ (sym c.before.is-of.ensures ∙ not_false _ c.if1.false)).0
+sub-value c = (digit_bounds _ (sym c.before.is-of.ensures ∙ not-false _ c.if1.false)).0
 
 cast-value : tie.Need-overflow-cast-value invariant-loop decreases-loop
 cast-value c =
-    let d = digit_bounds _ (sym c.before.is-of.ensures ∙ not_false _ c.if1.false) in
+    let d = digit_bounds _ (sym c.before.is-of.ensures ∙ not-false _ c.if1.false) in
     omega (arith, d.1)
 
 add-value : tie.Need-overflow-add-value invariant-loop decreases-loop
 add-value c =
     let l = c.before.before.before.before.loop in
-    let d = digit_bounds _ (sym c.before.is-of.ensures ∙ not_false _ c.if1.false) in
+    let d = digit_bounds _ (sym c.before.is-of.ensures ∙ not-false _ c.if1.false) in
     let v = room l.value l.i l.invariant.small (omega (arith, c.before.before.before.before.before.before.requires.1)) in
     omega (arith, v, d.1)
 
@@ -61,7 +61,7 @@ loop-again c =
     let l = c.before.before.before.before.loop in
     let a = c.before.before.before.before.before.before.args in
     running_step a.before a.text.now a.from l.value l.i l.invariant c.before.before.before.loop-test.true
-    (sym c.before.is-of.ensures ∙ not_false _ c.if1.false)
+    (sym c.before.is-of.ensures ∙ not-false _ c.if1.false)
 
 returns-2 : tie.Need-returns-2 invariant-loop decreases-loop
 returns-2 c =

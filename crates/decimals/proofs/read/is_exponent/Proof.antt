@@ -1,6 +1,6 @@
 -- `is_exponent` meets its contract: a law for each way that the text can go on.
 use Rattle.std.proofs.Common.{◌≡◌, ◌+◌, true, ◌||◌, eqb, get_or, sym, ◌∙◌, ⊎_elim, arith, rules}
-use borrow.Author.Tests.{not_true, not_false, eqb-false}
+use borrow.Author.Tests.{not-true, not-false, eqb-false}
 use Rattle.decimals.proofs.Reading.{is-first, is-second, is-neither, exponent_none, exponent_off, exponent_signed, exponent_bare}
 use Rattle.decimals.proofs.read.is_exponent.Statement.{statement}
 use Rattle.decimals.proofs.read.is_exponent.Tie as tie
@@ -20,7 +20,7 @@ returns-2 c =
     let c6 = c4.before.before in
     let a = c6.args in
     sym (exponent_off a.text.now a.from c4.if1.false c.before.before.if2.true (eqb-false (get_or a.text.now a.from 0) 69
-    (not_true _ c.if3.true)))
+    (not-true _ c.if3.true)))
 
 add-digits : tie.Need-overflow-add-digits
 add-digits c = search rules
@@ -43,7 +43,7 @@ is-e : (c : tie.Joined2)
     (get_or c.before.before.before.before.args.text.now c.before.before.before.before.args.from 0) 69) ≡ true
 is-e c =
     let c4 = c.before.before.before.before in
-    ⊎_elim (λ w. is-second (get_or c4.args.text.now c4.args.from 0) 101 69 (not_false _ w.2.left)) (λ w. is-first (get_or
+    ⊎_elim (λ w. is-second (get_or c4.args.text.now c4.args.from 0) 101 69 (not-false _ w.2.left)) (λ w. is-first (get_or
     c4.args.text.now c4.args.from 0) 101 69 w.left) c.if2.branch
 
 returns-3 : tie.Need-returns-3

@@ -1,6 +1,6 @@
 -- `sign_width` meets its contract: a plus or a minus, or any other byte.
 use Rattle.std.proofs.Common.{inl, inr, arith, eq-eqb, ne_eqb}
-use mathlib.Core.Bool.{or_true}
+use mathlib.Core.Bool.{or-true}
 use Rattle.decimals.proofs.read.sign_width.Statement.{statement}
 use Rattle.decimals.proofs.read.sign_width.Tie as tie
 

@@ -3,7 +3,7 @@
 use Prim.Native.Nat.{◌+◌, ◌-◌, ◌≤◌}
 use mathlib.Core.Path.{◌≡◌, sym, ◌∙◌}
 use native.Mathlib.Omega.{arith}
-use borrow.Author.Tests.{not_true, not_false}
+use borrow.Author.Tests.{not-true, not-false}
 use lib.ListN.{length, drop}
 use Rattle.entities.specs.Steps.{taken_byte}
 use Rattle.scan.specs.Bytes.{run_length_of}
@@ -43,7 +43,7 @@ returns-2 c =
       is = omega (
         arith,
         length_stop taken_byte c7.args.src.now c5.loop.i c4.loop-test.true (sym c.before.is-taken.ensures
-            ∙ not_true _ c.if2.true),
+            ∙ not-true _ c.if2.true),
       );
       within = omega arith;
     }
@@ -65,7 +65,7 @@ loop-again c =
       omega (
         arith,
         length_on taken_byte c7.args.src.now c5.loop.i c4.loop-test.true
-            (sym c.before.is-taken.ensures ∙ not_false _ c.if2.false),
+            (sym c.before.is-taken.ensures ∙ not-false _ c.if2.false),
       ),
     )
 

@@ -1,7 +1,7 @@
 -- `style_keeps`: any name but that of number 33, or that one with its word.
 use mathlib.Core.Path.{sym, ◌∙◌}
 use borrow.Author.Rules.{rules}
-use borrow.Author.Tests.{not_true, not_false, eqb-true, eqb-false}
+use borrow.Author.Tests.{not-true, not-false, eqb-true, eqb-false}
 use Rattle.extras.proofs.Keeping.{is-align, no_align}
 use Rattle.extras.proofs.extras.style_keeps.Statement.{statement}
 use Rattle.extras.proofs.extras.style_keeps.Tie as tie

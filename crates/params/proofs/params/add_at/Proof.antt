@@ -1,7 +1,7 @@
 -- `add_at`: no parameter, or one in its row.
 use mathlib.Core.Path.{sym, ◌∙◌}
 use native.Mathlib.Omega.{arith}
-use borrow.Author.Tests.{not_true, not_false}
+use borrow.Author.Tests.{not-true, not-false}
 use Rattle.xml.proofs.AttrRows.{row-cells}
 use Rattle.params.proofs.Adding.{adds_none, adds_row}
 use borrow.Author.Rules.{rules}
@@ -15,7 +15,7 @@ returns : tie.Need-returns
 returns c =
     let c5 = c.before.before.before.before.before in
     adds_none c5.args.attrs.now c5.args.strings.now c5.args.k c5.args.params.now c5.args.n (sym
-    c.before.is-param-at.ensures ∙ not_true _ c.if1.true)
+    c.before.is-param-at.ensures ∙ not-true _ c.if1.true)
 
 name-at-requires : tie.Need-name-at-requires
 name-at-requires c κs = search rules
@@ -43,7 +43,7 @@ returns-2 c =
     let c6 = c5.before in
     let c7 = c6.before in
     let c11 = c7.before.before.before.before in
-    let e = sym c7.is-param-at.ensures ∙ not_false _ c6.if1.false in
+    let e = sym c7.is-param-at.ensures ∙ not-false _ c6.if1.false in
     let h = row-cells _ _ c4.attr-at.ensures in
     adds_row _ _ _ _ _ _ _ e c5.name-at.ensures h.1 h.2 c11.requires.1 c.before.before.add-param.result
     c.before.before.add-param.ensures

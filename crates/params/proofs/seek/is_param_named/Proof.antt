@@ -4,7 +4,7 @@ use mathlib.Core.Bool.{Bool, ◌&&◌}
 use mathlib.Core.List.{List}
 use Prim.Native.Nat.{ℕ}
 use borrow.Author.Rules.{rules}
-use borrow.Author.Tests.{not_true, not_false}
+use borrow.Author.Tests.{not-true, not-false}
 use Rattle.scan.specs.Names.{same_bytes_of, after_first_colon}
 use Rattle.params.proofs.Seeking.{part-from}
 use Rattle.params.proofs.seek.is_param_named.Statement.{statement}
@@ -17,7 +17,7 @@ returns : tie.Need-returns
 returns c =
     let s = c.before.before.before.before.args.found.now in
     let name = c.before.before.before.before.args.name.now in
-    sym (ap (λ (b : Bool). b && same_bytes_of (after_first_colon s) name) (sym c.before.is-param.ensures ∙ not_true _ c.if1.true))
+    sym (ap (λ (b : Bool). b && same_bytes_of (after_first_colon s) name) (sym c.before.is-param.ensures ∙ not-true _ c.if1.true))
 
 strip-ns-requires : tie.Need-strip-ns-requires
 strip-ns-requires c κs = search rules
@@ -43,7 +43,7 @@ returns-2 c =
     let name = c7.args.name.now in
     c.same.ensures
     ∙ (ap (λ (x : List ℕ). same_bytes_of x name) (part-from s (after_first_colon s) _ c.before.before.strip-ns.ensures)
-    ∙ sym (ap (λ (b : Bool). b && same_bytes_of (after_first_colon s) name) (sym c4.is-param.ensures ∙ not_false _ c3.if1.false)))
+    ∙ sym (ap (λ (b : Bool). b && same_bytes_of (after_first_colon s) name) (sym c4.is-param.ensures ∙ not-false _ c3.if1.false)))
 
 pub is-param-named-spec : {M : Type 1} → statement M
 is-param-named-spec =

@@ -1,6 +1,6 @@
 -- `is_said` meets its contract. Assumes nothing.
 use native.Mathlib.Omega.{arith}
-use borrow.Author.Tests.{not_true, not_false}
+use borrow.Author.Tests.{not-true, not-false}
 use Rattle.scan.specs.Part.{string_at}
 use Rattle.queries.proofs.Owning.{value_in, said_none, said_some}
 use borrow.Author.Rules.{rules}
@@ -11,7 +11,7 @@ value-of-requires : tie.Need-value-of-requires
 value-of-requires c κs = c.before.before.before.requires.rows
 
 returns : tie.Need-returns
-returns c = said_none _ _ _ _ _ _ c.before.before.value_of.ensures _ (not_true _ c.if1.true)
+returns c = said_none _ _ _ _ _ _ c.before.before.value_of.ensures _ (not-true _ c.if1.true)
 
 add-to : tie.Need-overflow-add-to
 add-to c =
@@ -39,7 +39,7 @@ unfolding string_at
 returns-2 c =
     let c4 = c.before.before.before.before in
     let c6 = c4.before.before in
-    said_some _ _ _ _ _ _ c6.value_of.ensures _ _ (not_false _ c4.if1.false) c.eq_ignore_ascii_case.ensures
+    said_some _ _ _ _ _ _ c6.value_of.ensures _ _ (not-false _ c4.if1.false) c.eq_ignore_ascii_case.ensures
 
 pub is-said-spec : {M : Type 1} → statement M
 is-said-spec =

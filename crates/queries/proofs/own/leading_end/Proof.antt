@@ -3,7 +3,7 @@ use Prim.Native.Nat.{◌-◌, ◌≤◌}
 use mathlib.Core.Path.{◌≡◌, refl, sym, ◌∙◌}
 use native.Mathlib.Omega.{arith}
 use lib.ListN.{length}
-use borrow.Author.Tests.{not_true, not_false}
+use borrow.Author.Tests.{not-true, not-false}
 use Rattle.scan.specs.Bytes.{run_end_of}
 use Rattle.scan.proofs.Runs.{run_on}
 use Rattle.styles.specs.Own.{size_byte}
@@ -32,7 +32,7 @@ returns c =
     let c4 = c3.before in (
       c4.loop.invariant.0,
       lead_here size_byte _ _ c4.loop.invariant.1 c3.loop-test.true (sym c.before.is-size-byte.ensures
-          ∙ not_true _ c.if1.true),
+          ∙ not-true _ c.if1.true),
     )
 
 add-i : tie.Need-overflow-add-i invariant-loop decreases-loop
@@ -45,7 +45,7 @@ loop-again : tie.Need-loop-preserved invariant-loop decreases-loop
 loop-again c =
     let c3 = c.before.before.before in
     let c4 = c3.before in
-    (omega arith, c4.loop.invariant.1 ∙ run_on size_byte _ _ c3.loop-test.true (sym c.before.is-size-byte.ensures ∙ not_false _ c.if1.false))
+    (omega arith, c4.loop.invariant.1 ∙ run_on size_byte _ _ c3.loop-test.true (sym c.before.is-size-byte.ensures ∙ not-false _ c.if1.false))
 
 returns-2 : tie.Need-returns-2 invariant-loop decreases-loop
 returns-2 c = (c.before.loop.invariant.0, lead_end size_byte _ _ c.before.loop.invariant.1 c.loop-test.false)

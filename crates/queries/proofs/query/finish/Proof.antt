@@ -1,5 +1,5 @@
 -- `finish` meets its contract. Assumes nothing.
-use borrow.Author.Tests.{not_true, not_false}
+use borrow.Author.Tests.{not-true, not-false}
 use Rattle.queries.proofs.Promising.{finish_none, finish_some}
 use mathlib.Core.Path.{refl}
 use borrow.Author.Rules.{rules}
@@ -22,7 +22,7 @@ returns : tie.Need-returns
 returns c =
     let c3 = c.before.before.before in
     let c6 = c3.before.before.before in
-    rw c3.walked.given.1 (finish_none c6.args.name c3.walked.given.0.0 c6.args.ids.now (not_true
+    rw c3.walked.given.1 (finish_none c6.args.name c3.walked.given.0.0 c6.args.ids.now (not-true
     c3.walked.given.0.0.found c.if1.true))
 
 same_length : tie.Need-same-length
@@ -35,7 +35,7 @@ returns-3 : tie.Need-returns-3
 returns-3 c =
     let c4 = c.before.before.before.before in
     let c7 = c4.before.before.before in
-    rw c4.walked.given.1 (finish_some c7.args.name c4.walked.given.0.0 c7.args.ids.now (not_false
+    rw c4.walked.given.1 (finish_some c7.args.name c4.walked.given.0.0 c7.args.ids.now (not-false
     c4.walked.given.0.0.found c.before.if1.false))
 
 pub finish_spec : {M : Type 1} → statement M

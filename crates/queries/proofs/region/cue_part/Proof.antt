@@ -1,6 +1,6 @@
 -- `cue_part` meets its contract. Assumes nothing.
 use native.Mathlib.Omega.{arith}
-use borrow.Author.Tests.{not_true, not_false}
+use borrow.Author.Tests.{not-true, not-false}
 use Rattle.scan.specs.Part.{string_at}
 use Rattle.queries.proofs.Regions.{cue_none, cue_some}
 use borrow.Author.Rules.{rules}
@@ -13,7 +13,7 @@ blank-part-requires c κs = search rules
 returns : tie.Need-returns
 returns c =
     let c5 = c.before.before.before.before.before in
-    cue_none c5.args.regions.now c5.args.extras.now c5.args.strings.now c5.args.n c5.args.has c5.args.id (not_true _
+    cue_none c5.args.regions.now c5.args.extras.now c5.args.strings.now c5.args.n c5.args.has c5.args.id (not-true _
     c.before.if1.true) _ c.blank_part.ensures
 
 add-to : tie.Need-overflow-add-to
@@ -36,7 +36,7 @@ unfolding string_at
 returns-2 c =
     let c3 = c.before.before.before in
     let c7 = c3.before.before.before.before in
-    cue_some c7.args.regions.now c7.args.extras.now c7.args.strings.now c7.args.n c7.args.has c7.args.id (not_false _
+    cue_some c7.args.regions.now c7.args.extras.now c7.args.strings.now c7.args.n c7.args.has c7.args.id (not-false _
     c3.if1.false) _ c.region_part.ensures
 
 pub cue-part-spec : {M : Type 1} → statement M

@@ -1,6 +1,6 @@
 -- `read_text` meets its contract, by its outcomes. Assumes nothing.
 use mathlib.Core.Path.{◌∙◌}
-use borrow.Author.Tests.{not_true, not_false}
+use borrow.Author.Tests.{not-true, not-false}
 use borrow.Author.Rules.{rules}
 use Rattle.reader.proofs.Shells.{short_promise, away_promise, tree-asks, tree-promise}
 use Rattle.reader.proofs.text.read_text.Statement.{statement}
@@ -57,7 +57,7 @@ returns c =
     let c10 = c6.before.before.before.before in
     let c23 = c10.before.before.before.before.before.before.before.before.before.before.before.before.before in
     let c30 = c23.before.before.before.before.before.before.before in
-    short_promise _ _ _ _ (rw (not_true c30.prepare.result c10.if1.true) at c30.prepare.ensures) c6.clear-tree.ensures
+    short_promise _ _ _ _ (rw (not-true c30.prepare.result c10.if1.true) at c30.prepare.ensures) c6.clear-tree.ensures
 
 parse-xml-requires : tie.Need-parse-xml-requires
 parse-xml-requires c κs = search rules
@@ -78,7 +78,7 @@ read-tree-requires c κs =
     let c46 = c39.before.before.before.before.before.before.before in
     let c59 = c46.before.before.before.before.before.before.before.before.before.before.before.before.before in
     let c70 = c59.before.before.before.before.before.before.before.before.before.before.before in
-    let blank = rw (not_false c46.prepare.result c26.if1.false) at c46.prepare.ensures in
+    let blank = rw (not-false c46.prepare.result c26.if1.false) at c46.prepare.ensures in
     tree-asks c70.args.wanted c70.args.text.now _ _ blank c22.parse-xml.ensures
     c14.n.given.1
 
@@ -127,7 +127,7 @@ returns-2 c =
     let c13 = c9.before.before.before.before in
     let c26 = c13.before.before.before.before.before.before.before.before.before.before.before.before.before in
     let c33 = c26.before.before.before.before.before.before.before in
-    let blank = rw (not_false c33.prepare.result c13.if1.false) at c33.prepare.ensures in
+    let blank = rw (not-false c33.prepare.result c13.if1.false) at c33.prepare.ensures in
     away_promise _ _ _ _ blank (rw c.before.r.given.1 at c9.parse-xml.ensures)
 
 same-length-27 : tie.Need-same-length-27
@@ -263,7 +263,7 @@ returns-3 c =
     let c72 = c65.before.before.before.before.before.before.before in
     let c85 = c72.before.before.before.before.before.before.before.before.before.before.before.before.before in
     let c96 = c85.before.before.before.before.before.before.before.before.before.before.before in
-    let blank = rw (not_false c72.prepare.result c52.if1.false) at c72.prepare.ensures in
+    let blank = rw (not-false c72.prepare.result c52.if1.false) at c72.prepare.ensures in
     tree-promise c96.args.wanted c96.args.text.now _ _ blank c48.parse-xml.ensures
     c40.n.given.1 c25.read_tree.result _ c47.nodes2.given c45.attrs2.given c25.read_tree.ensures
 

@@ -6,7 +6,7 @@ use mathlib.Core.Bool.{true, true≢false, ◌&&◌}
 use mathlib.Core.List.{List}
 use mathlib.Core.Logic.{⊎_elim}
 use native.Mathlib.Omega.{arith}
-use borrow.Author.Tests.{not_false}
+use borrow.Author.Tests.{not-false}
 use borrow.Author.Rules.{rules}
 use lib.Dec.{leb}
 use Rattle.scan.specs.Posts.{Passes}
@@ -48,7 +48,7 @@ loop-again c =
       omega arith,
       λ e. ⊎_elim (λ w. absurd (true≢false (sym e ∙ w.1))) (λ w. passes-more (λ b. leb a.low b && leb b a.high) s p (p + k)
           (p + (k + 1)) (omega arith) (l.loop.invariant.1 (sym w.1 ∙ e))
-          (sym c.before.is-between.ensures ∙ not_false _ w.0.left)) c.if1.branch,
+          (sym c.before.is-between.ensures ∙ not-false _ w.0.left)) c.if1.branch,
     )
 
 returns : tie.Need-returns invariant-loop decreases-loop

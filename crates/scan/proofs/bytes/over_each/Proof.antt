@@ -3,7 +3,7 @@ use Prim.Native.Nat.{◌-◌, ◌≤◌}
 use mathlib.Core.Path.{◌≡◌, refl, sym, ◌∙◌}
 use native.Mathlib.Omega.{arith}
 use borrow.Author.Rules.{rules}
-use borrow.Author.Tests.{not_true, not_false}
+use borrow.Author.Tests.{not-true, not-false}
 use lib.ListN.{length}
 use Rattle.scan.specs.Bytes.{member, run_end_of}
 use Rattle.scan.proofs.Runs.{run_on, ends-here, ends-out}
@@ -31,7 +31,7 @@ returns c =
     let c4 = c3.before in
     let c6 = c4.before.before in
     ends-here (member c6.args.class) c6.args.src.now _ _ c4.loop.invariant.1 c4.loop.invariant.2 c3.loop-test.true
-    (sym c.before.is-of.ensures ∙ not_true _ c.if1.true)
+    (sym c.before.is-of.ensures ∙ not-true _ c.if1.true)
 
 add-i : tie.Need-overflow-add-i invariant-loop decreases-loop
 add-i c = omega arith
@@ -47,7 +47,7 @@ loop-again c =
       omega arith,
       omega arith,
       c4.loop.invariant.2 ∙ run_on (member c6.args.class) c6.args.src.now _ c3.loop-test.true
-          (sym c.before.is-of.ensures ∙ not_false _ c.if1.false),
+          (sym c.before.is-of.ensures ∙ not-false _ c.if1.false),
     )
 
 returns-2 : tie.Need-returns-2 invariant-loop decreases-loop

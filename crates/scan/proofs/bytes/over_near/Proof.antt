@@ -4,7 +4,7 @@ use Prim.Native.Nat.{◌-◌}
 use mathlib.Core.Path.{refl, sym, ◌∙◌}
 use native.Mathlib.Omega.{arith}
 use borrow.Author.Rules.{rules}
-use borrow.Author.Tests.{not_true, not_false}
+use borrow.Author.Tests.{not-true, not-false}
 use Rattle.scan.specs.Bytes.{member}
 use Rattle.scan.specs.Posts.{Skips}
 use Rattle.scan.proofs.Runs.{skips_one, ends-skipped}
@@ -31,7 +31,7 @@ returns c =
     let c4 = c.before.before.before.before in
     let c6 = c4.before.before in (
       c4.loop.invariant,
-      λ h. ends-skipped _ c6.args.src.now _ _ c4.loop.invariant (omega arith) (sym c.before.is-of.ensures ∙ not_true _ c.if1.true),
+      λ h. ends-skipped _ c6.args.src.now _ _ c4.loop.invariant (omega arith) (sym c.before.is-of.ensures ∙ not-true _ c.if1.true),
     )
 
 add-i : tie.Need-overflow-add-i invariant-loop decreases-loop
@@ -44,7 +44,7 @@ loop-again : tie.Need-loop-preserved invariant-loop decreases-loop
 loop-again c =
     let c4 = c.before.before.before.before in
     let c6 = c4.before.before in
-    skips_one _ c6.args.src.now _ _ _ refl (omega arith) c4.loop.invariant (sym c.before.is-of.ensures ∙ not_false _ c.if1.false)
+    skips_one _ c6.args.src.now _ _ _ refl (omega arith) c4.loop.invariant (sym c.before.is-of.ensures ∙ not-false _ c.if1.false)
 
 returns-2 : tie.Need-returns-2 invariant-loop decreases-loop
 returns-2 c = (c.before.loop.invariant, λ h. absurd (omega arith))

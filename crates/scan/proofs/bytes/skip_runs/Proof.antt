@@ -2,7 +2,7 @@
 use Prim.Native.Nat.{◌+◌, ◌-◌}
 use mathlib.Core.Path.{refl}
 use native.Mathlib.Omega.{arith}
-use borrow.Author.Tests.{not_false}
+use borrow.Author.Tests.{not-false}
 use lib.ListN.{length}
 use Rattle.scan.specs.Bytes.{member}
 use Rattle.scan.specs.Posts.{Skips}
@@ -39,7 +39,7 @@ loop-again c =
     let c3 = c.before.before.before in
     let c5 = c3.before.before in
     skips_more _ c5.args.src.now _ c3.loop.i (c3.loop.i + 16) (omega arith) (omega arith) c3.loop.invariant (c.before.is-run.ensures
-    (not_false _ c.if1.false))
+    (not-false _ c.if1.false))
 
 returns-2 : tie.Need-returns-2 invariant-loop decreases-loop
 returns-2 c = c.before.loop.invariant

@@ -4,7 +4,7 @@ use mathlib.Core.Logic.{⊎_elim}
 use native.Mathlib.Omega.{arith}
 use lib.Ieee.{of_int, of_bits}
 use lib.Seq.{length-take-le}
-use borrow.Author.Tests.{not_true, not_false, eqb-true, eqb-false}
+use borrow.Author.Tests.{not-true, not-false, eqb-true, eqb-false}
 use borrow.Author.Rules.{rules}
 use Rattle.times.proofs.Parts.{metric_ms, metric_s, metric_m, metric_h, metric_f, metric_t, metric_none, ends-none, ends_last}
 use Rattle.times.proofs.clock.expression.Statement.{statement}
@@ -26,7 +26,7 @@ returns : tie.Need-returns
 returns c =
     let c2 = c.before.before in
     let a = c2.before.before.before.args in
-    let none = ends-none _ (sym c2.ends-metric.ensures ∙ not_true _ c.before.if1.true) in
+    let none = ends-none _ (sym c2.ends-metric.ensures ∙ not-true _ c.before.if1.true) in
     c.clock-time.ensures ∙ sym (metric_none a.text.now (omega arith) a.ctx _ refl none.0 none.1 none.2 none.3 none.4)
 
 slice-aggregate-units : tie.Need-slice-aggregate-units
@@ -59,7 +59,7 @@ returns-2 c =
     let c3 = c.before.before.before in
     let a = c3.before.before.before.before.before.args in
     c.units3.ensures ∙ sym (metric_s a.text.now (omega arith) a.ctx c3.match.keys3
-    (⊎_elim (λ w h. absurd (omega arith)) (λ w h. eqb-false _ 109 (not_true _ w.2.taken)) c.before.before.if2.branch))
+    (⊎_elim (λ w h. absurd (omega arith)) (λ w h. eqb-false _ 109 (not-true _ w.2.taken)) c.before.before.if2.branch))
 
 sub-units : tie.Need-overflow-sub-units
 sub-units c = search rules
@@ -101,7 +101,7 @@ returns-5 c =
     let c5 = c.before.before.before.before.before in
     let a = c5.before.before.before.before.before.args in
     c.units4.ensures ∙ sym (metric_ms a.text.now (omega arith) a.ctx c5.match.keys3 (omega arith)
-    (eqb-true _ 109 (not_false _ c.before.before.if3.false)))
+    (eqb-true _ 109 (not-false _ c.before.before.if3.false)))
 
 returns-6 : tie.Need-returns-6
 returns-6 c =
@@ -114,7 +114,7 @@ returns-7 c =
     let c4 = c2.before.before in
     let a = c4.before.before.before.args in
     let rest = c2.match.rest in
-    let some = sym c4.ends-metric.ensures ∙ not_false _ c2.before.if1.false in
+    let some = sym c4.ends-metric.ensures ∙ not-false _ c2.before.if1.false in
     c.at-rate2.ensures ∙ sym (metric_t a.text.now (omega arith) a.ctx (ends_last _ some rest.0.0.0.1 rest.0.0.1 rest.0.1 rest.1))
 
 pub expression-spec : {M : Type 1} → statement M

@@ -4,7 +4,7 @@ use mathlib.Core.Path.{◌≡◌, sym, ap, ◌∙◌}
 use lib.Ieee.{of_int, of_bits, Float, binary64, mul, div, le}
 use mir.Syntax.{w64}
 use mir.ValLaws.{to_z-of_z}
-use borrow.Author.Tests.{not_true, not_false}
+use borrow.Author.Tests.{not-true, not-false}
 use borrow.Author.Rules.{rules}
 use Rattle.decimals.proofs.Reading.{decimal-limits}
 use Rattle.times.specs.declared.offset.Time.{Time}
@@ -22,7 +22,7 @@ returns : tie.Need-returns
 returns c =
     let c4 = c.before.before.before.before in
     let c6 = c4.before.before in
-    rw (sym c4.read_count.ensures, c.before.before.d.given.1, not_true c6.args.present c.if1.true)
+    rw (sym c4.read_count.ensures, c.before.before.d.given.1, not-true c6.args.present c.if1.true)
 
 returns-2 : tie.Need-returns-2
 unfolding of_int of_bits
@@ -31,7 +31,7 @@ returns-2 c =
     let c5 = c3.before.before in
     let c7 = c5.before.before in
     let f : le c7.args.rate (float 0) ≡ true = c.if2.true in
-    rw (sym c5.read_count.ensures, c3.d.given.1, not_false c7.args.present c.before.if1.false, f)
+    rw (sym c5.read_count.ensures, c3.d.given.1, not-false c7.args.present c.before.if1.false, f)
 
 to-f64-requires : tie.Need-to-f64-requires
 to-f64-requires c κs =
@@ -56,7 +56,7 @@ returns-3 c =
     let c7 = c5.before.before in
     let c9 = c7.before.before in
     let f : le c9.args.rate (float 0) ≡ false = c.before.before.if2.false in
-    rw (sym c7.read_count.ensures, c5.d.given.1, not_false c9.args.present c3.if1.false, f)
+    rw (sym c7.read_count.ensures, c5.d.given.1, not-false c9.args.present c3.if1.false, f)
     (ap Time.Is (to_z-of_z w64 _ (record { sfits = c.truncate.type-inv }) ∙ (c.truncate.ensures
     ∙ ap (λ (x : Float). truncated (mul binary64 (div binary64 x c9.args.rate) (float 1000000))) c.before.to-f64.ensures)))
 

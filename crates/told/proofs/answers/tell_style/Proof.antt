@@ -1,7 +1,7 @@
 -- `tell_style` meets its contract: with room the answer stands in its cells, without it every cell is 0.
 use mathlib.Core.Path.{refl, sym, ◌∙◌}
 use borrow.Author.Rules.{rules}
-use borrow.Author.Tests.{not_true, not_false}
+use borrow.Author.Tests.{not-true, not-false}
 use Rattle.told.proofs.Queries.{no_room, answers, room_of}
 use Rattle.told.proofs.answers.tell_style.Statement.{statement}
 use Rattle.told.proofs.answers.tell_style.Tie as tie
@@ -31,7 +31,7 @@ returns : tie.Need-returns
 returns c =
     let i = c.before.before.before.before.before in
     let k = i.before.before.before.before.before in
-    no_room (sym k.before.before.before.has_room.ensures ∙ not_true _ i.if1.true) c.told.ensures
+    no_room (sym k.before.before.before.has_room.ensures ∙ not-true _ i.if1.true) c.told.ensures
     c.before.before.before.clear.ensures k.clear-answer.ensures.0 k.clear-answer.ensures.1
 
 tell-requires : tie.Need-tell-requires
@@ -40,7 +40,7 @@ tell-requires c κs =
     let k = i.before.before.before.before.before in
     let h = k.before.before.before in
     let x = h.before.before.before.before.before.before.args in
-    room_of x.out.now x.size.now (sym h.has_room.ensures ∙ not_false _ i.if1.false) k.clear-answer.ensures.0
+    room_of x.out.now x.size.now (sym h.has_room.ensures ∙ not-false _ i.if1.false) k.clear-answer.ensures.0
     k.clear-answer.ensures.1
 
 told-requires-2 : tie.Need-told-requires-2
@@ -57,7 +57,7 @@ returns-2 c =
     let t = c.before.before.before.before.before in
     let i = t.before.before.before in
     let k = i.before.before.before.before.before in
-    answers _ _ (sym k.before.before.before.has_room.ensures ∙ not_false _ i.if1.false) (refl, refl) c.told2.ensures
+    answers _ _ (sym k.before.before.before.has_room.ensures ∙ not-false _ i.if1.false) (refl, refl) c.told2.ensures
     k.clear-answer.ensures.0 k.clear-answer.ensures.1 t.tell.ensures
 
 pub tell-style-spec : {M : Type 1} → statement M

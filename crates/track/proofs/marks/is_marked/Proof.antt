@@ -1,6 +1,6 @@
 -- `is_marked` meets its contract: a law for each test.
 use mathlib.Core.Path.{sym, ◌∙◌}
-use borrow.Author.Tests.{not_true, not_false}
+use borrow.Author.Tests.{not-true, not-false}
 use Rattle.track.proofs.Packed.{marked-none, marked-far, marked-not, marked-bits}
 use borrow.Author.Rules.{rules}
 use Rattle.track.proofs.marks.is_marked.Statement.{statement}
@@ -19,7 +19,7 @@ returns-3 : tie.Need-returns-3
 returns-3 c =
     let d = c.before.before in
     let a = d.before.before.args in
-    sym (marked-not a.marks a.bits d.before.if1.false (sym c.before.is-spelling.ensures ∙ not_true _ c.if3.true))
+    sym (marked-not a.marks a.bits d.before.if1.false (sym c.before.is-spelling.ensures ∙ not-true _ c.if3.true))
 
 spelled-bits-requires : tie.Need-spelled-bits-requires
 spelled-bits-requires c κs = search rules
@@ -29,7 +29,7 @@ returns-4 c =
     let d = c.before.before.before in
     let a = d.before.before.args in
     rw c.spelled-bits.ensures (sym (marked-bits a.marks a.bits d.before.if1.false d.if2.false
-    (sym c.before.before.is-spelling.ensures ∙ not_false _ c.before.if3.false)))
+    (sym c.before.before.is-spelling.ensures ∙ not-false _ c.before.if3.false)))
 
 pub is-marked-spec : {M : Type 1} → statement M
 is-marked-spec =

@@ -4,7 +4,7 @@ use mathlib.Core.Path.{◌≡◌}
 use mathlib.Core.Bool.{cond}
 use mathlib.Core.Logic.{⊎_elim}
 use native.Mathlib.Omega.{arith}
-use borrow.Author.Tests.{not_true, not_false}
+use borrow.Author.Tests.{not-true, not-false}
 use Rattle.track.specs.Layout.{size_marks}
 use borrow.Author.Rules.{rules}
 use Rattle.track.proofs.marks.size_marks.Statement.{statement}
@@ -12,7 +12,7 @@ use Rattle.track.proofs.marks.size_marks.Tie as tie
 
 returns : tie.Need-returns
 unfolding size_marks
-returns c = rw (not_true c.before.args.has c.if1.true)
+returns c = rw (not-true c.before.args.has c.if1.true)
 
 signs : (c : tie.Joined2) → (c.if2.sign ≡ cond c.before.before.args.s.negative 2 1) × (c.if2.sign ≤ 2)
 signs c = ⊎_elim (λ w. (rw w.0.taken w.1, omega (arith, w.1))) (λ w. (rw w.0.left w.1, omega (arith, w.1))) c.if2.branch
@@ -36,7 +36,7 @@ returns-2 : tie.Need-returns-2
 unfolding size_marks
 returns-2 c =
     let d = c.before.before.before in
-    rw (not_false d.before.before.args.has d.before.if1.false, (signs d).0)
+    rw (not-false d.before.before.args.has d.before.if1.false, (signs d).0)
 
 pub size-marks-spec : {M : Type 1} → statement M
 size-marks-spec =
