@@ -1,3 +1,4 @@
+#![tactic(auto)]
 // The tables of a call: cleared, and long enough or not.
 ghost use Rattle.std.specs.Prelude.{◌≡◌, pos, length, replicate};
 ghost use Rattle.track.specs.Tables.{lengths, zero_float};

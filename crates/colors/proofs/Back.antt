@@ -8,17 +8,17 @@ use native.Mathlib.Nat.{mod-lt}
 use lib.Dec.{ltb, leb}
 use lib.ListN.{length, get_or}
 use borrow.Author.Tests.{ltb-true, ltb-false, leb-true, leb-false, lt-leb}
-use Rattle.unicode.specs.Utf8.{char_at}
-use Rattle.unicode.specs.White.{white_at, ends_with, white_before, trimmed}
+use Rattle.utf8.specs.Utf8.{char_at}
+use Rattle.utf8.specs.White.{white_at, ends_with, white_before, trimmed}
 use Rattle.scan.proofs.Every.{by-test}
-use Rattle.unicode.proofs.Utf8Laws.{sequence-ascii}
-use Rattle.unicode.proofs.WhiteLaws.{is_white-visible, white_at-other, ends_with_on, ends_with_short, ends_with_out, trimmed-none, trimmed-all}
+use Rattle.utf8.proofs.Utf8Laws.{sequence-ascii}
+use Rattle.utf8.proofs.WhiteLaws.{is_white-visible, white_at-other, ends_with_on, ends_with_short, ends_with_out, trimmed-none, trimmed-all}
 use Rattle.numerals.specs.declared.Numeral.{Numeral}
 use Rattle.numerals.specs.Numerals.{value_from, numeral_of}
 use Rattle.numerals.specs.Written.{digit_char, padded}
 use Rattle.numerals.proofs.Numerals.{numeral_plain}
 use Rattle.numerals.proofs.Writing.{char_low, char_high, padded-length, padded-digits, padded-value}
-use Rattle.unicode.specs.Utf8.{boundary}
+use Rattle.utf8.specs.Utf8.{boundary}
 use Rattle.colors.specs.declared.read.Rgba.{Rgba}
 use Rattle.colors.specs.declared.read.Color.{Color}
 use Rattle.colors.specs.Named.{rgba}

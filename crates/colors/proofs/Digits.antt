@@ -10,9 +10,9 @@ use lib.ListN.{length, get_or, drop, drop_of_length-le}
 use lib.Seq.{drop-cons}
 use borrow.Author.Tests.{eqb-true, eqb-false, leb-true, leb-false, ltb-true, ltb-false, lt-ltb, le-ltb, eq-eqb, ne_eqb}
 use Rattle.scan.specs.Part.{part}
-use Rattle.unicode.specs.Utf8.{boundary}
+use Rattle.utf8.specs.Utf8.{boundary}
 use Rattle.scan.proofs.Every.{by-test, both}
-use Rattle.unicode.proofs.Boundaries.{boundary_start, boundary_end, boundary-below}
+use Rattle.utf8.proofs.Boundaries.{boundary_start, boundary_end, boundary-below}
 use Rattle.numerals.specs.Numerals.{digit_of, digits_only, value_from, signed_by_of, numeral_of}
 use Rattle.numerals.proofs.Numerals.{digit-byte, digit_capital, digit_small, digit_none, unsigned_is, numeral_bare, digits_step}
 use Rattle.colors.specs.declared.read.Channel.{Channel}

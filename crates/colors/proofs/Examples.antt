@@ -6,10 +6,10 @@ use Rattle.scan.specs.Loop.{go, loop}
 use Rattle.scan.specs.Names.{same_folded}
 use Rattle.scan.specs.Marks.{starts_at}
 use Rattle.scan.specs.Split.{split_at}
-use Rattle.unicode.specs.Utf8.{sequence_at, char_at}
-use Rattle.unicode.specs.White.{is_white, white_at, white_before, trimmed}
+use Rattle.utf8.specs.Utf8.{sequence_at, char_at}
+use Rattle.utf8.specs.White.{is_white, white_at, white_before, trimmed}
 use Rattle.numerals.specs.Numerals.{numeral_of}
-use Rattle.unicode.specs.Utf8.{boundary}
+use Rattle.utf8.specs.Utf8.{boundary}
 use Rattle.colors.specs.declared.read.Color.{Color}
 use Rattle.scan.specs.Text.{ascii}
 use Rattle.colors.specs.Named.{rgba, named_in}

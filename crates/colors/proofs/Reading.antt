@@ -16,7 +16,7 @@ use Rattle.scan.specs.Part.{part}
 use Rattle.scan.specs.Split.{split_at}
 use Rattle.scan.proofs.Runs.{run_length}
 use Rattle.scan.proofs.Splits.{split_more, split_last}
-use Rattle.unicode.specs.Utf8.{boundary}
+use Rattle.utf8.specs.Utf8.{boundary}
 use Rattle.scan.proofs.Every.{by-test}
 use Rattle.numerals.specs.declared.Numeral.{Numeral}
 use Rattle.numerals.specs.Numerals.{numeral_of}

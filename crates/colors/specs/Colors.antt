@@ -5,10 +5,10 @@ use Rattle.std.specs.Prelude.{ℕ, ◌-◌, ◌≡◌, ◌↔◌, Bool, false, c
 use Rattle.scan.specs.Marks.{starts_at}
 use Rattle.scan.specs.Part.{part}
 use Rattle.scan.specs.Split.{split_at}
-use Rattle.unicode.specs.White.{trimmed}
+use Rattle.utf8.specs.White.{trimmed}
 use Rattle.numerals.specs.declared.Numeral.{Numeral}
 use Rattle.numerals.specs.Numerals.{numeral_of}
-use Rattle.unicode.specs.Utf8.{boundary}
+use Rattle.utf8.specs.Utf8.{boundary}
 use Rattle.colors.specs.declared.read.Rgba.{Rgba}
 use Rattle.colors.specs.declared.read.Color.{Color}
 use Rattle.colors.specs.declared.read.Channel.{Channel}

@@ -1,3 +1,4 @@
+#![tactic(auto)]
 // Colours: read as TTML and the Rust have them, and written in hexadecimal.
 mod named;
 mod read;

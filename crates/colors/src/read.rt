@@ -49,10 +49,10 @@ fn hex_channel(text: &[u8], at: usize, width: usize) -> Channel
     requires { (1 ≤ width) × (width ≤ 2) × (at + width ≤ length text.now) }
     ensures { result ≡ channel_at text.now at width }
 {
-    if !unicode::is_boundary(text, at) {
+    if !utf8::is_boundary(text, at) {
         return Channel::Cut;
     }
-    if !unicode::is_boundary(text, at + width) {
+    if !utf8::is_boundary(text, at + width) {
         return Channel::Cut;
     }
     if width == 1 {
@@ -219,7 +219,7 @@ fn hex_color(text: &[u8]) -> Color
 fn decimal_channel(text: &[u8]) -> Channel
     ensures { result ≡ decimal_channel text.now }
 {
-    let span = unicode::trim_white(text);
+    let span = utf8::trim_white(text);
     let start = span.start;
     let end = span.end;
     small_channel(numerals::read_numeral(&text[start..end], 10, 255, false))
@@ -271,7 +271,7 @@ fn trimmed_color(text: &[u8]) -> Color
 pub fn parse_ttml_color_rgba(text: &[u8]) -> Color
     ensures { ReadsColor (color_in text.now) result }
 {
-    let span = unicode::trim(&text[0..]);
+    let span = utf8::trim(&text[0..]);
     let start = span.start;
     let end = span.end;
     trimmed_color(&text[start..end])

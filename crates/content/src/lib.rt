@@ -1,3 +1,4 @@
+#![tactic(auto)]
 // The inline content of a p, or of a single cue.
 mod collect;
 

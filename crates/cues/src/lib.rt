@@ -1,3 +1,4 @@
+#![tactic(auto)]
 // Cues in their time containers.
 mod body;
 mod collect;

@@ -1,3 +1,4 @@
+#![tactic(auto)]
 // Decimals as document 01 has them: what Rust's float parser takes, within limits of digits; their
 // value as an f64 or an f32, by one division; truncation to an i64; and a size with its spelling.
 mod floats;

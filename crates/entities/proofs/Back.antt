@@ -15,9 +15,9 @@ use borrow.Author.Tests.{ne_eqb, eqb-false, lt-ltb, ltb-true, ltb-false, not-tru
 use Rattle.scan.specs.Bytes.{other, text_byte, run_end_of, run_length_of}
 use Rattle.scan.specs.Names.{same_bytes_of}
 use Rattle.scan.specs.Text.{ascii}
-use Rattle.unicode.specs.Utf8.{WellFormed, Utf8, empty, sequence, encode}
+use Rattle.utf8.specs.Utf8.{WellFormed, Utf8, empty, sequence, encode}
 use Rattle.scan.proofs.Every.{by-test, every-at, every_append}
-use Rattle.unicode.proofs.Utf8Laws.{utf8_append, utf8_one, utf8_ascii, sequence-ascii, well_high}
+use Rattle.utf8.proofs.Utf8Laws.{utf8_append, utf8_one, utf8_ascii, sequence-ascii, well_high}
 use Rattle.scan.specs.Every.{every}
 use Rattle.scan.proofs.Runs.{run-high, run-stops}
 use Rattle.entities.specs.Reference.{named, lookup}

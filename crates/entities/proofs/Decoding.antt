@@ -20,8 +20,8 @@ use Rattle.scan.specs.Part.{part}
 use Rattle.scan.specs.Posts.{Ends, Appended}
 use Rattle.scan.proofs.Runs.{run-all}
 use Rattle.scan.proofs.Stores.{sets_on}
-use Rattle.unicode.specs.Utf8.{encode}
-use Rattle.unicode.proofs.Utf8Laws.{encode-short}
+use Rattle.utf8.specs.Utf8.{encode}
+use Rattle.utf8.proofs.Utf8Laws.{encode-short}
 use Rattle.entities.specs.declared.reference.Entity.{Entity}
 use Rattle.entities.specs.declared.reference.Entity.TheVariants.{Char, Unknown}
 use Rattle.entities.specs.Reference.{name_length, reference}

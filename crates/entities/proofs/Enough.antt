@@ -19,9 +19,9 @@ use Rattle.scan.specs.Every.{every}
 use Rattle.scan.proofs.Every.{both, every-at}
 use Rattle.scan.proofs.Naming.{same_eq}
 use Rattle.scan.proofs.Runs.{length_within}
-use Rattle.unicode.specs.Utf8.{sequence_at, char_at, scalar}
-use Rattle.unicode.specs.White.{is_white}
-use Rattle.unicode.proofs.Utf8Laws.{sequence-ascii}
+use Rattle.utf8.specs.Utf8.{sequence_at, char_at, scalar}
+use Rattle.utf8.specs.White.{is_white}
+use Rattle.utf8.proofs.Utf8Laws.{sequence-ascii}
 use Rattle.numerals.specs.declared.Whole.{Whole}
 use Rattle.numerals.specs.declared.Numeral.{Numeral}
 use Rattle.numerals.specs.Numerals.{numeral_of}

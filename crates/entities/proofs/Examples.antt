@@ -6,8 +6,8 @@ use mathlib.Core.List.{List, [], ◌∷◌}
 use Rattle.scan.specs.Names.{same_bytes_of}
 use Rattle.scan.specs.Text.{ascii}
 use Rattle.scan.specs.Every.{every}
-use Rattle.unicode.specs.Utf8.{sequence_at, char_at, scalar, encode}
-use Rattle.unicode.specs.White.{is_white}
+use Rattle.utf8.specs.Utf8.{sequence_at, char_at, scalar, encode}
+use Rattle.utf8.specs.White.{is_white}
 use Rattle.numerals.specs.Numerals.{numeral_of}
 use Rattle.entities.specs.Reference.{reference}
 use Rattle.entities.specs.Decode.{decoded}

@@ -23,8 +23,8 @@ use Rattle.scan.specs.Names.{same_bytes_of}
 use Rattle.scan.specs.Part.{part}
 use Rattle.scan.proofs.Naming.{same_eq}
 use Rattle.scan.proofs.Runs.{length_within}
-use Rattle.unicode.specs.Utf8.{scalar}
-use Rattle.unicode.proofs.Utf8Laws.{scalar-small}
+use Rattle.utf8.specs.Utf8.{scalar}
+use Rattle.utf8.proofs.Utf8Laws.{scalar-small}
 use Rattle.numerals.specs.declared.Whole.{Whole}
 use Rattle.numerals.specs.declared.Numeral.{Numeral}
 use Rattle.numerals.specs.Numerals.{numeral_of}

@@ -12,9 +12,9 @@ use lib.ListN.{length, get_or, drop, length-append, length-drop, get_or-append}
 use lib.Seq.{drop-cons, drop-append-add, get_or-append-add}
 use lib.Dec.{eqb, ltb}
 use borrow.Author.Tests.{eqb-true, eqb-false, ltb-true, ltb-false}
-use Rattle.unicode.specs.Utf8.{WellFormed, Utf8, empty, sequence}
+use Rattle.utf8.specs.Utf8.{WellFormed, Utf8, empty, sequence}
 use Rattle.scan.proofs.Every.{by-test}
-use Rattle.unicode.proofs.Utf8Laws.{well_high, sequence-ascii, ascii-formed, utf8_append, utf8_past_ascii, encode_utf8}
+use Rattle.utf8.proofs.Utf8Laws.{well_high, sequence-ascii, ascii-formed, utf8_append, utf8_past_ascii, encode_utf8}
 use Rattle.entities.specs.declared.reference.Entity.{Entity}
 use Rattle.entities.specs.declared.reference.Entity.TheVariants.{Char, Unknown}
 use Rattle.entities.specs.Reference.{name_length, reference}

@@ -1,6 +1,6 @@
 -- A text with its references read. Definitions alone.
 use Rattle.std.specs.Prelude.{ℕ, zero, suc, ◌+◌, cond, List, [], ◌∷◌, ◌++◌, eqb}
-use Rattle.unicode.specs.Utf8.{encode}
+use Rattle.utf8.specs.Utf8.{encode}
 use Rattle.entities.specs.declared.reference.Entity.{Entity}
 use Rattle.entities.specs.declared.reference.Entity.TheVariants.{Char, Unknown}
 use Rattle.entities.specs.Reference.{name_length, reference}

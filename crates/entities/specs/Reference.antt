@@ -3,8 +3,8 @@
 use Rattle.std.specs.Prelude.{ℕ, suc, Bool, false, cond, not, ◌&&◌, ◌||◌, List, [], ◌∷◌, get_or, take, eqb, leb}
 use Rattle.scan.specs.Names.{same_bytes_of}
 use Rattle.scan.specs.Text.{ascii}
-use Rattle.unicode.specs.Utf8.{sequence_at, char_at, scalar}
-use Rattle.unicode.specs.White.{is_white}
+use Rattle.utf8.specs.Utf8.{sequence_at, char_at, scalar}
+use Rattle.utf8.specs.White.{is_white}
 use Rattle.numerals.specs.declared.Numeral.{Numeral}
 use Rattle.numerals.specs.Numerals.{numeral_of}
 use Rattle.entities.specs.declared.reference.Entity.{Entity}

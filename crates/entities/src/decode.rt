@@ -20,7 +20,7 @@ fn decode_reference(src: &[u8], pos: usize, out: &mut [u8], at: usize) -> Step
 {
     match crate::reference::reference(src, pos + 1) {
         Target::To(c, next) => {
-            let to = unicode::put_char(c, out, at);
+            let to = utf8::put_char(c, out, at);
             Step { from: next, to }
         }
         Target::Literal => {

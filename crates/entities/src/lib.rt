@@ -1,3 +1,4 @@
+#![tactic(auto)]
 // References and escapes: `&lt;` read as `<`, and `<` written as `&lt;`.
 mod decode;
 mod escape;

@@ -1,6 +1,6 @@
 // A reference: `&`, a name that is known, `;`.
 ghost use Rattle.std.specs.Prelude.{◌≡◌, ◌≤◌, ◌<◌, ◌^◌, length};
-ghost use Rattle.unicode.specs.Utf8.{scalar};
+ghost use Rattle.utf8.specs.Utf8.{scalar};
 ghost use Rattle.entities.specs.Reference.{character, character_reference, named, entity_table, lookup};
 ghost use Rattle.entities.specs.Steps.{taken_byte, NameEnd, Refers};
 

@@ -1,3 +1,4 @@
+#![tactic(auto)]
 // The example of README.md: the contracts of `xml` compose, with no induction of one's own.
 ghost use Rattle.xml.specs.Promise.{tables};
 ghost use Rattle.example.specs.Count.{Counts};

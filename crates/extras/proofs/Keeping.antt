@@ -17,7 +17,7 @@ use Rattle.scan.specs.Names.{same_bytes_of, same_folded}
 use Rattle.scan.specs.Part.{string_at}
 use Rattle.scan.proofs.Stores.{sets_append}
 use Rattle.scan.proofs.Naming.{same_eq, same_refl, same_folded-refl}
-use Rattle.unicode.specs.White.{trimmed}
+use Rattle.utf8.specs.White.{trimmed}
 use Rattle.scan.proofs.Every.{by-test}
 use Rattle.derivation.proofs.RunLaws.{string_is}
 use Rattle.names.specs.declared.tables.Listed.{Listed}

@@ -1,3 +1,4 @@
+#![tactic(auto)]
 // Attributes that are kept as they were. An element's attributes are `many` rows of the tree's table from row `first` on.
 mod extras;
 

@@ -1,3 +1,4 @@
+#![tactic(auto)]
 // All that program `recaption` does, as a function: the gate runs it as two programs, on a film that is taken and on one that is turned away.
 use libc::{STDERR_FILENO, STDIN_FILENO, STDOUT_FILENO};
 use scan::Written;

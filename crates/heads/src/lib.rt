@@ -1,3 +1,4 @@
+#![tactic(auto)]
 // The styles and regions of the head, each from the attributes of its element.
 mod collect;
 mod regions;

@@ -1,3 +1,4 @@
+#![tactic(auto)]
 // Times of an element: its begin counted from a reference, and its end.
 ghost use Rattle.std.specs.Prelude.{◌≡◌};
 ghost use Rattle.meaning.specs.Kinds.{with_places};

@@ -10,8 +10,8 @@ use lib.ListN.{length}
 use lib.Dec.{leb, leb→le, ltb, eqb}
 use borrow.Author.Tests.{ltb-true}
 use Rattle.scan.proofs.Every.{by-test}
-use Rattle.unicode.specs.White.{trimmed}
-use Rattle.unicode.specs.Utf8.{boundary}
+use Rattle.utf8.specs.White.{trimmed}
+use Rattle.utf8.specs.Utf8.{boundary}
 use Rattle.scan.specs.Names.{same_folded}
 use Rattle.scan.specs.Part.{part}
 use Rattle.scan.specs.Split.{split_at}

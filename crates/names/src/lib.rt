@@ -1,3 +1,4 @@
+#![tactic(auto)]
 // The attribute names that are written and looked for in a fixed order.
 mod lookup;
 mod tables;

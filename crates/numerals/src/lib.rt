@@ -1,3 +1,4 @@
+#![tactic(auto)]
 // Whole numbers as Rust's `parse` and `from_str_radix` read them: an optional `+`, a `-` where the
 // type has one, at least one digit, nothing else; a number past the largest is no number. One reader
 // serves every type, by the radix, the largest value and whether a minus is taken.

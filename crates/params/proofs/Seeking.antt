@@ -17,7 +17,7 @@ use lib.Seq.{take_all}
 use Rattle.scan.specs.Names.{same_bytes_of, after_first_colon, PartFrom}
 use Rattle.scan.specs.Posts.{Marked}
 use Rattle.scan.specs.Part.{string_at}
-use Rattle.unicode.specs.White.{trimmed}
+use Rattle.utf8.specs.White.{trimmed}
 use Rattle.scan.proofs.Every.{by-test}
 use Rattle.times.specs.Expressions.{time_decimal}
 use Rattle.tree.specs.Trees.{Attr}

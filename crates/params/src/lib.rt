@@ -1,3 +1,4 @@
+#![tactic(auto)]
 // What the attributes of tt, of a style and of a region say by exact names, and ids.
 mod ids;
 mod params;

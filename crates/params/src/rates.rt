@@ -1,6 +1,6 @@
 // The rates of tt.
 ghost use Rattle.std.specs.Prelude.{◌≡◌};
-ghost use Rattle.unicode.specs.White.{trimmed};
+ghost use Rattle.utf8.specs.White.{trimmed};
 ghost use Rattle.times.specs.Expressions.{time_decimal};
 ghost use Rattle.meaning.specs.Kinds.{with_places};
 ghost use Rattle.meaning.specs.Meaning.{rate_answer, rate_of};
@@ -31,7 +31,7 @@ pub enum TimingSaid {
 fn rate_in(value: &[u8], at: usize) -> RateSaid
     ensures { rate_said result ≡ rate_answer at (time_decimal (trimmed value.now)) }
 {
-    let span = unicode::trim(value);
+    let span = utf8::trim(value);
     let start = span.start;
     let end = span.end;
     match decimals::read_decimal(&value[start..end], 15, 22) {

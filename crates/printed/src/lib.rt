@@ -1,3 +1,4 @@
+#![tactic(auto)]
 // What program `recaption` prints: the text that was written, or the line of a refusal.
 ghost use Rattle.scan.specs.Posts.{Wrote};
 ghost use Rattle.printed.specs.Printed.{refusal_line, Prints};

@@ -5,8 +5,8 @@ use Rattle.scan.specs.Marks.{starts_at, seek}
 use Rattle.scan.specs.Posts.{Appended, Begun}
 use Rattle.scan.specs.declared.table.Written.{Written}
 use Rattle.scan.specs.declared.table.Written.TheVariants.{At, Full}
-use Rattle.unicode.specs.White.{Trimmed, WordAt, NextWord}
-use Rattle.unicode.specs.declared.white.Word.TheVariants.{Nothing}
+use Rattle.utf8.specs.White.{Trimmed, WordAt, NextWord}
+use Rattle.utf8.specs.declared.white.Word.TheVariants.{Nothing}
 use Rattle.numerals.specs.declared.Numeral.{Numeral}
 use Rattle.numerals.specs.Numerals.{numeral_of}
 use Rattle.entities.specs.declared.reference.Entity.{Entity}

@@ -1,3 +1,4 @@
+#![tactic(auto)]
 // No public call: C names for the functions that the comparison with the Rust calls (`oracle/`), and no part
 // of the library. None asks anything of its caller: each tests what the function below it asks.
 mod color;
@@ -8,7 +9,7 @@ mod time;
 ghost use Rattle.std.specs.Prelude.{◌≡◌, true, false, [], ◌∷◌, ◌≤◌, ◌<◌, length};
 ghost use Rattle.std.proofs.lemmas.List.Edits.{sets};
 ghost use Rattle.scan.specs.Names.{same_folded, after_last_colon, after_first_colon, PartFrom};
-ghost use Rattle.unicode.specs.Utf8.{LongestValid};
+ghost use Rattle.utf8.specs.Utf8.{LongestValid};
 ghost use Rattle.entities.specs.Reference.{lookup};
 ghost use Rattle.entities.specs.Decode.{decoded};
 ghost use Rattle.entities.specs.Escape.{escaped};
@@ -23,14 +24,14 @@ use numerals::Numeral;
 pub use parse::probe_parse_xml;
 use scan::Written;
 pub use time::{probe_format_ts, probe_time};
-use unicode::Word;
+use utf8::Word;
 
 // Where the longest valid beginning of the text ends.
 #[unsafe(no_mangle)]
 pub extern "C" fn probe_utf8_end(text: &[u8]) -> usize
     ensures { LongestValid text.now result }
 {
-    unicode::utf8_end(text)
+    utf8::utf8_end(text)
 }
 
 // A start and an end, in the first two cells.
@@ -50,7 +51,7 @@ pub extern "C" fn probe_trim(text: &[u8], out: &mut [u64]) -> bool
     if out.len() < 2 {
         return false;
     }
-    let span = unicode::trim(text);
+    let span = utf8::trim(text);
     put_span(out, span.start, span.end);
     true
 }
@@ -66,7 +67,7 @@ pub extern "C" fn probe_next_word(text: &[u8], from: usize, out: &mut [u64]) -> 
     if text.len() < from {
         return false;
     }
-    match unicode::next_word(text, from) {
+    match utf8::next_word(text, from) {
         Word::At(span) => {
             put_span(out, span.start, span.end);
             true

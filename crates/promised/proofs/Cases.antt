@@ -8,8 +8,8 @@ use mathlib.Core.List.{List}
 use mathlib.Core.Option.{some}
 use native.Mathlib.Omega.{arith}
 use lib.ListN.{length, drop}
-use Rattle.unicode.specs.Utf8.{utf8_end}
-use Rattle.unicode.proofs.Utf8Laws.{end_utf8}
+use Rattle.utf8.specs.Utf8.{utf8_end}
+use Rattle.utf8.proofs.Utf8Laws.{end_utf8}
 use Rattle.grammar.specs.Tree.{Forest}
 use Rattle.grammar.proofs.CountedRounds.{nodes_c}
 use Rattle.tree.specs.Trees as placed

@@ -10,7 +10,7 @@ use mathlib.Core.Logic.{◌⊎◌, inl, inr}
 use mathlib.Core.List.{List}
 use native.Mathlib.Omega.{arith}
 use lib.ListN.{length, replicate}
-use Rattle.unicode.proofs.Utf8Laws.{utf8-end}
+use Rattle.utf8.proofs.Utf8Laws.{utf8-end}
 use Rattle.grammar.specs.Tree.{Forest}
 use Rattle.grammar.specs.Limits as count
 use Rattle.grammar.proofs.Theorem.{no_two}

@@ -1,3 +1,4 @@
+#![tactic(auto)]
 // What `parse` and `bytes_to_cue` answer, and what they promise: definitions and proofs, and the type of the answer.
 //   specs/Promise       the promise, in the words of document 01
 //   proofs/Promises     the promise from what the program's parts ensure

@@ -15,7 +15,7 @@ use lib.ListN.{length, get_or, replicate, length-replicate}
 use lib.Seq.{take-length}
 use lib.Dec.{eqb}
 use Rattle.scan.specs.Part.{string_at}
-use Rattle.unicode.specs.White.{trimmed, Trimmed}
+use Rattle.utf8.specs.White.{trimmed, Trimmed}
 use Rattle.scan.proofs.Every.{by-test}
 use Rattle.track.specs.declared.strings.Span.{Span}
 use Rattle.track.specs.declared.values.Look as values

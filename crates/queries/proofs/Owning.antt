@@ -14,7 +14,7 @@ use Rattle.scan.proofs.Runs.{run-here, run_out, run_length}
 use Rattle.scan.specs.Part.{string_at}
 use Rattle.scan.specs.Names.{same_bytes_of, same_folded}
 use Rattle.scan.specs.Loop.{loop}
-use Rattle.unicode.specs.White.{trimmed, white_end, white_start}
+use Rattle.utf8.specs.White.{trimmed, white_end, white_start}
 use Rattle.scan.proofs.Every.{by-test}
 use Rattle.colors.specs.declared.read.Rgba.{Rgba}
 use Rattle.colors.specs.declared.read.Color.{Color}

@@ -6,11 +6,11 @@ use native.Mathlib.Omega.{arith}
 use Rattle.scan.specs.Loop.{loop, go}
 use Rattle.scan.specs.Names.{same_bytes_of}
 use Rattle.scan.specs.Part.{string_at}
-use Rattle.unicode.specs.Utf8.{sequence_at, char_at}
-use Rattle.unicode.specs.declared.white.Word.TheVariants.{Nothing}
-use Rattle.unicode.specs.White.{is_white, white_at, white_end, word_end_of, WordAt, NextWord}
-use Rattle.unicode.proofs.WhiteLaws.{words_from-none}
-use Rattle.unicode.proofs.Wording.{word_at}
+use Rattle.utf8.specs.Utf8.{sequence_at, char_at}
+use Rattle.utf8.specs.declared.white.Word.TheVariants.{Nothing}
+use Rattle.utf8.specs.White.{is_white, white_at, white_end, word_end_of, WordAt, NextWord}
+use Rattle.utf8.proofs.WhiteLaws.{words_from-none}
+use Rattle.utf8.proofs.Wording.{word_at}
 use Rattle.names.specs.Numbers.{is_in}
 use Rattle.track.specs.Track.{Bytes}
 use Rattle.track.specs.Tables.{Tables, span, tables}

@@ -14,8 +14,8 @@ use lib.ListN.{length, get_or, replicate}
 use lib.Dec.{leb, ltb}
 use borrow.Author.Tests.{eq-eqb, ne_eqb, eqb-true, le-leb, leb-true, leb-false, lt-ltb, ltb-true}
 use Rattle.scan.specs.Loop.{loop, go}
-use Rattle.unicode.specs.Utf8.{Utf8, utf8_end, LongestValid}
-use Rattle.unicode.proofs.Utf8Laws.{utf8-end, end_utf8}
+use Rattle.utf8.specs.Utf8.{Utf8, utf8_end, LongestValid}
+use Rattle.utf8.proofs.Utf8Laws.{utf8-end, end_utf8}
 use Rattle.scan.proofs.Every.{by-test}
 use Rattle.decimals.proofs.Tests.{no}
 use Rattle.tree.specs.declared.answers.Refusal.{Refusal}

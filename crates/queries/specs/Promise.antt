@@ -3,8 +3,8 @@
 -- A row of the table of ids is four cells: 0 (the query's text) or 1 (the track's strings); place; length; 0.
 use Rattle.std.specs.Prelude.{ℕ, ◌-◌, ◌*◌, ◌≤◌, ◌<◌, ◌≡◌, cond, ◌↔◌, ◌⊎◌, List, [], ◌∷◌, ◌++◌, length, replicate}
 use Rattle.std.proofs.Math.Option.{Option, none, some}
-use Rattle.unicode.specs.Utf8.{Utf8}
-use Rattle.unicode.specs.White.{words, trimmed, white_end}
+use Rattle.utf8.specs.Utf8.{Utf8}
+use Rattle.utf8.specs.White.{words, trimmed, white_end}
 use Rattle.track.specs.Track.{Bytes, Look, Region, Cue, Track}
 use Rattle.track.specs.declared.strings.Span.{Span}
 use Rattle.track.specs.Tables.{Tables, span, lengths, LongEnough}

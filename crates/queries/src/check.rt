@@ -32,7 +32,7 @@ fn check_text(text: &[u8], check: Check) -> Check
     if BYTES < text.len() {
         return refused(2);
     }
-    if unicode::utf8_end(text) < text.len() {
+    if utf8::utf8_end(text) < text.len() {
         return refused(3);
     }
     check

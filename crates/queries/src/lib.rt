@@ -1,3 +1,4 @@
+#![tactic(auto)]
 // The three queries on a handed track: a style value, a region, a cue.
 mod check;
 mod own;

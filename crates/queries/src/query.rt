@@ -92,7 +92,7 @@ pub fn resolve_referenced_style(
     ) {
         Check::Refused(r) => Resolved::Refused(r),
         Check::Track => {
-            let name = unicode::trim(value);
+            let name = utf8::trim(value);
             let start = name.start;
             let part = Span {
                 place: start,

@@ -1,3 +1,4 @@
+#![tactic(auto)]
 // The readers of whole texts.
 mod calls;
 mod text;

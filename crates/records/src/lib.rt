@@ -1,3 +1,4 @@
+#![tactic(auto)]
 // The rows of a track's tables, read by value and written from values; and lookups by name.
 mod cells;
 mod cues;

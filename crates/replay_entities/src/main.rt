@@ -1,3 +1,4 @@
+#![tactic(auto)]
 // Replays recorded answers of the Rust: the list on standard input says how it was made. Prints each
 // line that this library answers otherwise, and the counts.
 ghost use Rattle.std.specs.Prelude.{◌≡◌, ◌≤◌, length};
@@ -46,9 +47,9 @@ fn answer(kind: u8, given: &[u8], out: &mut [u8]) -> usize
         b'd' => entities::decode_entities(given, out, 0),
         b't' => length_of(entities::escape_text(given, out, 0)),
         b'a' => length_of(entities::escape_attr(given, out, 0)),
-        b'u' => copy_part(given, 0, unicode::utf8_end(given), out),
+        b'u' => copy_part(given, 0, utf8::utf8_end(given), out),
         _ => {
-            let span = unicode::trim(given);
+            let span = utf8::trim(given);
             copy_part(given, span.start, span.end, out)
         }
     }

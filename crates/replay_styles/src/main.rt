@@ -1,3 +1,4 @@
+#![tactic(auto)]
 // Replays recorded answers of the Rust to the three queries: the list on standard input says how it
 // was made. Prints each question that these libraries answer otherwise, and the counts.
 //

@@ -1,3 +1,4 @@
+#![tactic(auto)]
 // Breaks a track in every way of document 01's number 17 and asks `check_track`. Standard input says
 // how, a line to a question; each line is printed with the answer: 0 where the tables hold a track,
 // else the number.

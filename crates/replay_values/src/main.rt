@@ -1,3 +1,4 @@
+#![tactic(auto)]
 // Replays recorded answers of the Rust on decimals, times and colours: the list on standard input
 // says how it was made. Prints each line that these libraries answer otherwise, and the counts.
 //

@@ -1,3 +1,4 @@
+#![tactic(auto)]
 // What the programs that replay recorded answers of the Rust have in common: a line read, and lines
 // counted. A line is a kind, the bytes that were given and the bytes that the Rust answered, in
 // hexadecimal, `-` for none.

@@ -1,3 +1,4 @@
+#![tactic(auto)]
 // A text read and written anew.
 ghost use Rattle.track.specs.Tables as track;
 ghost use Rattle.promised.specs.Promise.{tables};

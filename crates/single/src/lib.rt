@@ -1,3 +1,4 @@
+#![tactic(auto)]
 // A single cue: what the first p of a tree means.
 ghost use Rattle.std.specs.Prelude.{◌≡◌};
 ghost use Rattle.std.proofs.Math.Option.{none};

@@ -1,3 +1,4 @@
+#![tactic(auto)]
 // What a cue says: the call. It looks at the one cue, so that a loop over a film's cues costs what their texts do.
 ghost use Rattle.std.specs.Prelude.{◌≡◌, true, List, ℕ, ◌+◌, ◌*◌, ◌≤◌, length, replicate};
 ghost use Rattle.track.specs.Meaning.{all_rows};

@@ -12,9 +12,9 @@ use native.Mathlib.Omega.{arith}
 use lib.ListN.{length, length-append, length-take, length-drop}
 use lib.Ieee.{Float}
 use Rattle.scan.specs.Part.{part, string_at}
-use Rattle.unicode.specs.declared.white.Word.TheVariants.{Nothing}
-use Rattle.unicode.specs.White.{words, words_from, WordAt, NextWord}
-use Rattle.unicode.proofs.WhiteLaws.{words_from-after}
+use Rattle.utf8.specs.declared.white.Word.TheVariants.{Nothing}
+use Rattle.utf8.specs.White.{words, words_from, WordAt, NextWord}
+use Rattle.utf8.proofs.WhiteLaws.{words_from-after}
 use Rattle.track.specs.Track.{Bytes, Style}
 use Rattle.track.specs.declared.strings.Span.{Span}
 use Rattle.styles.specs.declared.apply.Walk.{Walk}

@@ -12,7 +12,7 @@ use mathlib.Core.Option.{Option, none, some}
 use native.Mathlib.Omega.{arith}
 use lib.ListN.{length, get_or, replicate, length-append, length-replicate, get_or-replicate}
 use lib.Ieee.{Float}
-use Rattle.unicode.specs.White.{words}
+use Rattle.utf8.specs.White.{words}
 use Rattle.track.specs.declared.values.Look as values
 use Rattle.track.specs.Track.{Bytes, Look, Style}
 use Rattle.track.specs.Tables.{rows_from}

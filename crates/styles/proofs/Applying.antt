@@ -13,7 +13,7 @@ use native.Mathlib.Omega.{arith}
 use lib.ListN.{length, get_or}
 use lib.Ieee.{Float}
 use Rattle.scan.specs.Part.{string_at}
-use Rattle.unicode.specs.White.{words}
+use Rattle.utf8.specs.White.{words}
 use Rattle.names.specs.Numbers.{is_in}
 use Rattle.track.specs.declared.strings.Span.{Span}
 use Rattle.track.specs.Track.{Bytes, Style}

@@ -17,7 +17,7 @@ use mathlib.Core.List.{
   append-nil,
 }
 use lib.ListN.{length}
-use Rattle.unicode.specs.White.{words}
+use Rattle.utf8.specs.White.{words}
 use Rattle.scan.proofs.Every.{by-test}
 use Rattle.names.specs.Numbers.{is_in}
 use Rattle.decimals.proofs.Tests.{no}

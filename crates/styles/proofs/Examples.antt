@@ -10,8 +10,8 @@ use lib.IntN.{ℤ, pos}
 use lib.ListN.{length}
 use Rattle.scan.specs.Loop.{loop, go}
 use Rattle.scan.specs.Names.{same_bytes_of, same_folded}
-use Rattle.unicode.specs.Utf8.{sequence_at, char_at}
-use Rattle.unicode.specs.White.{is_white, white_at, white_before, trimmed, words}
+use Rattle.utf8.specs.Utf8.{sequence_at, char_at}
+use Rattle.utf8.specs.White.{is_white, white_at, white_before, trimmed, words}
 use Rattle.scan.specs.Marks.{starts_at}
 use Rattle.names.specs.Numbers.{is_in}
 use Rattle.colors.specs.Colors.{color_in}

@@ -13,7 +13,7 @@ use lib.ListN.{take, drop, length-take}
 use lib.Seq.{take-take, drop-drop}
 use lib.Ieee.{Float}
 use Rattle.scan.specs.Part.{part, string_at}
-use Rattle.unicode.specs.White.{words, words_from, WordAt}
+use Rattle.utf8.specs.White.{words, words_from, WordAt}
 use Rattle.track.specs.Track.{Bytes, Style}
 use Rattle.track.specs.Tables.{style_at}
 use Rattle.scan.specs.declared.table.Found.{Found}

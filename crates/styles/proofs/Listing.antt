@@ -5,7 +5,7 @@
 use mathlib.Core.Path.{◌≡◌, refl, sym, ap, subst, ◌∙◌}
 use mathlib.Core.List.{List, [], ◌++◌}
 use mathlib.Core.Option.{Option, none, some}
-use Rattle.unicode.specs.White.{words}
+use Rattle.utf8.specs.White.{words}
 use Rattle.track.specs.Track.{Bytes, Style}
 use Rattle.styles.specs.Reaches.{chain_words}
 use Rattle.styles.specs.Resolve.{Walked, start, meet, walk, answered, resolve}

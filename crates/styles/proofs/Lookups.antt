@@ -14,8 +14,8 @@ use lib.Dec.{eqb}
 use lib.Ieee.{Float}
 use borrow.Author.Tests.{not-true}
 use Rattle.scan.specs.Part.{string_at}
-use Rattle.unicode.specs.White.{words, words_from}
-use Rattle.unicode.proofs.WhiteLaws.{words_from-none, white_end-low}
+use Rattle.utf8.specs.White.{words, words_from}
+use Rattle.utf8.proofs.WhiteLaws.{words_from-none, white_end-low}
 use Rattle.scan.proofs.Every.{both}
 use Rattle.track.specs.declared.strings.Span.{Span}
 use Rattle.track.specs.Track.{Bytes, Style}

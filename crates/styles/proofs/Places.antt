@@ -10,9 +10,9 @@ use mathlib.Core.List.{List, [], ◌∷◌}
 use native.Mathlib.Omega.{arith}
 use lib.ListN.{length}
 use lib.Ieee.{Float}
-use Rattle.unicode.specs.declared.white.Word.TheVariants.{Nothing}
-use Rattle.unicode.specs.White.{words_from, WordAt, NextWord}
-use Rattle.unicode.proofs.WhiteLaws.{words_from-after}
+use Rattle.utf8.specs.declared.white.Word.TheVariants.{Nothing}
+use Rattle.utf8.specs.White.{words_from, WordAt, NextWord}
+use Rattle.utf8.proofs.WhiteLaws.{words_from-after}
 use Rattle.decimals.proofs.Tests.{no}
 use Rattle.scan.specs.Part.{part}
 use Rattle.track.specs.declared.values.Look.{Look}

@@ -7,7 +7,7 @@ use mathlib.Core.Option.{Option, none, some}
 use mathlib.Core.List.Memᴰ
 use mathlib.Core.List.{List, []}
 use Rattle.decimals.proofs.Tests.{no}
-use Rattle.unicode.specs.White.{words}
+use Rattle.utf8.specs.White.{words}
 use Rattle.track.specs.Track.{Bytes, Look, Style}
 use Rattle.records.specs.Find.{find_style}
 use Rattle.styles.specs.Reaches.{◌∈◌, parents, Reaches, named, parent, Distinct, empty, Exactly}

@@ -6,7 +6,7 @@ use Rattle.std.proofs.Math.Option.{Option, none, some}
 use Rattle.scan.specs.Bytes.{digit_byte, run_length_of}
 use Rattle.scan.specs.Names.{same_bytes_of, same_folded}
 pub use Rattle.scan.specs.Text.{ascii}
-use Rattle.unicode.specs.White.{trimmed}
+use Rattle.utf8.specs.White.{trimmed}
 use Rattle.colors.specs.declared.read.Rgba.{Rgba}
 use Rattle.colors.specs.declared.read.Color.{Color}
 use Rattle.colors.specs.Colors.{color_in}

@@ -3,8 +3,8 @@
 -- at most (`proofs/Places`); with its places forgotten it is the walk of `Resolve` (`proofs/Forgetting`).
 --     s is the styles' table, f the sizes, z the strings, n the number of styles
 use Rattle.std.specs.Prelude.{ℕ, ◌+◌, ◌-◌, ◌*◌, ◌≡◌, Bool, true, false, cond, not, List, [], ◌∷◌, ◌++◌, get_or, Float}
-use Rattle.unicode.specs.declared.white.Word.TheVariants.{Nothing}
-use Rattle.unicode.specs.White.{WordAt, NextWord}
+use Rattle.utf8.specs.declared.white.Word.TheVariants.{Nothing}
+use Rattle.utf8.specs.White.{WordAt, NextWord}
 use Rattle.names.specs.Numbers.{is_in}
 use Rattle.track.specs.declared.strings.Span.{Span}
 use Rattle.track.specs.declared.values.Look.{Look}

@@ -4,7 +4,7 @@ use Prim.Native.Nat.{ℕ, zero, suc}
 use Rattle.std.specs.Prelude.{◌≡◌, Bool, cond, ◌↔◌, List, [], ◌∷◌, ◌++◌, length}
 use Rattle.std.proofs.Math.Bool.{true, false}
 use Rattle.std.proofs.Math.Option.{Option, none, some}
-use Rattle.unicode.specs.White.{words}
+use Rattle.utf8.specs.White.{words}
 use Rattle.names.specs.Numbers.{is_in}
 use Rattle.track.specs.Track.{Bytes, Look, Style}
 use Rattle.records.specs.Find.{find_style}

@@ -1,7 +1,7 @@
 // The resolution of a style value: each id once, its parents before itself.
 ghost use Rattle.std.specs.Prelude.{◌≡◌, [], ◌∷◌};
 ghost use Rattle.scan.specs.Part.{string_at};
-ghost use Rattle.unicode.specs.White.{words};
+ghost use Rattle.utf8.specs.White.{words};
 ghost use Rattle.track.specs.Meaning.{bytes_at};
 ghost use Rattle.track.specs.Tables.{span};
 ghost use Rattle.styles.specs.Ids.{Held};
@@ -10,7 +10,7 @@ ghost use Rattle.styles.specs.Steps.{Chained, Ready, Stands, ChainOf, OwnStyle, 
 
 use records::Found;
 use track::{Look, STYLE_CELLS, Span};
-use unicode::Word;
+use utf8::Word;
 
 // What is known on the way: how many ids were visited, whether a style was met, and the styles met, each
 // over those before it.
@@ -110,7 +110,7 @@ fn apply_style_ref(
     let to = from + chain.len;
     let mut p = 0;
     loop {
-        match unicode::next_word(&strings[from..to], p) {
+        match utf8::next_word(&strings[from..to], p) {
             Word::Nothing => {
                 let r = own_style(styles, sizes, strings, n, &own[at..end], s);
                 return Applied::Done(r);
@@ -171,7 +171,7 @@ fn apply_refs(
     let mut s = w;
     let mut p = 0;
     loop {
-        match unicode::next_word(&own[from..to], p) {
+        match utf8::next_word(&own[from..to], p) {
             Word::Nothing => {
                 return Applied::Done(s);
             }

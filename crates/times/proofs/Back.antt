@@ -11,10 +11,10 @@ use lib.ListN.{length, get_or, take, replicate, length-append}
 use lib.Seq.{take_all, take-append-add}
 use borrow.Author.Tests.{eq-eqb, ne_eqb, le-ltb}
 use Rattle.scan.specs.Split.{split_at, halves, split_once}
-use Rattle.unicode.specs.White.{white_at, white_before, trimmed}
-use Rattle.unicode.specs.Utf8.{char_at}
-use Rattle.unicode.proofs.Utf8Laws.{sequence-ascii}
-use Rattle.unicode.proofs.WhiteLaws.{is_white-visible, white_at-other, ends_with_on, ends_with_out, trimmed-all}
+use Rattle.utf8.specs.White.{white_at, white_before, trimmed}
+use Rattle.utf8.specs.Utf8.{char_at}
+use Rattle.utf8.proofs.Utf8Laws.{sequence-ascii}
+use Rattle.utf8.proofs.WhiteLaws.{is_white-visible, white_at-other, ends_with_on, ends_with_out, trimmed-all}
 use Rattle.numerals.specs.declared.Numeral.{Numeral}
 use Rattle.numerals.specs.Numerals.{digit_of, digits_only, value_from}
 use Rattle.numerals.specs.Written.{padded, decimal_width}

@@ -12,9 +12,9 @@ use Rattle.scan.specs.Bytes.{digit_byte, run_length_of}
 use Rattle.scan.specs.Every.{every}
 use Rattle.scan.specs.Names.{lower, same_folded}
 use Rattle.scan.proofs.Every.{by-test, both}
-use Rattle.unicode.specs.White.{white_end, white_start, trimmed}
-use Rattle.unicode.proofs.WhiteLaws.{white_back-here}
-use Rattle.unicode.proofs.Trimming.{before-visible}
+use Rattle.utf8.specs.White.{white_end, white_start, trimmed}
+use Rattle.utf8.proofs.WhiteLaws.{white_back-here}
+use Rattle.utf8.proofs.Trimming.{before-visible}
 use Rattle.decimals.specs.declared.read.Decimal.{Decimal}
 use Rattle.decimals.specs.Decimal.{is_sign, unsigned, after_digits, after_fraction, all_digits, rest_of, only_digits, is_exponent, is_word}
 use Rattle.decimals.specs.Decimal.{decimal_of}

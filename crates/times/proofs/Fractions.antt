@@ -12,8 +12,8 @@ use lib.ListN.{length, get_or, set, take, drop, replicate, length-take, drop_of_
 use lib.Seq.{drop-cons, take-append-add, length-take-le, get_or-take, sets, sets-eq}
 use borrow.Author.Tests.{le-leb, lt-leb}
 use Rattle.scan.proofs.Stores.{Copied, copied_more}
-use Rattle.unicode.specs.Utf8.{Utf8, FirstChars}
-use Rattle.unicode.proofs.Characters.{chars_count}
+use Rattle.utf8.specs.Utf8.{Utf8, FirstChars}
+use Rattle.utf8.proofs.Characters.{chars_count}
 use Rattle.numerals.specs.declared.Whole.{Whole}
 use Rattle.numerals.specs.declared.Numeral.{Numeral}
 use Rattle.numerals.specs.declared.Unsigned.{Unsigned}

@@ -17,7 +17,7 @@ use Rattle.scan.specs.Split.{split_at}
 use Rattle.scan.proofs.Searches.{mark_not, mark_beyond}
 use Rattle.scan.proofs.Splits.{split_more, split_last, once_more, once-none}
 use Rattle.scan.specs.Part.{part}
-use Rattle.unicode.specs.White.{Trimmed, trimmed}
+use Rattle.utf8.specs.White.{Trimmed, trimmed}
 use Rattle.numerals.specs.declared.Numeral.{Numeral}
 use Rattle.decimals.specs.declared.read.Decimal.{Decimal}
 use Rattle.times.specs.declared.sums.Sum.{Sum}

@@ -14,7 +14,7 @@ use Rattle.scan.specs.Marks.{starts_at}
 use Rattle.scan.specs.Split.{split_at}
 use Rattle.scan.proofs.Every.{by-test}
 use Rattle.scan.proofs.Searches.{mark_here, mark_on}
-use Rattle.unicode.specs.White.{trimmed}
+use Rattle.utf8.specs.White.{trimmed}
 use Rattle.times.specs.declared.offset.TimingCtx.{TimingCtx}
 use Rattle.times.specs.declared.offset.Time.{Time}
 use Rattle.times.specs.Expressions.{◌else◌, Metric, `h`, `m`, `s`, `ms`, `f`, `t`, metrics, letters, Way, clock, offset, ways}

@@ -9,7 +9,7 @@ use Rattle.std.specs.Float.{binary64}
 use Rattle.std.specs.Float.Ieee.{mul, div, lt, le, of_int, to_signed}
 use Rattle.scan.specs.Marks.{starts_at}
 use Rattle.scan.specs.Split.{split_at, Halves, halves, no_half, split_once}
-use Rattle.unicode.specs.White.{trimmed}
+use Rattle.utf8.specs.White.{trimmed}
 use Rattle.numerals.specs.declared.Numeral.{Numeral}
 use Rattle.numerals.specs.Numerals.{numeral_of}
 use Rattle.decimals.specs.declared.read.Decimal.{Decimal}

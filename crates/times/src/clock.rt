@@ -226,7 +226,7 @@ pub fn parse_ttml_time(text: &[u8], ctx: TimingCtx) -> Time
             return Time::Is((ms * 1000) as i64);
         }
     }
-    let span = unicode::trim(&text[0..]);
+    let span = utf8::trim(&text[0..]);
     let start = span.start;
     let end = span.end;
     if end <= start {

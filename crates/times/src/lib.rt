@@ -1,3 +1,4 @@
+#![tactic(auto)]
 // Time expressions read to microseconds, and microseconds written as clock times.
 mod clock;
 mod offset;

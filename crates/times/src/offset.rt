@@ -1,6 +1,6 @@
 // Offset times: a count and its metric.
 ghost use Rattle.std.specs.Prelude.{◌≡◌};
-ghost use Rattle.unicode.specs.White.{trimmed};
+ghost use Rattle.utf8.specs.White.{trimmed};
 ghost use Rattle.times.specs.Expressions.{time_decimal, given};
 ghost use Rattle.times.specs.Steps.{ends_metric, each_time, rate_time};
 
@@ -48,7 +48,7 @@ pub fn ends_metric(b: u8) -> bool
 pub fn read_count(text: &[u8]) -> Decimal
     ensures { result ≡ time_decimal (trimmed text.now) }
 {
-    let span = unicode::trim(&text[0..]);
+    let span = utf8::trim(&text[0..]);
     let start = span.start;
     let end = span.end;
     decimals::read_decimal(&text[start..end], 15, 22)

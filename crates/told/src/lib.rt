@@ -1,3 +1,4 @@
+#![tactic(auto)]
 // How an answer is told to a caller in C.
 mod answers;
 mod bits;

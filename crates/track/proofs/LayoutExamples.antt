@@ -12,7 +12,7 @@ use Rattle.decimals.proofs.Tests.{no}
 use Rattle.scan.specs.Loop.{go, loop}
 use Rattle.scan.specs.Part.{string_at}
 use Rattle.scan.specs.Bytes.{attr_name_byte}
-use Rattle.unicode.specs.Utf8.{fits_at, first_fit, sequence_at, utf8_end, boundary}
+use Rattle.utf8.specs.Utf8.{fits_at, first_fit, sequence_at, utf8_end, boundary}
 use Rattle.track.specs.declared.values.Align.{Align}
 use Rattle.track.specs.Track.{segment_rows}
 use Rattle.track.specs.Track as track

@@ -17,7 +17,7 @@ use Rattle.scan.specs.Bytes.{run_length_of}
 use Rattle.scan.specs.Every.{every}
 use Rattle.scan.specs.Posts.{Ends}
 use Rattle.scan.proofs.Runs.{run_length}
-use Rattle.unicode.specs.Utf8.{boundary}
+use Rattle.utf8.specs.Utf8.{boundary}
 use Rattle.track.specs.Meaning.{is_span}
 
 module _ (z : List ℕ) (p n : ℕ) where

@@ -14,9 +14,9 @@ use lib.Seq.{take-append-le, drop-append-le}
 use lib.Dec.{leb}
 use borrow.Author.Tests.{eqb-true, leb-true}
 use Rattle.scan.specs.Part.{string_at}
-use Rattle.unicode.specs.Utf8.{Utf8, boundary, utf8_end}
-use Rattle.unicode.proofs.Utf8Laws.{end_utf8}
-use Rattle.unicode.proofs.Boundaries.{utf8_part}
+use Rattle.utf8.specs.Utf8.{Utf8, boundary, utf8_end}
+use Rattle.utf8.proofs.Utf8Laws.{end_utf8}
+use Rattle.utf8.proofs.Boundaries.{utf8_part}
 use Rattle.scan.proofs.Every.{both}
 use Rattle.track.specs.Meaning.{is_span, is_optional, is_utf8}
 

@@ -13,7 +13,7 @@ use lib.ListN.{get_or, take}
 use lib.Dec.{eqb, leb, ltb}
 use borrow.Author.Tests.{eqb-true}
 use Rattle.scan.specs.Part.{string_at}
-use Rattle.unicode.specs.Utf8.{Utf8}
+use Rattle.utf8.specs.Utf8.{Utf8}
 use Rattle.scan.proofs.Every.{by-test, both}
 use Rattle.track.specs.declared.strings.Span.{Span}
 use Rattle.track.specs.declared.segments.Segment.{Segment}

@@ -7,7 +7,7 @@ use Rattle.std.proofs.Math.Dec.{eqb, leb, ltb}
 use Rattle.scan.specs.Part.{string_at}
 use Rattle.scan.specs.Bytes.{attr_name_byte}
 use Rattle.scan.specs.Every.{every}
-use Rattle.unicode.specs.Utf8.{boundary, utf8_end}
+use Rattle.utf8.specs.Utf8.{boundary, utf8_end}
 use Rattle.decimals.specs.Size.{is_size, is_spelling, spelled_bits}
 use Rattle.track.specs.declared.values.Extra.{Extra}
 use Rattle.track.specs.declared.values.Rows.{Rows}

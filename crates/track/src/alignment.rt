@@ -1,6 +1,6 @@
 // Text alignment.
 ghost use Rattle.std.specs.Prelude.{◌≡◌};
-ghost use Rattle.unicode.specs.White.{trimmed};
+ghost use Rattle.utf8.specs.White.{trimmed};
 ghost use Rattle.track.specs.Alignment.{align_word};
 
 use crate::values::Align;
@@ -28,7 +28,7 @@ fn align_word(word: &[u8]) -> Align
 pub fn parse_text_align(value: &[u8]) -> Align
     ensures { result ≡ align_word (trimmed value.now) }
 {
-    let span = unicode::trim(value);
+    let span = utf8::trim(value);
     let start = span.start;
     let end = span.end;
     align_word(&value[start..end])

@@ -48,7 +48,7 @@ fn within_limits(head: &[u32]) -> bool
 fn is_utf8(bytes: &[u8]) -> bool
     ensures { result ≡ is_utf8 bytes.now }
 {
-    unicode::utf8_end(bytes) == bytes.len()
+    utf8::utf8_end(bytes) == bytes.len()
 }
 
 fn refused(number: u32) -> Check

@@ -1,3 +1,4 @@
+#![tactic(auto)]
 // The track in lent tables.
 mod alignment;
 mod cells;

@@ -18,10 +18,10 @@ pub fn is_span(bytes: &[u8], place: usize, len: usize) -> bool
     if bytes.len() - place < len {
         return false;
     }
-    if !unicode::is_boundary(bytes, place) {
+    if !utf8::is_boundary(bytes, place) {
         return false;
     }
-    unicode::is_boundary(bytes, place + len)
+    utf8::is_boundary(bytes, place + len)
 }
 
 // The same of a string that may be absent.

@@ -6,7 +6,7 @@ use Rattle.scan.specs.Text.{ascii}
 use Rattle.scan.specs.Loop.{go, loop}
 use Rattle.scan.specs.Bytes.{blank, text_byte, name_byte, attr_name_byte, run_end_of}
 use Rattle.scan.specs.Marks.{starts_at, seek, past}
-use Rattle.unicode.specs.Utf8.{fits_at, first_fit, sequence_at, utf8_end}
+use Rattle.utf8.specs.Utf8.{fits_at, first_fit, sequence_at, utf8_end}
 use Rattle.tree.specs.Trees.{Attr, nil, text, section, elem, join}
 use Rattle.tree.specs.Read.{Out, got, bad, quote_byte, quoted, bare, value_at, attr_at, slash, attr_next, tag_turn, tag_from, start_at, past_comments}
 use Rattle.tree.specs.Read.{text_at, section_at, node_here, node_at_of, node_next, close_at, inner_turn, outer_turn, row_of, enclose, tagged, element_by}

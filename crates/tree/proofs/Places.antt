@@ -13,7 +13,7 @@ use borrow.Author.Tests.{ltb-true}
 use Rattle.scan.specs.Loop.{Next, halt, more, go, loop}
 use Rattle.scan.specs.Bytes.{blank, text_byte, name_byte, attr_name_byte, other, run_end_of}
 use Rattle.scan.specs.Marks.{starts_at, seek, past}
-use Rattle.unicode.specs.Utf8.{utf8_end}
+use Rattle.utf8.specs.Utf8.{utf8_end}
 use Rattle.tree.specs.Trees.{Attr, Forest, nil, text, section, elem, join, Span, attr_spans, spans, InOrder}
 use Rattle.tree.specs.Read.{
   Out,

@@ -7,7 +7,7 @@ use native.Mathlib.Nat.{sub-zero, zero-sub, suc-sub-suc, zero-add}
 use lib.ListN.{length, drop, replicate, length-replicate}
 use lib.Seq.{sets, sets-eq}
 use borrow.Author.Tests.{lt-ltb, le-ltb}
-use Rattle.unicode.specs.Utf8.{utf8_end}
+use Rattle.utf8.specs.Utf8.{utf8_end}
 use Rattle.tree.specs.Trees.{Forest, size, attrs_of, rows, attr_rows}
 use Rattle.tree.specs.Read.{Out, bad, top_of, prolog_end, meaning, answer_of, nodes_of, attr_cells}
 use Rattle.tree.specs.Posts.{Laid, Fits, TreeRead}

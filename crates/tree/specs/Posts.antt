@@ -3,7 +3,7 @@ use Rattle.std.specs.Prelude.{ℕ, ◌+◌, ◌*◌, ◌≤◌, ◌<◌, ◌≡�
 use Rattle.std.proofs.lemmas.List.Edits.{sets}
 use Rattle.scan.specs.Bytes.{blank, other, run_end_of}
 use Rattle.scan.specs.Marks.{starts_at}
-use Rattle.unicode.specs.Utf8.{utf8_end}
+use Rattle.utf8.specs.Utf8.{utf8_end}
 use Rattle.tree.specs.Trees.{Attr, Forest, size, attrs_of, rows, attr_row, attr_rows}
 use Rattle.tree.specs.Read.{Out, got, nothing, bad, AttrOut, attr, flaw, TagOut, opened, shut, torn, gt, skip, past_comments, meaning}
 use Rattle.tree.specs.Read.{comment_mark, answer_of, nodes_of, attr_cells}

@@ -6,7 +6,7 @@ use Rattle.scan.specs.Text.{ascii}
 use Rattle.scan.specs.Loop.{Next, halt, more, loop}
 use Rattle.scan.specs.Bytes.{blank, text_byte, name_byte, attr_name_byte, other, run_end_of}
 use Rattle.scan.specs.Marks.{starts_at, seek, past}
-use Rattle.unicode.specs.Utf8.{utf8_end}
+use Rattle.utf8.specs.Utf8.{utf8_end}
 use Rattle.tree.specs.Trees.{Attr, Forest, nil, text, section, elem, size, join, rows, attrs_of, attr_rows}
 use Rattle.tree.specs.declared.answers.Answer.{Answer}
 use Rattle.tree.specs.declared.answers.Answer.TheVariants.{Tree, Refused}

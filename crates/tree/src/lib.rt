@@ -1,3 +1,4 @@
+#![tactic(auto)]
 // The tree reader: a text read into two lent tables of numbers, rows in document order.
 mod answers;
 mod attrs;

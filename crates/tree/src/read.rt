@@ -37,7 +37,7 @@ fn test_limits(src: &[u8], nodes: usize, attrs: usize) -> Limits
             place: 0,
         });
     }
-    let valid = unicode::utf8_end(src);
+    let valid = utf8::utf8_end(src);
     if valid < src.len() {
         return Limits::Refused(Refusal {
             number: 3,

@@ -12,9 +12,9 @@ use lib.ListN.{length, take, replicate}
 use lib.Seq.{sets}
 use native.Mathlib.Nat.{sub-zero}
 use borrow.Author.Tests.{le-leb, leb-true, leb-false}
-use Rattle.unicode.specs.Utf8.{Utf8}
+use Rattle.utf8.specs.Utf8.{Utf8}
 use Rattle.scan.proofs.Every.{by-test}
-use Rattle.unicode.proofs.Utf8Laws.{utf8-end}
+use Rattle.utf8.proofs.Utf8Laws.{utf8-end}
 use Rattle.grammar.specs.Tree.{Forest}
 use Rattle.grammar.specs.Demand.{Derives}
 use Rattle.grammar.specs.Refusals.{Meets, too_deep, too_many_nodes, no_tag_name, too_many_attributes, slash, no_value, end_in_tag, open_close_tag}

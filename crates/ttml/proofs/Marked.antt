@@ -10,8 +10,8 @@ use Rattle.scan.specs.Loop.{go, loop}
 use Rattle.scan.specs.Names.{same_bytes_of}
 use Rattle.scan.specs.Marks.{starts_at}
 use Rattle.scan.specs.Bytes.{digit_byte, run_length_of}
-use Rattle.unicode.specs.Utf8.{sequence_at, char_at, scalar, encode}
-use Rattle.unicode.specs.White.{is_white, white_at, white_before, trimmed}
+use Rattle.utf8.specs.Utf8.{sequence_at, char_at, scalar, encode}
+use Rattle.utf8.specs.White.{is_white, white_at, white_before, trimmed}
 use Rattle.numerals.specs.Numerals.{numeral_of}
 use Rattle.numerals.specs.Written.{padded, decimal_width}
 use Rattle.decimals.specs.Decimal.{decimal_of}

@@ -17,8 +17,8 @@
 -- None of them asks anything of its caller.
 use Rattle.std.specs.Prelude.{ℕ, ◌-◌, ◌≤◌, ◌<◌, ◌≡◌, true, ◌↔◌, List, [], ◌∷◌, ◌++◌, length, take, replicate, Float}
 use Rattle.std.proofs.Math.Option.{none, some}
-use Rattle.unicode.specs.Utf8.{Utf8}
-use Rattle.unicode.specs.White.{trimmed, words}
+use Rattle.utf8.specs.Utf8.{Utf8}
+use Rattle.utf8.specs.White.{trimmed, words}
 use Rattle.entities.specs.Decode.{decoded}
 use Rattle.grammar.specs.Tree.{Forest}
 use Rattle.grammar.specs.Demand.{Derives, NoTwo, decode_forest}

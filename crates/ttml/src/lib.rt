@@ -1,3 +1,4 @@
+#![tactic(auto)]
 // The public calls, each with a C name.
 mod back;
 mod check;

@@ -1,3 +1,4 @@
+#![tactic(auto)]
 // A cue's text, row by row: what stands inside a wrapper has rows of its own, directly after it.
 ghost use Rattle.std.specs.Prelude.{◌≡◌, true, ◌+◌, ◌*◌, ◌≤◌, length};
 ghost use Rattle.scan.specs.Posts.{Wrote, WroteInPart};

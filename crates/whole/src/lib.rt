@@ -1,3 +1,4 @@
+#![tactic(auto)]
 // The track of a tree: what its first tt means.
 ghost use Rattle.std.specs.Prelude.{List, ℕ};
 ghost use Rattle.meaning.specs.Kinds.{with_places};

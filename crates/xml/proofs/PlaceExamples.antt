@@ -11,8 +11,8 @@ use Rattle.scan.specs.Loop.{go, loop}
 use Rattle.scan.specs.Bytes.{blank, text_byte, name_byte, attr_name_byte, run_end_of}
 use Rattle.scan.specs.Marks.{starts_at, seek, past}
 use Rattle.scan.specs.Names.{same_bytes_of}
-use Rattle.unicode.specs.Utf8.{fits_at, first_fit, sequence_at, utf8_end, encode, char_at}
-use Rattle.unicode.specs.White.{is_white}
+use Rattle.utf8.specs.Utf8.{fits_at, first_fit, sequence_at, utf8_end, encode, char_at}
+use Rattle.utf8.specs.White.{is_white}
 use Rattle.entities.specs.Reference as entities
 use Rattle.entities.specs.Reference.{starts_white, ends_name, name_length, lookup, reference}
 use Rattle.entities.specs.Decode.{decoded_from, decoded}

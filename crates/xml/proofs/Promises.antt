@@ -17,8 +17,8 @@ use lib.Dec.{ltb}
 use borrow.Author.Tests.{ltb-true, ltb-false}
 use Rattle.scan.specs.Part.{string_at}
 use Rattle.scan.proofs.Stores.{sets_other}
-use Rattle.unicode.specs.Utf8.{utf8_end}
-use Rattle.unicode.proofs.Utf8Laws.{end_within, end_valid, end_longest, utf8-end, end_utf8}
+use Rattle.utf8.specs.Utf8.{utf8_end}
+use Rattle.utf8.proofs.Utf8Laws.{end_within, end_valid, end_longest, utf8-end, end_utf8}
 use Rattle.entities.specs.Decode.{decoded}
 use Rattle.grammar.specs.Tree.{Forest}
 use Rattle.grammar.specs.Limits as count

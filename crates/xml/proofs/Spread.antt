@@ -14,10 +14,10 @@ use lib.ListN.{length, get_or, take, replicate, length-append, length-replicate,
 use lib.Seq.{sets, sets-eq, take_at, drop_at, get_or-append-add}
 use lib.Dec.{ltb}
 use borrow.Author.Tests.{ltb-true, ltb-false}
-use Rattle.unicode.specs.Utf8.{Utf8, empty, sequence, boundary, ◌to◌}
+use Rattle.utf8.specs.Utf8.{Utf8, empty, sequence, boundary, ◌to◌}
 use Rattle.scan.proofs.Every.{by-test}
-use Rattle.unicode.proofs.Utf8Laws.{in_range, no_row, utf8_append, utf8_ascii}
-use Rattle.unicode.proofs.Boundaries.{boundary_start, boundary_end, boundary-below, boundary-above}
+use Rattle.utf8.proofs.Utf8Laws.{in_range, no_row, utf8_append, utf8_ascii}
+use Rattle.utf8.proofs.Boundaries.{boundary_start, boundary_end, boundary-below, boundary-above}
 use Rattle.xml.specs.Reading.{Placed, lay}
 use Rattle.xml.proofs.Lays.{Ordered, ordered_whole}
 

@@ -19,7 +19,7 @@ use Rattle.tree.specs.Trees.{spans, InOrder}
 use Rattle.tree.specs.Read.{Out, got, nothing, bad, meaning, answer_of}
 use Rattle.tree.specs.declared.answers.Answer.TheVariants.{Tree, Refused}
 use Rattle.tree.specs.declared.answers.Refusal.{Refusal}
-use Rattle.unicode.specs.Utf8.{utf8_end}
+use Rattle.utf8.specs.Utf8.{utf8_end}
 use Rattle.tree.specs.Posts.{Fits}
 use Rattle.tree.proofs.Places.{meaning-placed}
 use Rattle.tree.proofs.Whole as whole

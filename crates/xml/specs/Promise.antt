@@ -1,7 +1,7 @@
 -- What `parse_xml` promises, in the words of document 01: of the text, the tables that are lent and what is left in them, and the answer.
 -- Definitions alone. Nothing here says how the program reads.
 use Rattle.std.specs.Prelude.{ℕ, ◌+◌, ◌-◌, ◌≤◌, ◌<◌, ◌≡◌, ◌⊎◌, ◌↔◌, List, [], ◌∷◌, ◌++◌, length, get_or, take, replicate}
-use Rattle.unicode.specs.Utf8.{Utf8}
+use Rattle.utf8.specs.Utf8.{Utf8}
 use Rattle.entities.specs.Decode.{decoded}
 use Rattle.grammar.specs.Tree.{Forest}
 use Rattle.grammar.specs.Limits as count

@@ -1,3 +1,4 @@
+#![tactic(auto)]
 // A text as a tree with its entities read, in lent tables; and what is asked of such tables.
 mod find;
 mod read;

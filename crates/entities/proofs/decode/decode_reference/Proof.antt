@@ -1,7 +1,7 @@
 -- `decode_reference` meets its contract: a reference's character, which is shorter than the reference, or the `&` itself.
 use mathlib.Core.Path.{refl}
 use native.Mathlib.Omega.{arith}
-use Rattle.unicode.proofs.Utf8Laws.{encode-short}
+use Rattle.utf8.proofs.Utf8Laws.{encode-short}
 use Rattle.entities.proofs.Decoding.{stepped_to, stepped_literal}
 use borrow.Author.Rules.{rules}
 use Rattle.entities.proofs.decode.decode_reference.Statement.{statement}

@@ -1,7 +1,7 @@
 -- `char_of` meets its contract: a scalar value, which 32 bits hold, or none.
 use mathlib.Core.Path.{sym, ◌∙◌}
 use native.Mathlib.Omega.{arith}
-use Rattle.unicode.proofs.Utf8Laws.{scalar-small}
+use Rattle.utf8.proofs.Utf8Laws.{scalar-small}
 use Rattle.entities.proofs.References.{character-is, character-none}
 use borrow.Author.Rules.{rules}
 use Rattle.entities.proofs.reference.char_of.Statement.{statement}

@@ -42,7 +42,7 @@ use Rattle.styles.proofs.apply.own_style.Reads as own-style-reads
 use Rattle.styles.proofs.ids.add_id.Reads as add-id-reads
 use Rattle.styles.proofs.ids.hash.Reads as hash-reads
 use Rattle.styles.proofs.ids.is_visited.Reads as is-visited-reads
-use Rattle.unicode.proofs.next_word.Reads as next-word-reads
+use Rattle.utf8.proofs.next_word.Reads as next-word-reads
 use Rattle.styles.proofs.apply.+apply_style_ref.{statement}
 use Rattle.styles.proofs.apply.+apply_style_ref.Tie.{close}
 

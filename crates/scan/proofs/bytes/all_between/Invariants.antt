@@ -1,0 +1,20 @@
+-- `all_between` meets its contract. The loop's invariant: where `all` is true, each byte passed is between the two. The measure is what is left of
+-- the 16.
+use Prim.Native.Nat.{ℕ, ◌+◌, ◌-◌, ◌≤◌}
+use mathlib.Core.Path.{◌≡◌, sym, ◌∙◌}
+use mathlib.Core.Bool.{true, true≢false, ◌&&◌}
+use mathlib.Core.List.{List}
+use mathlib.Core.Logic.{⊎_elim}
+use native.Mathlib.Omega.{arith}
+use borrow.Author.Tests.{not-false}
+use borrow.Author.Rules.{rules}
+use lib.Dec.{leb}
+use Rattle.scan.specs.Posts.{Passes}
+use Rattle.scan.proofs.Runs.{passes-more}
+use Rattle.scan.proofs.bytes.all_between.Given as goal
+
+abbrev pub invariant-loop-k : goal.invariant-loop-k
+invariant-loop-k l = (l.k ≤ 16) × (l.all ≡ true → Passes (λ b. leb l.low b && leb b l.high) l.src l.pos (l.pos + l.k))
+
+abbrev pub decreases-loop-k : goal.decreases-loop-k
+decreases-loop-k l = 16 - l.k

@@ -1,0 +1,12 @@
+-- `find_each` meets its contract. The loop's invariant: the run from `pos` ends where the run from `i` does. The measure is what is left of the text.
+use Prim.Native.Nat.{◌-◌, ◌≤◌}
+use mathlib.Core.Path.{◌≡◌}
+use lib.ListN.{length}
+use Rattle.scan.specs.Bytes.{other, run_end_of}
+use Rattle.scan.proofs.bytes.find_each.Given as goal
+
+abbrev pub invariant-loop-i : goal.invariant-loop-i
+invariant-loop-i l = (l.i ≤ length l.src) × (l.pos ≤ l.i) × (run_end_of (other l.b) l.src l.pos ≡ run_end_of (other l.b) l.src l.i)
+
+abbrev pub decreases-loop-i : goal.decreases-loop-i
+decreases-loop-i l = length l.src - l.i

@@ -1,0 +1,12 @@
+-- `is_between` meets its contract.
+use native.Mathlib.Omega.{arith}
+use borrow.Author.Tests.{lt-leb, le-leb}
+use Rattle.scan.proofs.bytes.is_between.Goals as goal
+
+pub returns-then-b-low : goal.returns-then-b-low
+returns-then-b-low c =
+    rw (lt-leb c.args.low c.args.b c.if-b-low.true)
+
+pub returns : goal.returns
+returns c =
+    rw (le-leb c.args.low c.args.b (omega arith))

@@ -1,0 +1,16 @@
+-- `over_each` meets its contract. The loop's invariant: the run from `pos` ends where the run from `i` does. The measure is what is left of the text.
+use Prim.Native.Nat.{◌-◌, ◌≤◌}
+use mathlib.Core.Path.{◌≡◌, refl, sym, ◌∙◌}
+use native.Mathlib.Omega.{arith}
+use borrow.Author.Rules.{rules}
+use borrow.Author.Tests.{not-true, not-false}
+use lib.ListN.{length}
+use Rattle.scan.specs.Bytes.{member, run_end_of}
+use Rattle.scan.proofs.Runs.{run_on, ends-here, ends-out}
+use Rattle.scan.proofs.bytes.over_each.Given as goal
+
+abbrev pub invariant-loop-i : goal.invariant-loop-i
+invariant-loop-i l = (l.i ≤ length l.src) × (l.pos ≤ l.i) × (run_end_of (member l.class) l.src l.pos ≡ run_end_of (member l.class) l.src l.i)
+
+abbrev pub decreases-loop-i : goal.decreases-loop-i
+decreases-loop-i l = length l.src - l.i

@@ -1,0 +1,17 @@
+-- `clear_f32` meets its contract. The loop's invariant: the first `i` cells are 0, the others as they were. The measure is what is left of the table.
+use Prim.Native.Nat.{◌-◌}
+use mathlib.Core.Bool.{false}
+use lib.ListN.{length}
+use lib.IntN.{pos}
+use lib.Ieee.{Float, fin}
+use Rattle.scan.proofs.Stores.{Cleared}
+use Rattle.scan.proofs.table.clear_f32.Given as goal
+
+abbrev pub zero : Float
+zero = fin false 0 (pos 0)
+
+abbrev pub invariant-loop-i : goal.invariant-loop-i
+invariant-loop-i l = Cleared zero l.initial.cells l.i l.cells
+
+abbrev pub decreases-loop-i : goal.decreases-loop-i
+decreases-loop-i l = length l.initial.cells - l.i
