@@ -3,7 +3,7 @@
 --     distinct_at, apart_at                 a test over a list of names, at each entry
 --     number-back, number-there, number-nowhere   what a number says of the name, and the name of the number
 --     in_there, in_back                     the same of bytes that are looked for
-use Prim.Native.Nat.{ℕ, zero, suc, ◌+◌, ◌≤◌, ◌<◌}
+use Prim.Native.Nat.{ℕ, zero, suc, ◌+◌, ◌<◌}
 use mathlib.Core.Path.{◌≡◌, refl, sym, ap, ◌∙◌}
 use mathlib.Core.Bool.{Bool, true, false, not, ◌&&◌, ◌||◌, false≢true, true≢false}
 use mathlib.Core.List.{List, [], ◌∷◌, ◌++◌}

@@ -20,7 +20,7 @@ use Rattle.names.specs.declared.lookup.Number.{Number}
 use Rattle.names.specs.Lists.{names, name_of}
 use Rattle.names.specs.Numbers.{name_number}
 use Rattle.names.specs.Steps.{slot_of, slots, is_initial, can_begin}
-use Rattle.names.proofs.Entries.{both, every, every-at, at_eq}
+use Rattle.names.proofs.Entries.{both, every, every-at}
 use Rattle.names.proofs.NameLaws.{number-name, folded_number}
 
 -- ---- the case of letters does not count

@@ -1,0 +1,35 @@
+use Prim.Native.Nat.{◌-◌}
+use native.Mathlib.Omega.{arith}
+use lib.ListN.{length}
+use borrow.Author.Rules.{rules}
+use Rattle.tree.specs.Read.{outer_turn, element_of}
+use Rattle.tree.proofs.Going.{Going, start, out, fail_node, idle, step, outer_node}
+use Rattle.tree.proofs.read.parse_top.Goals as goal
+
+pub loop-pos-init : goal.loop-pos-init
+loop-pos-init c =
+    start _ _ _ _ _ _ _ c.requires
+
+pub loop-pos-smaller : goal.loop-pos-smaller
+loop-pos-smaller c =
+    let l = rw c.in-Node.is at c.parse_node.ensures in
+    omega (arith, l.after, c.loop-pos-test.true)
+
+pub loop-pos-preserved : goal.loop-pos-preserved
+loop-pos-preserved c =
+    step c.loop-pos.invariant _ c.loop-pos-test.true (outer_node c.args.src.now _ c.loop-pos.pos _) _
+    (rw c.in-Node.is at c.parse_node.ensures)
+
+pub returns-in-Nothing : goal.returns-in-Nothing
+returns-in-Nothing c =
+    idle c.loop-pos.invariant _ c.loop-pos-test.true (outer_node c.args.src.now _ c.loop-pos.pos _) _
+    (rw c.in-Nothing.is at c.parse_node.ensures)
+
+pub returns-in-Refused : goal.returns-in-Refused
+returns-in-Refused c =
+    fail_node c.loop-pos.invariant _ c.loop-pos-test.true (outer_node c.args.src.now _ c.loop-pos.pos _) _ _
+    (rw c.in-Refused.is at c.parse_node.ensures)
+
+pub returns : goal.returns
+returns c =
+    out c.loop-pos.invariant c.loop-pos-test.false
