@@ -6,8 +6,6 @@ pub mod Forests
 pub mod NodeLaws
 pub mod Comments
 pub mod Going
-pub mod Held
-pub mod Pairs
 pub mod Whole
 pub mod Places
 pub mod Walks

@@ -1,39 +1,26 @@
-use Prim.Native.Nat.{◌+◌, ◌-◌, ◌≤◌}
-use mathlib.Core.Path.{◌≡◌, sym, ◌∙◌}
-use native.Mathlib.Omega.{arith}
-use lib.ListN.{length}
-use Rattle.scan.specs.Marks.{seek}
+use Rattle.std.proofs.Common.{ℕ, List, ◌+◌, ◌≤◌, ◌<◌, ◌≡◌, sym, ◌∙◌, false, length, arith}
+use Rattle.scan.specs.Marks.{starts_at, seek}
 use Rattle.scan.proofs.Splits.{whole_part}
 use Rattle.tree.specs.Read.{comment_end}
 use Rattle.tree.proofs.Comments.{end_start, end_on, end_got, end_passed}
-use borrow.Author.Rules.{rules}
 use Rattle.tree.proofs.nodes.comment_end.Goals as goal
-use Rattle.tree.proofs.nodes.comment_end.Goals.{Else-closes, Else-closes-2, Else-closes-3, Else-closes-4}
 
--- where c.args test of the turn fails the search goes on
-one : (c : Else-closes)
-    → seek comment_end c.args.src.now c.args.pos ≡ seek comment_end c.args.src.now (c.loop-i.i + 1)
-one c =
-    end_on c.args.src.now c.args.pos c.loop-i.i c.loop-i.invariant.2 (c.loop-i.i + 1) (omega arith)
-    (sym c.closes.ensures ∙ c.if-closes.false) (omega arith)
+-- where each test of the turn fails the search goes on
+module _ (s : List ℕ) (p i : ℕ) (w : seek comment_end s p ≡ seek comment_end s i) where
+  one : i < length s → starts_at s i comment_end ≡ false → seek comment_end s p ≡ seek comment_end s (i + 1)
+  one h e = end_on s p i w (i + 1) h e (omega arith)
 
-two : (c : Else-closes-2)
-    → seek comment_end c.args.src.now c.args.pos ≡ seek comment_end c.args.src.now (c.loop-i.i + 2)
-two c =
-    end_on c.args.src.now c.args.pos (c.loop-i.i + 1) (one c) (c.loop-i.i + 2) (omega arith)
-    (sym c.closes-in-loop-i.ensures ∙ c.if-closes-2.false) (omega arith)
+  two : i + 1 < length s → starts_at s i comment_end ≡ false → starts_at s (i + 1) comment_end ≡ false
+      → seek comment_end s p ≡ seek comment_end s (i + 2)
+  two h e f = end_on s p (i + 1) (one (omega arith) e) (i + 2) h f (omega arith)
 
-three : (c : Else-closes-3)
-    → seek comment_end c.args.src.now c.args.pos ≡ seek comment_end c.args.src.now (c.loop-i.i + 3)
-three c =
-    end_on c.args.src.now c.args.pos (c.loop-i.i + 2) (two c) (c.loop-i.i + 3) (omega arith)
-    (sym c.closes-in-loop-i-2.ensures ∙ c.if-closes-3.false) (omega arith)
+  three : i + 2 < length s → starts_at s i comment_end ≡ false → starts_at s (i + 1) comment_end ≡ false → starts_at s (i + 2) comment_end ≡ false
+      → seek comment_end s p ≡ seek comment_end s (i + 3)
+  three h e f g = end_on s p (i + 2) (two (omega arith) e f) (i + 3) h g (omega arith)
 
-four : (c : Else-closes-4)
-    → seek comment_end c.args.src.now c.args.pos ≡ seek comment_end c.args.src.now (c.loop-i.i + 4)
-four c =
-    end_on c.args.src.now c.args.pos (c.loop-i.i + 3) (three c) (c.loop-i.i + 4) (omega arith)
-    (sym c.closes-in-loop-i-3.ensures ∙ c.if-closes-4.false) (omega arith)
+  four : i + 3 < length s → starts_at s i comment_end ≡ false → starts_at s (i + 1) comment_end ≡ false → starts_at s (i + 2) comment_end ≡ false
+      → starts_at s (i + 3) comment_end ≡ false → seek comment_end s p ≡ seek comment_end s (i + 4)
+  four h e f g d = end_on s p (i + 3) (three (omega arith) e f g) (i + 4) h d (omega arith)
 
 pub returns-then-src-pos-lt23 : goal.returns-then-src-pos-lt23
 returns-then-src-pos-lt23 c =
@@ -50,22 +37,22 @@ returns-then-closes c =
 
 pub returns-then-closes-2 : goal.returns-then-closes-2
 returns-then-closes-2 c =
-    end_got c.args.src.now c.args.pos (c.loop-i.i + 1) (one (goal.at.returns-then-closes-2 c).Else-closes) _ (omega arith) (omega arith)
+    end_got c.args.src.now c.args.pos (c.loop-i.i + 1) (one c.args.src.now c.args.pos c.loop-i.i c.loop-i.invariant.2 (omega arith) (sym c.closes.ensures ∙ c.if-closes.false)) _ (omega arith) (omega arith)
     (sym c.closes-in-loop-i.ensures ∙ c.if-closes-2.true) (omega arith)
 
 pub returns-then-closes-3 : goal.returns-then-closes-3
 returns-then-closes-3 c =
-    end_got c.args.src.now c.args.pos (c.loop-i.i + 2) (two (goal.at.returns-then-closes-3 c).Else-closes-2) _ (omega arith) (omega arith)
+    end_got c.args.src.now c.args.pos (c.loop-i.i + 2) (two c.args.src.now c.args.pos c.loop-i.i c.loop-i.invariant.2 (omega arith) (sym c.closes.ensures ∙ c.if-closes.false) (sym c.closes-in-loop-i.ensures ∙ c.if-closes-2.false)) _ (omega arith) (omega arith)
     (sym c.closes-in-loop-i-2.ensures ∙ c.if-closes-3.true) (omega arith)
 
 pub returns-then-closes-4 : goal.returns-then-closes-4
 returns-then-closes-4 c =
-    end_got c.args.src.now c.args.pos (c.loop-i.i + 3) (three (goal.at.returns-then-closes-4 c).Else-closes-3) _ (omega arith) (omega arith)
+    end_got c.args.src.now c.args.pos (c.loop-i.i + 3) (three c.args.src.now c.args.pos c.loop-i.i c.loop-i.invariant.2 (omega arith) (sym c.closes.ensures ∙ c.if-closes.false) (sym c.closes-in-loop-i.ensures ∙ c.if-closes-2.false) (sym c.closes-in-loop-i-2.ensures ∙ c.if-closes-3.false)) _ (omega arith) (omega arith)
     (sym c.closes-in-loop-i-3.ensures ∙ c.if-closes-4.true) (omega arith)
 
 pub loop-i-preserved : goal.loop-i-preserved
 loop-i-preserved c =
-    (omega arith, omega arith, four (goal.at.loop-i-preserved c).Else-closes-4)
+    (omega arith, omega arith, four c.args.src.now c.args.pos c.loop-i.i c.loop-i.invariant.2 (omega arith) (sym c.closes.ensures ∙ c.if-closes.false) (sym c.closes-in-loop-i.ensures ∙ c.if-closes-2.false) (sym c.closes-in-loop-i-2.ensures ∙ c.if-closes-3.false) (sym c.closes-in-loop-i-3.ensures ∙ c.if-closes-4.false))
 
 pub returns : goal.returns
 returns c =

@@ -1,0 +1,14 @@
+-- `parser::starts_with` meets its contract. Assumes nothing.
+use Rattle.std.proofs.Common.{◌∙◌}
+use borrow.Author.Tests.{eq-eqb, ne_eqb}
+use Rattle.tree.proofs.PrologLaws.{pair_on, pair_off}
+use Rattle.tree.proofs.parser.starts_with.Goals as goal
+
+pub returns-then-peek-first : goal.returns-then-peek-first
+returns-then-peek-first c =
+    pair_off c.args.p.src.now c.args.p.pos c.args.first c.args.second c.peek.result c.peek.ensures (rw (ne_eqb c.peek.result c.args.first c.if-peek-first.true) tt)
+
+pub returns : goal.returns
+returns c =
+    c.follows.ensures
+    ∙ pair_on c.args.p.src.now c.args.p.pos c.args.first c.args.second c.peek.result c.peek.ensures (rw (eq-eqb c.peek.result c.args.first c.if-peek-first.false) tt)
