@@ -5,7 +5,6 @@ use mathlib.Core.List.{List}
 use Prim.Native.Nat.{ℕ, ◌+◌}
 use mathlib.Core.Bool.{true, false, true≢false}
 use native.Mathlib.Omega.{arith}
-use borrow.Author.Rules.{rules}
 use Rattle.numerals.specs.Numerals.{signed_by_of, unsigned_of}
 use Rattle.numerals.proofs.Numerals.{after-sign, numeral_none, numeral_plus, numeral_minus, numeral_bare}
 use Rattle.numerals.proofs.read_numeral.Goals as goal
@@ -27,7 +26,6 @@ returns-then-sign-eq45 c =
     ∙ (ap (signed_by_of true) (c.read_unsigned-then-sign-eq45.ensures
     ∙ ap (λ (l : List ℕ). unsigned_of l c.args.radix (c.args.most + 1)) (after-sign c.args.text.now))
     ∙ sym (numeral_minus c.args.radix c.args.most c.args.text.now c.args.minus (omega arith) c.if-minus.true c.if-sign-eq45.true))
-
 
 pub returns : goal.returns
 returns c =
