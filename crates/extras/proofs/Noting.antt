@@ -62,7 +62,7 @@ unfolding valued attribute first_that attrs_in
 first-valued u z k n l y name =
     let a : Attr = y.head in
     rw (y.is, y.cells.name_is, y.cells.name_len_is, y.cells.value-is, y.cells.value-len_is)
-    (by-test (same_folded (string_at z a.name a.name_len_lem) name) (λ e. rw e) (λ e. rw e))
+    (by-test (same_folded (string_at z a.name a.name_len) name) (λ e. rw e) (λ e. rw e))
 
 -- the entry of a name before and after
 module _ (list : Listed) (u z rows : List ℕ) (k : ℕ) (w : Option Placed) (i : ℕ) (h : i < length (names list)) where

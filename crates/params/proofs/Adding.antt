@@ -40,7 +40,7 @@ unfolding params_of only is_param param_of each attrs_in
 first-params u z k n l y =
     let a : Attr = y.head in
     rw (y.is, y.cells.name_is, y.cells.name_len_is, y.cells.value-is, y.cells.value-len_is)
-    (by-test (is_param_name (string_at z a.name a.name_len_lem)) (λ e. rw e) (λ e. rw e))
+    (by-test (is_param_name (string_at z a.name a.name_len)) (λ e. rw e) (λ e. rw e))
 
 -- ---- rows
 cells-append : (a b : List (Param Placed)) → placed_params (a ++ b) ≡ placed_params a ++ placed_params b

@@ -53,12 +53,12 @@ module _ (p : List ℕ → Bool) {u z : List ℕ} {k e : ℕ} {l : List Attr} (x
       let i = row-cells u k f in
       let y : Head u z k (e - k) x.attrs = rest-first x b in
       let a : Attr = y.head in
-      let v : p (string_at z a.name a.name_len_lem) ≡ true = rw (y.cells.name_is, y.cells.name_len_is) at w in
+      let v : p (string_at z a.name a.name_len) ≡ true = rw (y.cells.name_is, y.cells.name_len_is) at w in
       let c : h.at ≡ a.name = i.0 ∙ y.cells.name_is in
       let q : h.place ≡ a.value = i.1 ∙ y.cells.value-is in
-      let r : h.len ≡ a.value_len_lem = i.2 ∙ y.cells.value-len_is in
+      let r : h.len ≡ a.value_len = i.2 ∙ y.cells.value-len_is in
       record {
-        full = record { place = a.name; bytes = string_at z a.name a.name_len_lem };
+        full = record { place = a.name; bytes = string_at z a.name a.name_len };
         is-first = x.is ∙ (ap (sought p z) y.is ∙ rw (v, c, q, r));
         within = rw (q, r) y.value-fits;
       }
@@ -68,7 +68,7 @@ module _ (p : List ℕ → Bool) {u z : List ℕ} {k e : ℕ} {l : List Attr} (x
   sought_next b w =
       let y : Head u z k (e - k) x.attrs = rest-first x b in
       let a : Attr = y.head in
-      let v : p (string_at z a.name a.name_len_lem) ≡ false = rw (y.cells.name_is, y.cells.name_len_is) at w in
+      let v : p (string_at z a.name a.name_len) ≡ false = rw (y.cells.name_is, y.cells.name_len_is) at w in
       rest-on x b (rw v)
 
   pub sought_nowhere : e ≤ k → NoneBy p (attrs_in z l)

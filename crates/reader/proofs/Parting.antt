@@ -39,11 +39,11 @@ module _ (z : List ℕ) (m : ℕ) (fits : m ≤ length z) where
   unfolding attr_spans attrs_in
   attrs-part [] lo i = refl
   attrs-part (x ∷ l) lo i =
-      let v : x.value + x.value_len_lem ≤ m = in_whole (attr_spans l) (x.value + x.value_len_lem) m i.1.1 in
+      let v : x.value + x.value_len ≤ m = in_whole (attr_spans l) (x.value + x.value_len) m i.1.1 in
       rw (
-        same x.name x.name_len_lem (omega (arith, i.1.0)),
-        same x.value x.value_len_lem v,
-        attrs-part l (x.value + x.value_len_lem) i.1.1,
+        same x.name x.name_len (omega (arith, i.1.0)),
+        same x.value x.value_len v,
+        attrs-part l (x.value + x.value_len) i.1.1,
       )
 
   pub nodes-part : (f : placed.Forest) (lo : ℕ) → InOrder lo (spans f) m → nodes_in (take m z) f ≡ nodes_in z f

@@ -30,17 +30,17 @@ module _ (s : List ℕ) (p e q v : ℕ) (h : Ends blank s (q + 1) v) where
   value_none l = rw (← h.is, le-ltb v (length s) l)
 
   pub value-bare : (z r : ℕ) → v < length s → quote_byte (get_or s v 0) ≡ false → Ends name_byte s v z → Ends blank s z r
-      → value_at s p e q ≡ attr (record { name = p; name_len_lem = e - p; value = v; value_len_lem = z - v }) r
+      → value_at s p e q ≡ attr (record { name = p; name_len = e - p; value = v; value_len = z - v }) r
   unfolding value_at bare
   value-bare z r l c w x = rw (← h.is, lt-ltb v (length s) l, c, ← w.is, ← x.is)
 
   module _ (z : ℕ) (l : v < length s) (c : quote_byte (get_or s v 0) ≡ true) (w : Ends (other (get_or s v 0)) s (v + 1) z) where
     pub value-quoted : (r : ℕ) → z < length s → Ends blank s (z + 1) r
-        → value_at s p e q ≡ attr (record { name = p; name_len_lem = e - p; value = v + 1; value_len_lem = z - (v + 1) }) r
+        → value_at s p e q ≡ attr (record { name = p; name_len = e - p; value = v + 1; value_len = z - (v + 1) }) r
     unfolding value_at quoted
     value-quoted r g x = rw (← h.is, lt-ltb v (length s) l, c, ← w.is, lt-ltb z (length s) g, ← x.is)
 
-    pub value-unclosed : length s ≤ z → value_at s p e q ≡ attr (record { name = p; name_len_lem = e - p; value = v + 1; value_len_lem = z - (v + 1) }) z
+    pub value-unclosed : length s ≤ z → value_at s p e q ≡ attr (record { name = p; name_len = e - p; value = v + 1; value_len = z - (v + 1) }) z
     unfolding value_at quoted
     value-unclosed g = rw (← h.is, lt-ltb v (length s) l, c, ← w.is, le-ltb z (length s) g)
 
@@ -50,7 +50,7 @@ module _ (s : List ℕ) (p e q : ℕ) (h : Ends attr_name_byte s p e) (g : Ends 
   unfolding attr_at
   attr-value c = rw (← h.is, ← g.is, c)
 
-  pub attr-bare : starts_at s q equals ≡ false → attr_at s p ≡ attr (record { name = p; name_len_lem = e - p; value = e; value_len_lem = 0 }) q
+  pub attr-bare : starts_at s q equals ≡ false → attr_at s p ≡ attr (record { name = p; name_len = e - p; value = e; value_len = 0 }) q
   unfolding attr_at
   attr-bare c = rw (← h.is, ← g.is, c)
 

@@ -196,7 +196,7 @@ AttrIn lo s (attr y q) = (q ≤ length s) × InOrder lo (attr_spans (y ∷ [])) 
 AttrIn lo s (flaw n q) = Unit {0}
 
 attr-leaf : (s : List ℕ) (p e v m r : ℕ) → p ≤ e → e ≤ v → v + m ≤ r → r ≤ length s → AttrIn p s
-    (attr (record { name = p; name_len_lem = e - p; value = v; value_len_lem = m }) r)
+    (attr (record { name = p; name_len = e - p; value = v; value_len = m }) r)
 unfolding AttrIn attr_spans
 attr-leaf s p e v m r a b c d = (d, (omega arith, (omega arith, c)))
 

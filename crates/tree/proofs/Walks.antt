@@ -22,7 +22,7 @@ use Rattle.tree.proofs.Places.{in_whole, in_first, in_rest, meaning-placed}
 -- every attribute's name and value lie within the bound
 abbrev Within : ℕ → List Attr → Type 0
 Within hi [] = Unit {0}
-Within hi (x ∷ l) = (x.name + x.name_len_lem ≤ hi) × (x.value + x.value_len_lem ≤ hi) × Within hi l
+Within hi (x ∷ l) = (x.name + x.name_len ≤ hi) × (x.value + x.value_len ≤ hi) × Within hi l
 
 within-append : (hi : ℕ) (a b : List Attr) → Within hi a → Within hi b → Within hi (a ++ b)
 within-append hi [] b h g = g
@@ -32,8 +32,8 @@ within-tag : (l : List Attr) (lo hi : ℕ) → InOrder lo (attr_spans l) hi → 
 unfolding attr_spans
 within-tag [] lo hi i = tt
 within-tag (x ∷ l) lo hi i =
-    let v : x.value + x.value_len_lem ≤ hi = in_whole (attr_spans l) (x.value + x.value_len_lem) hi i.1.1 in
-    (omega (arith, i.1.0), v, within-tag l (x.value + x.value_len_lem) hi i.1.1)
+    let v : x.value + x.value_len ≤ hi = in_whole (attr_spans l) (x.value + x.value_len) hi i.1.1 in
+    (omega (arith, i.1.0), v, within-tag l (x.value + x.value_len) hi i.1.1)
 
 within : (f : Forest) (lo hi : ℕ) → InOrder lo (spans f) hi → Within hi (attrs_of f)
 unfolding spans attrs_of
@@ -46,15 +46,15 @@ within (elem p n l c f) lo hi i =
     (within-append hi (attrs_of c) (attrs_of f) (within c (p + 1 + n) hi (in_first (spans c) (spans f) (p + 1 + n) hi r))
     (within f (p + 1 + n) hi (in_rest (spans c) (spans f) (p + 1 + n) hi r)))
 
-within-at : (none : Attr) (hi : ℕ) (l : List Attr) (j : ℕ) → Within hi l → j < length l → ((get_or l j none).name + (get_or l j none).name_len_lem ≤ hi)
-    × ((get_or l j none).value + (get_or l j none).value_len_lem ≤ hi)
+within-at : (none : Attr) (hi : ℕ) (l : List Attr) (j : ℕ) → Within hi l → j < length l → ((get_or l j none).name + (get_or l j none).name_len ≤ hi)
+    × ((get_or l j none).value + (get_or l j none).value_len ≤ hi)
 within-at none hi [] j h g = absurd (omega arith)
 within-at none hi (x ∷ l) zero h g = (h.0, h.1)
 within-at none hi (x ∷ l) (suc j) h g = within-at none hi l j h.2 (omega arith)
 
 pub attr-fits : (none : Attr) (f : Forest) (lo hi j : ℕ) → InOrder lo (spans f) hi → j < length (attrs_of f)
-    → ((get_or (attrs_of f) j none).name + (get_or (attrs_of f) j none).name_len_lem ≤ hi)
-    × ((get_or (attrs_of f) j none).value + (get_or (attrs_of f) j none).value_len_lem ≤ hi)
+    → ((get_or (attrs_of f) j none).name + (get_or (attrs_of f) j none).name_len ≤ hi)
+    × ((get_or (attrs_of f) j none).value + (get_or (attrs_of f) j none).value_len ≤ hi)
 attr-fits none f lo hi j i h = within-at none hi (attrs_of f) j (within f lo hi i) h
 
 -- ---- the table of nodes that the reader leaves
@@ -174,12 +174,12 @@ room t i a f x h =
 pub on_attr : (u : List ℕ) (j : ℕ) (x : Attr) (l : List Attr) → Listed u j (x ∷ l) → AttrIs u j x × Listed u (j + 1) l
 unfolding attr_rows attr_row
 on_attr u j x l y = (
-  record { name_is = cell-0; name_len_is = cell 1 x.name_len_lem refl; value-is = cell 2 x.value refl; value-len_is = cell 3 x.value_len_lem refl },
+  record { name_is = cell-0; name_len_is = cell 1 x.name_len refl; value-is = cell 2 x.value refl; value-len_is = cell 3 x.value_len refl },
   record { tail = y.tail; is = let z : (j + 1) * 4 ≡ j * 4 + 4 = omega arith in rw (z, ← (drop-drop 4 (j * 4) u), y.is) },
 )
   where
     r : List ℕ
-    r = x.name ∷ x.name_len_lem ∷ x.value ∷ x.value_len_lem ∷ (attr_rows l ++ y.tail)
+    r = x.name ∷ x.name_len ∷ x.value ∷ x.value_len ∷ (attr_rows l ++ y.tail)
 
     cell : (k v : ℕ) → get_or r k 0 ≡ v → get_or u (j * 4 + k) 0 ≡ v
     cell k v w = sym (get_or-drop (j * 4) u k 0) ∙ (ap (λ (z : List ℕ). get_or z k 0) y.is ∙ w)

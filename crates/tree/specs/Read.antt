@@ -65,14 +65,14 @@ pub data AttrOut : Type 0 where
 unfoldable pub quoted : List ℕ → ℕ → ℕ → ℕ → ℕ → AttrOut
 quoted s p e c v =
     let z = run_end_of (other c) s (v + 1) in
-    attr (record { name = p; name_len_lem = e - p; value = v + 1; value_len_lem = z - (v + 1) })
+    attr (record { name = p; name_len = e - p; value = v + 1; value_len = z - (v + 1) })
     (cond (ltb z (length s)) (skip s (z + 1)) z)
 
 -- "Any other is a longest run without blank, `>` or `/`"
 unfoldable pub bare : List ℕ → ℕ → ℕ → ℕ → AttrOut
 bare s p e v =
     let z = run_end_of name_byte s v in
-    attr (record { name = p; name_len_lem = e - p; value = v; value_len_lem = z - v }) (skip s z)
+    attr (record { name = p; name_len = e - p; value = v; value_len = z - v }) (skip s z)
 
 -- after the `=` at q of an attribute at p whose name ends at e
 unfoldable pub value_at : List ℕ → ℕ → ℕ → ℕ → AttrOut
@@ -88,7 +88,7 @@ attr_at s p =
     let q = skip s e in
     cond (starts_at s q equals)
     (value_at s p e q)
-    (attr (record { name = p; name_len_lem = e - p; value = e; value_len_lem = 0 }) q)
+    (attr (record { name = p; name_len = e - p; value = e; value_len = 0 }) q)
 
 -- ---- a start tag: its attributes, the place after it and the count of attributes; the same of a tag that has no content; a refusal
 pub data TagOut : Type 0 where

@@ -4,9 +4,9 @@ use Rattle.std.specs.Prelude.{ℕ, ◌+◌, ◌≤◌, List, [], ◌∷◌, ◌+
 -- an attribute: place and length of its name, place and length of its value
 pub record Attr : Type 0 where
   pub name : ℕ
-  pub name_len_lem : ℕ
+  pub name_len : ℕ
   pub value : ℕ
-  pub value_len_lem : ℕ
+  pub value_len : ℕ
 
 -- siblings: none; a text, a section of CDATA or an element, then its later siblings
 pub data Forest : Type 0 where
@@ -55,7 +55,7 @@ rows k a (elem p n l c f) =
 
 -- the attributes' rows
 unfoldable pub attr_row : Attr → List ℕ
-attr_row x = x.name ∷ x.name_len_lem ∷ x.value ∷ x.value_len_lem ∷ []
+attr_row x = x.name ∷ x.name_len ∷ x.value ∷ x.value_len ∷ []
 
 unfoldable pub attr_rows : List Attr → List ℕ
 attr_rows [] = []
@@ -70,7 +70,7 @@ pub record Span : Type 0 where
 -- the strings of a forest in document order: an element's name and its attributes' names and values, texts and sections
 unfoldable pub attr_spans : List Attr → List Span
 attr_spans [] = []
-attr_spans (x ∷ xs) = record { place = x.name; len = x.name_len_lem } ∷ record { place = x.value; len = x.value_len_lem } ∷ attr_spans xs
+attr_spans (x ∷ xs) = record { place = x.name; len = x.name_len } ∷ record { place = x.value; len = x.value_len } ∷ attr_spans xs
 
 unfoldable pub spans : Forest → List Span
 spans nil = []

@@ -32,6 +32,6 @@ pub record Listed (u : List ℕ) (j : ℕ) (l : List Attr) : Type 0 where
 -- the cells of row j
 pub record AttrIs (u : List ℕ) (j : ℕ) (x : Attr) : Type 0 where
   pub name_is : get_or u (j * 4) 0 ≡ x.name
-  pub name_len_is : get_or u (j * 4 + 1) 0 ≡ x.name_len_lem
+  pub name_len_is : get_or u (j * 4 + 1) 0 ≡ x.name_len
   pub value-is : get_or u (j * 4 + 2) 0 ≡ x.value
-  pub value-len_is : get_or u (j * 4 + 3) 0 ≡ x.value_len_lem
+  pub value-len_is : get_or u (j * 4 + 3) 0 ≡ x.value_len

@@ -52,7 +52,7 @@ pub fn put_attr(
 )
     requires { (count * 4 + 4 ≤ length cells.old) × (name < 2 ^ 32) × (name_len < 2 ^ 32) × (value < 2 ^ 32) × (value_len < 2 ^ 32) }
     ensures { cells.new ≡ sets cells.old (count * 4)
-        (attr_row (record { name = name; name_len_lem = name_len; value = value; value_len_lem = value_len })) }
+        (attr_row (record { name = name; name_len = name_len; value = value; value_len = value_len })) }
 {
     let at = count * ATTR_CELLS;
     cells[at] = name as u32;
