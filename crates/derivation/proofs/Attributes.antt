@@ -105,13 +105,13 @@ module _ (s : List ℕ) (p e : ℕ) where
 
   -- without a value
   alone-agrees : (q : ℕ) → q ≤ length s → Stops blank (drop q s)
-      → AttrAgrees s (ok (attr (string_at s p (e - p)) []) (drop q s)) (places.attr (record { name = p; name_len_lem = e - p; value = e; value_len_lem = 0 }) q)
+      → AttrAgrees s (ok (attr (string_at s p (e - p)) []) (drop q s)) (places.attr (record { name = p; name_len = e - p; value = e; value_len = 0 }) q)
   unfolding skipped attr_in
   alone-agrees q h g = rw (past_is blank [] (drop q s) tt g, string_is s e 0) (refl, h)
 
   name_agrees : (q : ℕ) → q ≤ length s → Stops blank (drop q s)
       → AttrAgrees s (after_name (string_at s p (e - p)) (drop q s))
-      (cond (starts_at s q equals) (value_at s p e q) (places.attr (record { name = p; name_len_lem = e - p; value = e; value_len_lem = 0 }) q))
+      (cond (starts_at s q equals) (value_at s p e q) (places.attr (record { name = p; name_len = e - p; value = e; value_len = 0 }) q))
   unfolding starts_at
   name_agrees q h g =
       let n : Bytes = string_at s p (e - p) in

@@ -6,7 +6,7 @@ use Rattle.tree.specs.Trees as placed
 use Rattle.grammar.specs.Tree.{Attr, attr, Forest, none, more, text, section, element}
 
 unfoldable pub attr_in : List ℕ → placed.Attr → Attr
-attr_in z x = attr (string_at z x.name x.name_len_lem) (string_at z x.value x.value_len_lem)
+attr_in z x = attr (string_at z x.name x.name_len) (string_at z x.value x.value_len)
 
 unfoldable pub attrs_in : List ℕ → List placed.Attr → List Attr
 attrs_in z [] = []
