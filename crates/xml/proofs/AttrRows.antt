@@ -46,8 +46,8 @@ pub record Head (u z : List ℕ) (k n : ℕ) (l : List Attr) : Type 0 where
   pub is : l ≡ head ∷ others
   pub cells : AttrIs u k head
   pub room : (k + n) * 4 ≤ length u
-  pub name_fits : head.name + head.name_len_lem ≤ length z
-  pub value-fits : head.value + head.value_len_lem ≤ length z
+  pub name_fits : head.name + head.name_len ≤ length z
+  pub value-fits : head.value + head.value_len ≤ length z
   pub owned : Owned u z (k + 1) (n - 1) others
 
 head_of : (u z : List ℕ) (k n : ℕ) (l : List Attr) → Owned u z k n l → 0 < n → Head u z k n l
@@ -116,14 +116,14 @@ module _ (name : List ℕ) {u z : List ℕ} {k e : ℕ} {l : List Attr} (x : Res
   unfolding find_value attribute_row
   value-here b w =
       let y : Head u z k (e - k) x.attrs = rest-first x b in
-      let v : same_folded (string_at z y.head.name y.head.name_len_lem) name ≡ true = rw (y.cells.name_is, y.cells.name_len_is) at w in
+      let v : same_folded (string_at z y.head.name y.head.name_len) name ≡ true = rw (y.cells.name_is, y.cells.name_len_is) at w in
       sym (x.is ∙ ap (find_value z name) y.is ∙ rw (v, y.cells.name_is, y.cells.value-is, y.cells.value-len_is))
 
   pub value-next : k < e → same_folded (name_at u z k) name ≡ false → Rest (find_value z name) u z (k + 1) e l
   unfolding find_value
   value-next b w =
       let y : Head u z k (e - k) x.attrs = rest-first x b in
-      let v : same_folded (string_at z y.head.name y.head.name_len_lem) name ≡ false = rw (y.cells.name_is, y.cells.name_len_is) at w in
+      let v : same_folded (string_at z y.head.name y.head.name_len) name ≡ false = rw (y.cells.name_is, y.cells.name_len_is) at w in
       rest-on x b (rw v)
 
   pub value-nowhere : e ≤ k → Absent ≡ find_value z name l

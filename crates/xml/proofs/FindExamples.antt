@@ -57,7 +57,7 @@ abbrev nodes : List ℕ
 nodes = 1 ∷ 1 ∷ 0 ∷ 1 ∷ 0 ∷ 0 ∷ 2 ∷ 2 ∷ 1 ∷ 1 ∷ 0 ∷ 1 ∷ []
 
 abbrev owned : List placed.Attr
-owned = record { name = 4; name_len_lem = 1; value = 7; value_len_lem = 1 } ∷ []
+owned = record { name = 4; name_len = 1; value = 7; value_len = 1 } ∷ []
 
 pub row-1 : find_row strings (ascii "p") 0 (placed.text 0 1 (placed.elem 1 1 owned placed.nil placed.nil)) ≡ Row 1
 unfolding find_row named string_at same_folded lower has_colon after_last_colon

@@ -32,8 +32,8 @@ within-attrs : (l : List Attr) (lo hi : ℕ) → InOrder lo (attr_spans l) hi �
 unfolding attr_spans
 within-attrs [] lo hi i = tt
 within-attrs (x ∷ l) lo hi i =
-    let v : x.value + x.value_len_lem ≤ hi = in_whole (attr_spans l) (x.value + x.value_len_lem) hi i.1.1 in
-    (omega (arith, i.1.0), v, within-attrs l (x.value + x.value_len_lem) hi i.1.1)
+    let v : x.value + x.value_len ≤ hi = in_whole (attr_spans l) (x.value + x.value_len) hi i.1.1 in
+    (omega (arith, i.1.0), v, within-attrs l (x.value + x.value_len) hi i.1.1)
 
 regroup : (a b c : List Span) → a ++ (b ++ c) ≡ (a ++ (b ++ [])) ++ c
 regroup a b c = simp append_assoc
@@ -228,19 +228,19 @@ unfolding shown find_value attr_value attrs_in attr_in
 value-shown z name [] = refl
 value-shown z name (x ∷ l) =
     let r : shown z (find_value z name l) ≡ attr_value name (attrs_in z l) = value-shown z name l in
-    by-test (same_folded (string_at z x.name x.name_len_lem) name) (λ w. rw w) (λ w. rw w r)
+    by-test (same_folded (string_at z x.name x.name_len) name) (λ w. rw w) (λ w. rw w r)
 
 value-within : (z name : List ℕ) (l : List Attr) (x : Attribute) → WithinAttrs (length z) l → find_value z name l ≡ At x → x.place + x.len ≤ length z
 unfolding find_value
 value-within z name [] x w e = absurd (let y : ◌≡◌ {A = ℕ} 0 1 = cc in omega arith)
 value-within z name (y ∷ l) x w e =
     let r : find_value z name l ≡ At x → x.place + x.len ≤ length z = value-within z name l x w.2 in
-    by-test (same_folded (string_at z y.name y.name_len_lem) name) here (λ q. r (rw q at e))
+    by-test (same_folded (string_at z y.name y.name_len) name) here (λ q. r (rw q at e))
   where
-    here : same_folded (string_at z y.name y.name_len_lem) name ≡ true → x.place + x.len ≤ length z
+    here : same_folded (string_at z y.name y.name_len) name ≡ true → x.place + x.len ≤ length z
     here q =
-        let j : At (record { at = y.name; place = y.value; len = y.value_len_lem }) ≡ At x = rw q at e in
-        let v : record { at = y.name; place = y.value; len = y.value_len_lem } ≡ x = cc in
+        let j : At (record { at = y.name; place = y.value; len = y.value_len }) ≡ At x = rw q at e in
+        let v : record { at = y.name; place = y.value; len = y.value_len } ≡ x = cc in
         rw (← v) w.1
 
 pub value-at : (z name : List ℕ) (l : List Attr) (x : Attribute) → WithinAttrs (length z) l → find_value z name l ≡ At x

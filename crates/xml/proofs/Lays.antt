@@ -62,11 +62,11 @@ module _ (s : List ℕ) where
   unfolding attr_spans attr_strings
   attrs-ordered [] lo hi i = i
   attrs-ordered (x ∷ l) lo hi i =
-      let v : List ℕ = decoded (string_at s x.value x.value_len_lem) in
-      ordered_one x.name x.name_len_lem lo hi (string_at s x.name x.name_len_lem) (record { place = x.value; bytes = v } ∷ attr_strings s l) i.0
-      (string_short s x.name x.name_len_lem)
-      (ordered_one x.value x.value_len_lem (x.name + x.name_len_lem) hi v (attr_strings s l) i.1.0 (read_short s x.value x.value_len_lem)
-      (attrs-ordered l (x.value + x.value_len_lem) hi i.1.1))
+      let v : List ℕ = decoded (string_at s x.value x.value_len) in
+      ordered_one x.name x.name_len lo hi (string_at s x.name x.name_len) (record { place = x.value; bytes = v } ∷ attr_strings s l) i.0
+      (string_short s x.name x.name_len)
+      (ordered_one x.value x.value_len (x.name + x.name_len) hi v (attr_strings s l) i.1.0 (read_short s x.value x.value_len)
+      (attrs-ordered l (x.value + x.value_len) hi i.1.1))
 
   pub strings-ordered : (f : Forest) (lo hi : ℕ) → InOrder lo (spans f) hi → Ordered lo (strings s f) hi
   unfolding spans strings

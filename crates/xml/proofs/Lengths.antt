@@ -42,11 +42,11 @@ module _ (s : List ℕ) where
   empty-read v = rw (string_is s v 0) (omega (arith, decoded-short []))
 
   abbrev made : ℕ → ℕ → ℕ → ℕ → placed.Attr
-  made p n v m = record { name = p; name_len_lem = n; value = v; value_len_lem = m }
+  made p n v m = record { name = p; name_len = n; value = v; value_len = m }
 
   -- an attribute's row with its value read
   abbrev reread : placed.Attr → placed.Attr
-  reread x = record { name = x.name; name_len_lem = x.name_len_lem; value = x.value; value_len_lem = length (decoded (string_at s x.value x.value_len_lem)) }
+  reread x = record { name = x.name; name_len = x.name_len; value = x.value; value_len = length (decoded (string_at s x.value x.value_len)) }
 
   attr-read : {z u : Bytes} {a : Attr} (x : Attribute z u a) (p : ℕ) → At s p (u ++ z) → reread (attr_placed length x p) ≡ attr_placed read_length x p
   unfolding attr_placed

@@ -126,7 +126,7 @@ module _ (s z : List ℕ) (n m i j : ℕ) (room : 65536 ≤ length z) (answer : 
   pub attrs-stand_ready : (u : List ℕ) → u ≡ attr_cells m (meaning s n m) → (k : ℕ) → k < j → AttrReady s u z k
   attrs-stand_ready u e k h =
       let f : Forest = tree_of (meaning s n m) in
-      let none : Attr = record { name = 0; name_len_lem = 0; value = 0; value_len_lem = 0 } in
+      let none : Attr = record { name = 0; name_len = 0; value = 0; value_len = 0 } in
       let c : j ≡ length (attrs_of f) = (counted (meaning s n m) i j answer).1 in
       let r : length (attrs_of f) * 4 ≤ length u = attrs-room s u n m e in
       let x : 0 + k ≡ k = omega arith in

@@ -196,18 +196,18 @@ module _ (s t : List ℕ) where
 
 -- ---- attributes
 module _ (s u : List ℕ) where
-  value_of : (j : ℕ) (x : Attr) → AttrIs u j x → value_bytes s u j ≡ decoded (string_at s x.value x.value_len_lem)
+  value_of : (j : ℕ) (x : Attr) → AttrIs u j x → value_bytes s u j ≡ decoded (string_at s x.value x.value_len)
   unfolding value_bytes
   value_of j x r = rw (r.value-is, r.value-len_is)
 
   attr-read : (j : ℕ) (x : Attr) → AttrIs u j x
-      → attrs_read s u (j + 1) ≡ sets (attrs_read s u j) (j * 4) (x.name ∷ x.name_len_lem ∷ x.value
-      ∷ length (decoded (string_at s x.value x.value_len_lem)) ∷ [])
+      → attrs_read s u (j + 1) ≡ sets (attrs_read s u j) (j * 4) (x.name ∷ x.name_len ∷ x.value
+      ∷ length (decoded (string_at s x.value x.value_len)) ∷ [])
   unfolding attrs_read
   attr-read j x r =
       let old : (i : ℕ) → j * 4 ≤ i → get_or (attrs_read s u j) i 0 ≡ get_or u i 0 = attrs-after s u j in
       rw (add-one j, value_of j x r)
-      (attr-row_set (attrs_read s u j) (j * 4) x.name x.name_len_lem x.value (length (decoded (string_at s x.value x.value_len_lem)))
+      (attr-row_set (attrs_read s u j) (j * 4) x.name x.name_len x.value (length (decoded (string_at s x.value x.value_len)))
       (old (j * 4) (omega arith) ∙ r.name_is)
       (old (j * 4 + 1) (omega arith) ∙ r.name_len_is) (old (j * 4 + 2) (omega arith) ∙ r.value-is))
 
@@ -217,13 +217,13 @@ module _ (s u : List ℕ) where
   pass_attrs (x ∷ l) j y =
       let o = on_attr u j x l y in
       let z : j + suc (length l) ≡ j + 1 + length l = omega arith in
-      let r : List ℕ = x.name ∷ x.name_len_lem ∷ x.value ∷ length (decoded (string_at s x.value x.value_len_lem)) ∷ [] in
+      let r : List ℕ = x.name ∷ x.name_len ∷ x.value ∷ length (decoded (string_at s x.value x.value_len)) ∷ [] in
       rw z (sets_on r (attr_rows (read_attrs s l)) (attrs_read s u j) (attrs_read s u (j + 1)) (attrs_read s u (j + 1 + length l)) (j * 4) ((j + 1) * 4)
       (attr-read j x o.0) (pass_attrs l (j + 1) o.1) (omega arith))
 
   attr-string_read : (z : List ℕ) (j : ℕ) (x : Attr) → AttrIs u j x
-      → attr_strings_read s u z (j + 1) ≡ sets (sets (attr_strings_read s u z j) x.name (string_at s x.name x.name_len_lem)) x.value
-      (decoded (string_at s x.value x.value_len_lem))
+      → attr_strings_read s u z (j + 1) ≡ sets (sets (attr_strings_read s u z j) x.name (string_at s x.name x.name_len)) x.value
+      (decoded (string_at s x.value x.value_len))
   unfolding attr_strings_read attr_written
   attr-string_read z j x r = rw (add-one j, value_of j x r, r.name_is, r.name_len_is, r.value-is)
 

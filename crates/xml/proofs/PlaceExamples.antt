@@ -71,8 +71,8 @@ pub record Case : Type 0 where
   pub of : List ℕ
   pub is : placed.Forest
 
-abbrev attribute : (name name_len_lem value value_len_lem : ℕ) → placed.Attr
-attribute p n v m = record { name = p; name_len_lem = n; value = v; value_len_lem = m }
+abbrev attribute : (name name_len value value_len : ℕ) → placed.Attr
+attribute p n v m = record { name = p; name_len = n; value = v; value_len = m }
 
 pub cases : List Case
 cases =

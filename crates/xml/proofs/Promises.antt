@@ -124,7 +124,7 @@ module _ (s : List ℕ) (i : ℕ) where
   unfolding attr_spans attr_strings read_attrs
   attrs-apart [] h = tt
   attrs-apart (x ∷ l) h = (
-    shorter i x.name (length (string_at s x.name x.name_len_lem)) x.name_len_lem (string_short s x.name x.name_len_lem) h.0,
+    shorter i x.name (length (string_at s x.name x.name_len)) x.name_len (string_short s x.name x.name_len) h.0,
     (h.1.0, attrs-apart l h.1.1),
   )
 

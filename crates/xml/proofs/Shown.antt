@@ -26,12 +26,12 @@ module _ (s : List ℕ) where
   unfolding attr_spans read_attrs
   order_attrs [] lo hi i = i
   order_attrs (x ∷ l) lo hi i =
-      let d : ℕ = length (decoded (string_at s x.value x.value_len_lem)) in (
+      let d : ℕ = length (decoded (string_at s x.value x.value_len)) in (
         i.0,
         (
           i.1.0,
-          in_lower (attr_spans (read_attrs s l)) (x.value + d) (x.value + x.value_len_lem) hi (omega (arith, read_short s x.value x.value_len_lem))
-              (order_attrs l (x.value + x.value_len_lem) hi i.1.1),
+          in_lower (attr_spans (read_attrs s l)) (x.value + d) (x.value + x.value_len) hi (omega (arith, read_short s x.value x.value_len))
+              (order_attrs l (x.value + x.value_len) hi i.1.1),
         ),
       )
 
@@ -113,8 +113,8 @@ module _ (s y : List ℕ) where
   unfolding attr_spans attr_strings attrs_in attr_in read_attrs decode_attrs
   attrs-shown [] lo i a = refl
   attrs-shown (x ∷ l) lo i a =
-      let v : x.value + x.value_len_lem ≤ length s = in_whole (attr_spans l) (x.value + x.value_len_lem) (length s) i.1.1 in
-      rw (same_string x.name x.name_len_lem (omega (arith, i.1.0)) a.0, a.1.0, attrs-shown l (x.value + x.value_len_lem) i.1.1 a.1.1)
+      let v : x.value + x.value_len ≤ length s = in_whole (attr_spans l) (x.value + x.value_len) (length s) i.1.1 in
+      rw (same_string x.name x.name_len (omega (arith, i.1.0)) a.0, a.1.0, attrs-shown l (x.value + x.value_len) i.1.1 a.1.1)
 
   shown : (f : Forest) (lo : ℕ) → InOrder lo (spans f) (length s) → AtPlaces y (strings s f) → tree_in y (read_forest s f)
       ≡ decode_forest decoded (tree_in s f)

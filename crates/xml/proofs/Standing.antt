@@ -82,7 +82,7 @@ module _ (s : List ℕ) where
 
   -- ---- a value at v, after the `=` at q
   abbrev valued : ℕ → ℕ → ℕ → ℕ → ℕ → AttrOut
-  valued p e v n r = places.attr (record { name = p; name_len_lem = e - p; value = v; value_len_lem = n }) (skip s r)
+  valued p e v n r = places.attr (record { name = p; name_len = e - p; value = v; value_len = n }) (skip s r)
 
   quoted-at : {v : ℕ} (c : ℕ) (w after : Bytes) (p e q : ℕ) → At s v (c ∷ (w ++ (c ∷ after))) → skip s (q + 1) ≡ v → quote c ≡ true → Only (other c) w
       → value_at s p e q ≡ valued p e (v + 1) (length w) (v + 1 + length w + 1)
@@ -170,9 +170,9 @@ module _ (s : List ℕ) where
       with_equals (p + length n) c w after v x e k (at_on b (`=` then c then w then after) d) cc.all
       ∙ ap₂ (λ i j. places.attr (record {
         name = p;
-        name_len_lem = i;
+        name_len = i;
         value = value_place x (p + length n + length b + 1 + length c);
-        value_len_lem =
+        value_len =
             length v;
       }) (skip s j)) l m
   attr-at {p} {after} (nameless {c} {w} {v} cc x) h =
@@ -185,7 +185,7 @@ module _ (s : List ℕ) where
       let l : p - p ≡ 0 = omega arith in
       let m : p + 1 + length c + length w ≡ p + length (`=` then c then w) = simp length-append (omega arith) in
       with_equals p c w after v x e k a cc.all
-      ∙ ap₂ (λ i j. places.attr (record { name = p; name_len_lem = i; value = value_place x (p + 1 + length c); value_len_lem = length v }) (skip s j)) l m
+      ∙ ap₂ (λ i j. places.attr (record { name = p; name_len = i; value = value_place x (p + 1 + length c); value_len = length v }) (skip s j)) l m
 
   -- ---- the attributes of a start tag, up to its `>` or `/`: read, or one too many
   abbrev AttrsAt : ℕ → TagState → ℕ → List placed.Attr → Type 0

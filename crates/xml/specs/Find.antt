@@ -71,7 +71,7 @@ find_row z name i (elem p n l c f) = cond (named name (string_at z (p + 1) n)) (
 unfoldable pub find_value : List ℕ → List ℕ → List Attr → Value
 find_value z name [] = Absent
 find_value z name (x ∷ l) =
-    cond (same_folded (string_at z x.name x.name_len_lem) name) (At (record { at = x.name; place = x.value; len = x.value_len_lem }))
+    cond (same_folded (string_at z x.name x.name_len) name) (At (record { at = x.name; place = x.value; len = x.value_len }))
     (find_value z name l)
 
 -- what the answer says, which has no number of document 01's list, since nothing is turned away here: an attribute's value, or none
@@ -82,7 +82,7 @@ shown z Absent = no_value
 -- the attributes l are those from row j on, n of them, with their strings within z
 abbrev pub WithinAttrs : ℕ → List Attr → Type 0
 WithinAttrs hi [] = Unit {0}
-WithinAttrs hi (x ∷ l) = (x.name + x.name_len_lem ≤ hi) × (x.value + x.value_len_lem ≤ hi) × WithinAttrs hi l
+WithinAttrs hi (x ∷ l) = (x.name + x.name_len ≤ hi) × (x.value + x.value_len ≤ hi) × WithinAttrs hi l
 
 pub record Owned (u z : List ℕ) (j n : ℕ) (l : List Attr) : Type 0 where
   pub listed : Listed u j l

@@ -63,8 +63,8 @@ pub record AttrReady (s u z : List ℕ) (k : ℕ) : Type 0 where
 unfoldable pub attr_strings : List ℕ → List Attr → List Placed
 attr_strings s [] = []
 attr_strings s (x ∷ l) =
-    record { place = x.name; bytes = string_at s x.name x.name_len_lem }
-    ∷ record { place = x.value; bytes = decoded (string_at s x.value x.value_len_lem) }
+    record { place = x.name; bytes = string_at s x.name x.name_len }
+    ∷ record { place = x.value; bytes = decoded (string_at s x.value x.value_len) }
     ∷ attr_strings s l
 
 -- all strings of a forest in document order
@@ -78,7 +78,7 @@ strings s (elem p n l c f) = record { place = p + 1; bytes = string_at s (p + 1)
 unfoldable pub read_attrs : List ℕ → List Attr → List Attr
 read_attrs s [] = []
 read_attrs s (x ∷ l) =
-    record { name = x.name; name_len_lem = x.name_len_lem; value = x.value; value_len_lem = length (decoded (string_at s x.value x.value_len_lem)) }
+    record { name = x.name; name_len = x.name_len; value = x.value; value_len = length (decoded (string_at s x.value x.value_len)) }
     ∷ read_attrs s l
 
 unfoldable pub read_forest : List ℕ → Forest → Forest

@@ -30,10 +30,10 @@ module _ (long : Bytes → ℕ) where
   -- an attribute: its name at p; its value after the name, or after the blanks behind the `=`
   unfoldable pub attr_placed : {after u : Bytes} {a : Attr} → Attribute after u a → ℕ → placed.Attr
   unfolding value_place
-  attr_placed (alone {n} h e) p = record { name = p; name_len_lem = length n; value = p + length n; value_len_lem = 0 }
+  attr_placed (alone {n} h e) p = record { name = p; name_len = length n; value = p + length n; value_len = 0 }
   attr_placed (named {n} {b} {c} {w} {v} h bb cc x) p =
-      record { name = p; name_len_lem = length n; value = value_place x (p + length n + length b + 1 + length c); value_len_lem = long v }
-  attr_placed (nameless {c} {w} {v} cc x) p = record { name = p; name_len_lem = 0; value = value_place x (p + 1 + length c); value_len_lem = long v }
+      record { name = p; name_len = length n; value = value_place x (p + length n + length b + 1 + length c); value_len = long v }
+  attr_placed (nameless {c} {w} {v} cc x) p = record { name = p; name_len = 0; value = value_place x (p + 1 + length c); value_len = long v }
 
   unfoldable pub attrs_placed : {after w : Bytes} {l : List Attr} → Attributes after w l → ℕ → List placed.Attr
   unfolding attr_placed
