@@ -1,7 +1,13 @@
 #![tactic(auto)]
 // All that program `recaption` does, as a function: the gate runs it as two programs, on a film that is taken and on one that is turned away.
-use libc::{STDERR_FILENO, STDIN_FILENO, STDOUT_FILENO};
 use scan::Written;
+
+// standard input
+const STDIN_FILENO: i32 = 0;
+// standard output
+const STDOUT_FILENO: i32 = 1;
+// standard error
+const STDERR_FILENO: i32 = 2;
 
 // Reads TTML on standard input and writes it anew on standard output; on a refusal only the number, a blank, the place and LF.
 // It takes up to 1,350 KB of stack, most of it the tables: a shell's default of 8 MB is enough.

@@ -21,8 +21,7 @@ fn put_rgba(c: Rgba, out: &mut [u8])
 
 // The colour that the text is: 0 none, 1 one, with red, green, blue and alpha in the first four
 // bytes, or document 01's number 15. 2 if there are fewer.
-#[unsafe(no_mangle)]
-pub extern "C" fn probe_color(text: &[u8], out: &mut [u8]) -> u32
+pub fn probe_color(text: &[u8], out: &mut [u8]) -> u32
     ensures { Answered (leb 4 (length out.old)) (color_code (color_in text.now))
         (color_cells (color_in text.now)) 2 out.old out.new result }
 {
@@ -41,8 +40,7 @@ pub extern "C" fn probe_color(text: &[u8], out: &mut [u8]) -> u32
 
 // The colour in hexadecimal, with its alpha or without, at the start of out: how many bytes, or
 // 2^64 - 1 if it does not fit.
-#[unsafe(no_mangle)]
-pub extern "C" fn probe_color_text(r: u8, g: u8, b: u8, a: u8, alpha: bool, out: &mut [u8]) -> usize
+pub fn probe_color_text(r: u8, g: u8, b: u8, a: u8, alpha: bool, out: &mut [u8]) -> usize
     ensures { Filled (length (color_text alpha (rgba r g b a))) (color_text alpha (rgba r g b a)) out.old out.new result }
 {
     let c = Rgba { r, g, b, a };

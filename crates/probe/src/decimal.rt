@@ -31,8 +31,7 @@ fn put_digits(d: Digits, out: &mut [u64])
 // The decimal that the text spells within the limits: 0 none, 1 one, 2 one past them. Its digits,
 // how many stand behind the point, and 1 for a minus go to the first three cells. 3 if there are
 // fewer, the limit of digits is above 18, or that behind the point is 2^32 or more.
-#[unsafe(no_mangle)]
-pub extern "C" fn probe_decimal(text: &[u8], digits: u64, decimals: u64, out: &mut [u64]) -> u32
+pub fn probe_decimal(text: &[u8], digits: u64, decimals: u64, out: &mut [u64]) -> u32
     ensures { Answered (will_read digits decimals out.old) (kind_of (decimal_of text.now digits decimals))
         (decimal_cells (decimal_of text.now digits decimals)) 3 out.old out.new result }
 {
@@ -56,8 +55,7 @@ pub extern "C" fn probe_decimal(text: &[u8], digits: u64, decimals: u64, out: &m
 }
 
 // The same as an f64, within the limits of times: 3 if there is no cell.
-#[unsafe(no_mangle)]
-pub extern "C" fn probe_decimal_f64(text: &[u8], out: &mut [f64]) -> u32
+pub fn probe_decimal_f64(text: &[u8], out: &mut [f64]) -> u32
     ensures { Answered (ltb 0 (length out.old)) (kind_of (decimal_of text.now 15 22))
         (float_cells (decimal_of text.now 15 22)) 3 out.old out.new result }
 {
@@ -75,8 +73,7 @@ pub extern "C" fn probe_decimal_f64(text: &[u8], out: &mut [f64]) -> u32
 }
 
 // A float cut to an i64.
-#[unsafe(no_mangle)]
-pub extern "C" fn probe_truncate(x: f64) -> i64
+pub fn probe_truncate(x: f64) -> i64
     ensures { result ≡ Ieee.to_signed 63 x }
 {
     decimals::truncate(x)
@@ -101,8 +98,7 @@ fn put_size(d: Digits, spelling: &mut [u8], out: &mut [f32]) -> u32
 // The size that the text spells: 0 none, 1 one, with its f32 in the first cell and its spelling at
 // the start of the bytes, 2 one past the limits. 3 if there is no cell, or the spelling of a size
 // does not fit.
-#[unsafe(no_mangle)]
-pub extern "C" fn probe_size(text: &[u8], spelling: &mut [u8], out: &mut [f32]) -> u32
+pub fn probe_size(text: &[u8], spelling: &mut [u8], out: &mut [f32]) -> u32
     ensures { Sized (decimal_of text.now 6 10) spelling.old spelling.new out.old out.new
         result }
 {
@@ -117,8 +113,7 @@ pub extern "C" fn probe_size(text: &[u8], spelling: &mut [u8], out: &mut [f32]) 
 }
 
 // How many bytes the spelling of the size has that the text spells, at most 18, or 0.
-#[unsafe(no_mangle)]
-pub extern "C" fn probe_size_width(text: &[u8]) -> usize
+pub fn probe_size_width(text: &[u8]) -> usize
     ensures { result ≡ width_of (decimal_of text.now 6 10) }
 {
     match decimals::read_decimal(text, 6, 10) {
@@ -135,8 +130,7 @@ pub extern "C" fn probe_size_width(text: &[u8]) -> usize
 }
 
 // Is it a size: an f32, and a spelling that is its own?
-#[unsafe(no_mangle)]
-pub extern "C" fn probe_is_size(value: f32, negative: bool, digits: u32, scale: u32) -> bool
+pub fn probe_is_size(value: f32, negative: bool, digits: u32, scale: u32) -> bool
     ensures { result ≡ is_size (record { value = value; negative = negative; digits = digits; scale = scale }) }
 {
     decimals::is_size(Size {

@@ -27,8 +27,7 @@ pub use time::{probe_format_ts, probe_time};
 use utf8::Word;
 
 // Where the longest valid beginning of the text ends.
-#[unsafe(no_mangle)]
-pub extern "C" fn probe_utf8_end(text: &[u8]) -> usize
+pub fn probe_utf8_end(text: &[u8]) -> usize
     ensures { LongestValid text.now result }
 {
     utf8::utf8_end(text)
@@ -44,8 +43,7 @@ fn put_span(out: &mut [u64], start: usize, end: usize)
 }
 
 // Where the trimmed text starts and ends; false if there are not two cells for it.
-#[unsafe(no_mangle)]
-pub extern "C" fn probe_trim(text: &[u8], out: &mut [u64]) -> bool
+pub fn probe_trim(text: &[u8], out: &mut [u64]) -> bool
     ensures { Trims text.now out.old out.new result }
 {
     if out.len() < 2 {
@@ -57,8 +55,7 @@ pub extern "C" fn probe_trim(text: &[u8], out: &mut [u64]) -> bool
 }
 
 // Where the next word starts and ends; false if there is none, or not two cells for it.
-#[unsafe(no_mangle)]
-pub extern "C" fn probe_next_word(text: &[u8], from: usize, out: &mut [u64]) -> bool
+pub fn probe_next_word(text: &[u8], from: usize, out: &mut [u64]) -> bool
     ensures { FindsWord text.now from out.old out.new result }
 {
     if out.len() < 2 {
@@ -77,8 +74,7 @@ pub extern "C" fn probe_next_word(text: &[u8], from: usize, out: &mut [u64]) -> 
 }
 
 // The first place of the mark, or 2^64 - 1.
-#[unsafe(no_mangle)]
-pub extern "C" fn probe_find_seq(src: &[u8], from: usize, mark: &[u8]) -> usize
+pub fn probe_find_seq(src: &[u8], from: usize, mark: &[u8]) -> usize
     ensures { result ≡ first_of mark.now src.now from }
 {
     if mark.len() == 0 {
@@ -96,8 +92,7 @@ pub extern "C" fn probe_find_seq(src: &[u8], from: usize, mark: &[u8]) -> usize
 }
 
 // Does the mark stand at the place?
-#[unsafe(no_mangle)]
-pub extern "C" fn probe_starts_with(src: &[u8], from: usize, mark: &[u8]) -> bool
+pub fn probe_starts_with(src: &[u8], from: usize, mark: &[u8]) -> bool
     ensures { result ≡ stands_at mark.now src.now from }
 {
     if src.len() < from {
@@ -107,24 +102,21 @@ pub extern "C" fn probe_starts_with(src: &[u8], from: usize, mark: &[u8]) -> boo
 }
 
 // Are the two the same but for the case of ASCII letters?
-#[unsafe(no_mangle)]
-pub extern "C" fn probe_eq_ignore_ascii_case(a: &[u8], b: &[u8]) -> bool
+pub fn probe_eq_ignore_ascii_case(a: &[u8], b: &[u8]) -> bool
     ensures { result ≡ same_folded a.now b.now }
 {
     scan::eq_ignore_ascii_case(a, b)
 }
 
 // Where the local part of a tag's name starts.
-#[unsafe(no_mangle)]
-pub extern "C" fn probe_tag_local(name: &[u8]) -> usize
+pub fn probe_tag_local(name: &[u8]) -> usize
     ensures { PartFrom name.now result (after_last_colon name.now) }
 {
     scan::tag_local(name)
 }
 
 // Where a parameter's name starts.
-#[unsafe(no_mangle)]
-pub extern "C" fn probe_strip_ns(name: &[u8]) -> usize
+pub fn probe_strip_ns(name: &[u8]) -> usize
     ensures { PartFrom name.now result (after_first_colon name.now) }
 {
     scan::strip_ns(name)
@@ -146,14 +138,7 @@ fn put_number(n: Numeral, out: &mut [u64]) -> u32
 
 // The number that the text spells: none also if the radix is not from 2 to 36, the largest value
 // is past 2^63 - 1, or there is no cell.
-#[unsafe(no_mangle)]
-pub extern "C" fn probe_numeral(
-    text: &[u8],
-    radix: u32,
-    max: u64,
-    minus: bool,
-    out: &mut [u64],
-) -> u32
+pub fn probe_numeral(text: &[u8], radix: u32, max: u64, minus: bool, out: &mut [u64]) -> u32
     ensures { Numbered (asked text.now radix max minus out.old) out.old out.new result }
 {
     if radix < 2 {
@@ -172,8 +157,7 @@ pub extern "C" fn probe_numeral(
 }
 
 // The character that the name stands for, or 2^32 - 1.
-#[unsafe(no_mangle)]
-pub extern "C" fn probe_lookup_entity(name: &[u8]) -> u32
+pub fn probe_lookup_entity(name: &[u8]) -> u32
     ensures { result ≡ code_of (lookup name.now) }
 {
     match entities::lookup_entity(name) {
@@ -184,8 +168,7 @@ pub extern "C" fn probe_lookup_entity(name: &[u8]) -> u32
 
 // The text with its references read, at the start of out: how many bytes, or 2^64 - 1 if out is
 // shorter than the text.
-#[unsafe(no_mangle)]
-pub extern "C" fn probe_decode_entities(text: &[u8], out: &mut [u8]) -> usize
+pub fn probe_decode_entities(text: &[u8], out: &mut [u8]) -> usize
     ensures { Filled (length text.now) (decoded text.now) out.old out.new result }
 {
     if out.len() < text.len() {
@@ -205,16 +188,14 @@ fn place_of(w: Written) -> usize
 
 // The text as it stands between tags, at the start of out: how many bytes, or 2^64 - 1 if it does
 // not fit.
-#[unsafe(no_mangle)]
-pub extern "C" fn probe_escape_text(text: &[u8], out: &mut [u8]) -> usize
+pub fn probe_escape_text(text: &[u8], out: &mut [u8]) -> usize
     ensures { FilledInPart (escaped false text.now) out.old out.new result }
 {
     place_of(entities::escape_text(text, out, 0))
 }
 
 // The text as it stands in an attribute's value, likewise.
-#[unsafe(no_mangle)]
-pub extern "C" fn probe_escape_attr(text: &[u8], out: &mut [u8]) -> usize
+pub fn probe_escape_attr(text: &[u8], out: &mut [u8]) -> usize
     ensures { FilledInPart (escaped true text.now) out.old out.new result }
 {
     place_of(entities::escape_attr(text, out, 0))

@@ -19,8 +19,7 @@ fn put_counts(out: &mut [u64], place: usize, nodes: usize, attrs: usize)
 // The text's tree in the three tables: 0, or document 01's number. The first three cells of out are the
 // place of a refusal, and how many nodes and attributes a tree has. 2^32 - 1 if there are fewer, then
 // no table is touched.
-#[unsafe(no_mangle)]
-pub extern "C" fn probe_parse_xml(
+pub fn probe_parse_xml(
     text: &[u8],
     nodes: &mut [u32],
     attrs: &mut [u32],

@@ -9,8 +9,7 @@ use times::{Time, TimingCtx};
 
 // The time that the text is: 0 none, 1 one, with its microseconds in the first cell, or document
 // 01's number 14, 15 or 16. 2 if there is no cell.
-#[unsafe(no_mangle)]
-pub extern "C" fn probe_time(
+pub fn probe_time(
     text: &[u8],
     frame_rate: f64,
     has_frame_rate: bool,
@@ -45,8 +44,7 @@ pub extern "C" fn probe_time(
 }
 
 // The time as a clock time, at the start of out: how many bytes, or 2^64 - 1 if it does not fit.
-#[unsafe(no_mangle)]
-pub extern "C" fn probe_format_ts(us: i64, out: &mut [u8]) -> usize
+pub fn probe_format_ts(us: i64, out: &mut [u8]) -> usize
     ensures { Filled (length (clock_text us)) (clock_text us) out.old out.new result }
 {
     crate::place_of(times::format_ts(out, 0, us))

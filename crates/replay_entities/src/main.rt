@@ -7,9 +7,12 @@ ghost use Rattle.replay_entities.specs.Counts.{length_of};
 use replaying::Tally;
 use scan::Written;
 
+// standard input
+const STDIN_FILENO: i32 = 0;
+
 fn main() {
     let mut space = [0u8; 262144];
-    let got = io::read_full(libc::STDIN_FILENO, &mut space);
+    let got = io::read_full(STDIN_FILENO, &mut space);
     replaying::print_tally(replay(&space[..got]));
 }
 

@@ -20,10 +20,13 @@ ghost use Rattle.std.specs.Prelude.{◌+◌, ◌^◌, ◌≤◌, ◌<◌};
 
 use replaying::Tally;
 
+// standard input
+const STDIN_FILENO: i32 = 0;
+
 fn main() {
     let mut list = [0u8; 262144];
     let mut text = [0u8; 65537];
-    let got = io::read_full(libc::STDIN_FILENO, &mut list);
+    let got = io::read_full(STDIN_FILENO, &mut list);
     replaying::print_tally(replay(&list[..got], &mut text));
 }
 

@@ -23,9 +23,12 @@ ghost use Rattle.std.specs.Prelude.{◌+◌, ◌^◌, ◌≤◌, ◌<◌};
 
 use replaying::Tally;
 
+// standard input
+const STDIN_FILENO: i32 = 0;
+
 fn main() {
     let mut list = [0u8; 262144];
-    let got = io::read_full(libc::STDIN_FILENO, &mut list);
+    let got = io::read_full(STDIN_FILENO, &mut list);
     replaying::print_tally(replay(&list[..got]));
 }
 

@@ -1,7 +1,9 @@
 // Cells picked by chance: a xorshift generator with a fixed seed.
 use crate::single::value_of;
 use crate::tables::{Bytes, Cells, Sizes, Times};
-use libc::STDOUT_FILENO;
+
+// standard output
+const STDOUT_FILENO: i32 = 1;
 
 const SEED: u32 = 2463534242;
 

@@ -22,12 +22,16 @@ mod single;
 mod tables;
 mod words;
 
-use libc::STDOUT_FILENO;
 use tables::{Bytes, Cells, Sizes, Times};
+
+// standard input
+const STDIN_FILENO: i32 = 0;
+// standard output
+const STDOUT_FILENO: i32 = 1;
 
 fn main() {
     let mut space = [0u8; 65536];
-    let got = io::read_full(libc::STDIN_FILENO, &mut space);
+    let got = io::read_full(STDIN_FILENO, &mut space);
     let mut cells = [0u32; 153610];
     let mut times = [0i64; 4096];
     let mut sizes = [0f32; 256];

@@ -1,8 +1,10 @@
 // The words of a line, which single blanks divide.
 ghost use Rattle.std.specs.Prelude.{◌≤◌, ◌<◌, length};
 
-use libc::STDOUT_FILENO;
 use numerals::Numeral;
+
+// standard output
+const STDOUT_FILENO: i32 = 1;
 
 // The line's first byte and its third, or 0.
 pub fn first(line: &[u8]) -> u8 {

@@ -22,9 +22,12 @@ use replaying::Tally;
 use scan::Written;
 use times::{Time, TimingCtx};
 
+// standard input
+const STDIN_FILENO: i32 = 0;
+
 fn main() {
     let mut space = [0u8; 262144];
-    let got = io::read_full(libc::STDIN_FILENO, &mut space);
+    let got = io::read_full(STDIN_FILENO, &mut space);
     replaying::print_tally(replay(&space[..got]));
 }
 

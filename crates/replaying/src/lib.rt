@@ -4,7 +4,8 @@
 // hexadecimal, `-` for none.
 ghost use Rattle.std.specs.Prelude.{◌≡◌, ◌+◌, ◌^◌, ◌≤◌, ◌<◌, length};
 
-use libc::STDOUT_FILENO;
+// standard output
+const STDOUT_FILENO: i32 = 1;
 
 #[derive(Clone, Copy)]
 pub struct Tally {

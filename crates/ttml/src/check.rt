@@ -7,8 +7,7 @@ use told::told;
 use track::Check;
 
 // Is it a track?
-#[unsafe(no_mangle)]
-pub extern "C" fn pg_check_track(
+pub fn pg_check_track(
     head: &[u32],
     params: &[u32],
     styles: &[u32],

@@ -8,8 +8,7 @@ use tree::Answer;
 const COUNTS: usize = 2;
 
 // The text's tree; `counts` are its nodes and attributes.
-#[unsafe(no_mangle)]
-pub extern "C" fn pg_parse_xml(
+pub fn pg_parse_xml(
     text: &[u8],
     nodes: &mut [u32],
     attrs: &mut [u32],

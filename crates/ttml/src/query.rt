@@ -6,8 +6,7 @@ ghost use Rattle.told.specs.Queries.{AnswersInC};
 use told::tell_style;
 
 // The style that a style value resolves to.
-#[unsafe(no_mangle)]
-pub extern "C" fn pg_resolve_referenced_style(
+pub fn pg_resolve_referenced_style(
     value: &[u8],
     head: &[u32],
     params: &[u32],
@@ -38,8 +37,7 @@ pub extern "C" fn pg_resolve_referenced_style(
 }
 
 // The style of the region of this id.
-#[unsafe(no_mangle)]
-pub extern "C" fn pg_region_style(
+pub fn pg_region_style(
     id: &[u8],
     head: &[u32],
     params: &[u32],
@@ -70,8 +68,7 @@ pub extern "C" fn pg_region_style(
 }
 
 // The style of the cue of this index.
-#[unsafe(no_mangle)]
-pub extern "C" fn pg_effective_style_for_cue_index(
+pub fn pg_effective_style_for_cue_index(
     head: &[u32],
     params: &[u32],
     styles: &[u32],

@@ -16,8 +16,7 @@ fn tell(answer: Answer) -> u64
 }
 
 // The track of the text.
-#[unsafe(no_mangle)]
-pub extern "C" fn pg_parse(
+pub fn pg_parse(
     text: &[u8],
     nodes: &mut [u32],
     attrs: &mut [u32],
@@ -49,8 +48,7 @@ pub extern "C" fn pg_parse(
 }
 
 // The cue of the first p of the text, as a track of one cue.
-#[unsafe(no_mangle)]
-pub extern "C" fn pg_bytes_to_cue(
+pub fn pg_bytes_to_cue(
     text: &[u8],
     nodes: &mut [u32],
     attrs: &mut [u32],

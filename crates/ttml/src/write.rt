@@ -18,8 +18,7 @@ fn tell(answer: Answer) -> u64
 }
 
 // The track as text in `out`; how many bytes.
-#[unsafe(no_mangle)]
-pub extern "C" fn pg_write(
+pub fn pg_write(
     head: &[u32],
     params: &[u32],
     styles: &[u32],
@@ -44,8 +43,7 @@ pub extern "C" fn pg_write(
 }
 
 // The cue of this index as a text of its own in `out`; how many bytes.
-#[unsafe(no_mangle)]
-pub extern "C" fn pg_cue_to_bytes(
+pub fn pg_cue_to_bytes(
     head: &[u32],
     params: &[u32],
     styles: &[u32],
@@ -72,8 +70,7 @@ pub extern "C" fn pg_cue_to_bytes(
 }
 
 // What the cue of this index says, in `out`; how many bytes.
-#[unsafe(no_mangle)]
-pub extern "C" fn pg_plain_text(
+pub fn pg_plain_text(
     head: &[u32],
     cues: &[u32],
     segments: &[u32],

@@ -1,14 +1,14 @@
 -- A whole number: one law for each way that a text can begin, and what the reader of digits ensures of the rest.
 use mathlib.Core.Path.{◌≡◌, sym, ap, ◌∙◌}
+use lib.ListN.{get_or}
 use mathlib.Core.List.{List}
 use Prim.Native.Nat.{ℕ, ◌+◌}
-use mathlib.Core.Bool.{true, false}
-use mathlib.Core.Logic.{⊎_elim}
+use mathlib.Core.Bool.{true, false, true≢false}
 use native.Mathlib.Omega.{arith}
-use borrow.Author.Rules.{rules}
 use Rattle.numerals.specs.Numerals.{signed_by_of, unsigned_of}
 use Rattle.numerals.proofs.Numerals.{after-sign, numeral_none, numeral_plus, numeral_minus, numeral_bare}
 use Rattle.numerals.proofs.read_numeral.Goals as goal
+use Rattle.numerals.proofs.read_numeral.Goals.{then-minus+else-sign-eq45, else-minus}
 
 pub returns-then-text-eq0 : goal.returns-then-text-eq0
 returns-then-text-eq0 c =
@@ -27,3 +27,12 @@ returns-then-sign-eq45 c =
     ∙ ap (λ (l : List ℕ). unsigned_of l c.args.radix (c.args.most + 1)) (after-sign c.args.text.now))
     ∙ sym (numeral_minus c.args.radix c.args.most c.args.text.now c.args.minus (omega arith) c.if-minus.true c.if-sign-eq45.true))
 
+pub returns : goal.returns
+returns c =
+    let not_minus : c.args.minus ≡ true → get_or c.args.text.now 0 0 ≡ 45 → ⊥ = λ m. elim c.if-minus.branch [
+      | then-minus+else-sign-eq45 w ↦ w.if-sign-eq45.false
+      | else-minus w ↦ absurd (true≢false (sym m ∙ w.if-minus.false))
+    ] in
+    c.signed-2.ensures
+    ∙ (ap (signed_by_of false) c.read_unsigned-2.ensures
+    ∙ sym (numeral_bare c.args.radix c.args.most c.args.text.now c.args.minus (omega arith) c.if-sign-eq43.false not_minus))

@@ -1,13 +1,10 @@
-use Prim.Native.Nat.{ℕ, ◌+◌, ◌-◌, ◌≤◌}
-use mathlib.Core.Path.{◌≡◌, sym, ◌∙◌}
-use mathlib.Core.Bool.{true, true≢false, ◌&&◌}
+use Prim.Native.Nat.{ℕ, ◌+◌}
+use mathlib.Core.Path.{sym, ◌∙◌}
+use mathlib.Core.Bool.{true≢false, ◌&&◌}
 use mathlib.Core.List.{List}
-use mathlib.Core.Logic.{⊎_elim}
 use native.Mathlib.Omega.{arith}
 use borrow.Author.Tests.{not-false}
-use borrow.Author.Rules.{rules}
 use lib.Dec.{leb}
-use Rattle.scan.specs.Posts.{Passes}
 use Rattle.scan.proofs.Runs.{passes-more}
 use Rattle.scan.proofs.bytes.all_between.Goals as goal
 use Rattle.scan.proofs.bytes.all_between.Goals.{then-not-is_between, else-not-is_between}

@@ -1,16 +1,10 @@
 -- `all_between` meets its contract. The loop's invariant: where `all` is true, each byte passed is between the two. The measure is what is left of
 -- the 16.
-use Prim.Native.Nat.{ℕ, ◌+◌, ◌-◌, ◌≤◌}
-use mathlib.Core.Path.{◌≡◌, sym, ◌∙◌}
-use mathlib.Core.Bool.{true, true≢false, ◌&&◌}
-use mathlib.Core.List.{List}
-use mathlib.Core.Logic.{⊎_elim}
-use native.Mathlib.Omega.{arith}
-use borrow.Author.Tests.{not-false}
-use borrow.Author.Rules.{rules}
+use Prim.Native.Nat.{◌+◌, ◌-◌, ◌≤◌}
+use mathlib.Core.Path.{◌≡◌}
+use mathlib.Core.Bool.{true, ◌&&◌}
 use lib.Dec.{leb}
 use Rattle.scan.specs.Posts.{Passes}
-use Rattle.scan.proofs.Runs.{passes-more}
 use Rattle.scan.proofs.bytes.all_between.Given as goal
 
 abbrev pub invariant-loop-k : goal.invariant-loop-k

@@ -1,12 +1,10 @@
-use Prim.Native.Nat.{ℕ, ◌+◌, ◌-◌, ◌≤◌}
-use mathlib.Core.Path.{◌≡◌, sym, ap, ◌∙◌}
-use mathlib.Core.Bool.{false, not, true≢false}
+use Prim.Native.Nat.{ℕ, ◌+◌}
+use mathlib.Core.Path.{sym, ap, ◌∙◌}
+use mathlib.Core.Bool.{not, true≢false}
 use mathlib.Core.List.{List}
-use mathlib.Core.Logic.{⊎_elim}
 use native.Mathlib.Omega.{arith}
 use borrow.Author.Tests.{ne_eqb}
 use Rattle.scan.specs.Bytes.{other}
-use Rattle.scan.specs.Posts.{Passes}
 use Rattle.scan.proofs.Runs.{passes-more}
 use Rattle.scan.proofs.bytes.has_byte.Goals as goal
 use Rattle.scan.proofs.bytes.has_byte.Goals.{then-src-pos, else-src-pos}

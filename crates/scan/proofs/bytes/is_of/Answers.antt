@@ -1,5 +1,4 @@
 -- `is_of` meets its contract: each arm answers for its class.
-use borrow.Author.Rules.{rules}
 use Rattle.scan.specs.Bytes.{text_byte}
 use Rattle.scan.proofs.bytes.is_of.Goals as goal
 

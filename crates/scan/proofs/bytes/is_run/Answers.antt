@@ -1,6 +1,5 @@
 -- `is_run` meets its contract: bytes of the range are of the class.
 use Rattle.scan.proofs.Runs.{passes-as, blank-space, text-high, name_high, attr-name_high, digit_within}
-use borrow.Author.Rules.{rules}
 use Rattle.scan.proofs.bytes.is_run.Goals as goal
 
 pub returns-in-Blank : goal.returns-in-Blank

@@ -1,5 +1,4 @@
 -- `over` meets its contract: a text ends at its first `<`, and the other runs are read byte by byte.
-use borrow.Author.Rules.{rules}
 use Rattle.scan.specs.Bytes.{text_byte}
 use Rattle.scan.proofs.bytes.over.Goals as goal
 

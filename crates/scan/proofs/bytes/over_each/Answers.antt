@@ -1,10 +1,7 @@
-use Prim.Native.Nat.{◌-◌, ◌≤◌}
-use mathlib.Core.Path.{◌≡◌, refl, sym, ◌∙◌}
+use mathlib.Core.Path.{refl, sym, ◌∙◌}
 use native.Mathlib.Omega.{arith}
-use borrow.Author.Rules.{rules}
 use borrow.Author.Tests.{not-true, not-false}
-use lib.ListN.{length}
-use Rattle.scan.specs.Bytes.{member, run_end_of}
+use Rattle.scan.specs.Bytes.{member}
 use Rattle.scan.proofs.Runs.{run_on, ends-here, ends-out}
 use Rattle.scan.proofs.bytes.over_each.Goals as goal
 

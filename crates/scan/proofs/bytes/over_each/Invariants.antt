@@ -1,12 +1,8 @@
 -- `over_each` meets its contract. The loop's invariant: the run from `pos` ends where the run from `i` does. The measure is what is left of the text.
 use Prim.Native.Nat.{◌-◌, ◌≤◌}
-use mathlib.Core.Path.{◌≡◌, refl, sym, ◌∙◌}
-use native.Mathlib.Omega.{arith}
-use borrow.Author.Rules.{rules}
-use borrow.Author.Tests.{not-true, not-false}
+use mathlib.Core.Path.{◌≡◌}
 use lib.ListN.{length}
 use Rattle.scan.specs.Bytes.{member, run_end_of}
-use Rattle.scan.proofs.Runs.{run_on, ends-here, ends-out}
 use Rattle.scan.proofs.bytes.over_each.Given as goal
 
 abbrev pub invariant-loop-i : goal.invariant-loop-i

@@ -1,10 +1,6 @@
-use Prim.Native.Nat.{◌-◌}
 use mathlib.Core.Path.{refl, sym, ◌∙◌}
 use native.Mathlib.Omega.{arith}
-use borrow.Author.Rules.{rules}
 use borrow.Author.Tests.{not-true, not-false}
-use Rattle.scan.specs.Bytes.{member}
-use Rattle.scan.specs.Posts.{Skips}
 use Rattle.scan.proofs.Runs.{skips_one, ends-skipped}
 use Rattle.scan.proofs.bytes.over_near.Goals as goal
 

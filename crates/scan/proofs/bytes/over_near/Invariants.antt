@@ -1,13 +1,8 @@
 -- `over_near` meets its contract. The loop's invariant: the run from `pos` ends where the run from `i` does. The measure is what is left before
 -- `end`.
 use Prim.Native.Nat.{◌-◌}
-use mathlib.Core.Path.{refl, sym, ◌∙◌}
-use native.Mathlib.Omega.{arith}
-use borrow.Author.Rules.{rules}
-use borrow.Author.Tests.{not-true, not-false}
 use Rattle.scan.specs.Bytes.{member}
 use Rattle.scan.specs.Posts.{Skips}
-use Rattle.scan.proofs.Runs.{skips_one, ends-skipped}
 use Rattle.scan.proofs.bytes.over_near.Given as goal
 
 abbrev pub invariant-loop-i : goal.invariant-loop-i

@@ -1,9 +1,6 @@
-use Prim.Native.Nat.{◌+◌, ◌-◌}
+use Prim.Native.Nat.{◌+◌}
 use mathlib.Core.Path.{refl}
 use native.Mathlib.Omega.{arith}
-use lib.ListN.{length}
-use Rattle.scan.specs.Bytes.{other}
-use Rattle.scan.specs.Posts.{Skips}
 use Rattle.scan.proofs.Runs.{skips_more}
 use Rattle.scan.proofs.bytes.skip_blocks.Goals as goal
 

@@ -1,12 +1,9 @@
 -- `skip_blocks` meets its contract. The loop's invariant: the run from `pos` ends where the run from `i` does. The measure is what is left of the
 -- text.
-use Prim.Native.Nat.{◌+◌, ◌-◌}
-use mathlib.Core.Path.{refl}
-use native.Mathlib.Omega.{arith}
+use Prim.Native.Nat.{◌-◌}
 use lib.ListN.{length}
 use Rattle.scan.specs.Bytes.{other}
 use Rattle.scan.specs.Posts.{Skips}
-use Rattle.scan.proofs.Runs.{skips_more}
 use Rattle.scan.proofs.bytes.skip_blocks.Given as goal
 
 abbrev pub invariant-loop-i : goal.invariant-loop-i

@@ -1,10 +1,7 @@
-use Prim.Native.Nat.{◌+◌, ◌-◌}
+use Prim.Native.Nat.{◌+◌}
 use mathlib.Core.Path.{refl}
 use native.Mathlib.Omega.{arith}
 use borrow.Author.Tests.{not-false}
-use lib.ListN.{length}
-use Rattle.scan.specs.Bytes.{member}
-use Rattle.scan.specs.Posts.{Skips}
 use Rattle.scan.proofs.Runs.{skips_more}
 use Rattle.scan.proofs.bytes.skip_runs.Goals as goal
 

@@ -1,12 +1,8 @@
 -- `skip_runs` meets its contract. The loop's invariant: the run from `pos` ends where the run from `i` does. The measure is what is left of the text.
-use Prim.Native.Nat.{◌+◌, ◌-◌}
-use mathlib.Core.Path.{refl}
-use native.Mathlib.Omega.{arith}
-use borrow.Author.Tests.{not-false}
+use Prim.Native.Nat.{◌-◌}
 use lib.ListN.{length}
 use Rattle.scan.specs.Bytes.{member}
 use Rattle.scan.specs.Posts.{Skips}
-use Rattle.scan.proofs.Runs.{skips_more}
 use Rattle.scan.proofs.bytes.skip_runs.Given as goal
 
 abbrev pub invariant-loop-i : goal.invariant-loop-i

@@ -1,5 +1,4 @@
 -- `find_past` meets its contract: the place after the mark that `find_seq` finds, or the length.
-use borrow.Author.Rules.{rules}
 use Rattle.scan.proofs.Searches.{passed_got, passed_none}
 use Rattle.scan.proofs.marks.find_past.Goals as goal
 

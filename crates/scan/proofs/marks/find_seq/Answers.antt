@@ -1,8 +1,7 @@
-use Prim.Native.Nat.{◌+◌, ◌-◌, ◌≤◌}
-use mathlib.Core.Path.{◌≡◌, refl, sym, ◌∙◌}
+use Prim.Native.Nat.{◌-◌}
+use mathlib.Core.Path.{refl, sym, ◌∙◌}
 use native.Mathlib.Omega.{arith}
 use lib.ListN.{length}
-use Rattle.scan.specs.Marks.{seek}
 use Rattle.scan.proofs.Searches.{seek-on, seek-far, found_here, found-empty, found_none}
 use Rattle.scan.proofs.marks.find_seq.Goals as goal
 

@@ -1,11 +1,9 @@
 -- `find_seq` meets its contract. The loop's invariant: the mark's first place from `pos` on is its first from `i` on. The measure is what is left of
 -- the text.
 use Prim.Native.Nat.{◌+◌, ◌-◌, ◌≤◌}
-use mathlib.Core.Path.{◌≡◌, refl, sym, ◌∙◌}
-use native.Mathlib.Omega.{arith}
+use mathlib.Core.Path.{◌≡◌}
 use lib.ListN.{length}
 use Rattle.scan.specs.Marks.{seek}
-use Rattle.scan.proofs.Searches.{seek-on, seek-far, found_here, found-empty, found_none}
 use Rattle.scan.proofs.marks.find_seq.Given as goal
 
 abbrev pub invariant-loop-i : goal.invariant-loop-i

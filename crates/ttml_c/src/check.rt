@@ -1,0 +1,28 @@
+// The check of a handed track.
+ghost use Rattle.track.specs.Tables.{tables};
+ghost use Rattle.track.specs.Check.{Checked};
+ghost use Rattle.told.specs.Told.{Tells, check_told};
+
+// Is it a track?
+#[unsafe(no_mangle)]
+pub extern "C" fn pg_check_track(
+    head: &[u32],
+    params: &[u32],
+    styles: &[u32],
+    regions: &[u32],
+    cues: &[u32],
+    times: &[i64],
+    segments: &[u32],
+    sizes: &[f32],
+    extras: &[u32],
+    strings: &[u8],
+    texts: &[u8],
+) -> u64
+    ensures { Tells check_told (Checked
+        (tables head.now params.now styles.now regions.now cues.now times.now
+        segments.now sizes.now extras.now strings.now texts.now)) result }
+{
+    ttml::pg_check_track(
+        head, params, styles, regions, cues, times, segments, sizes, extras, strings, texts,
+    )
+}
