@@ -1,6 +1,6 @@
 /* Postgarlic: TTML captions read, written and asked about, for a board in C11 or C++11 on x86-64.
  *
- *     rt staticlib ttml          proves the library and writes target/staticlib/libttml.a
+ *     tools/staticlib ttml          proves the library and writes target/staticlib/libttml.a
  *     cc -I include board.c target/staticlib/libttml.a
  *
  * The library allocates nothing, keeps nothing between calls and takes any bytes. A caller lends tables of fixed lengths: `pg_tables` has

@@ -1,5 +1,5 @@
 //! Links libttml.a from the folder that the variable POSTGARLIC_LIB names; without it from target/staticlib of the
-//! repository, where `rt staticlib ttml` writes it.
+//! repository, where `tools/staticlib ttml` writes it.
 
 use std::env;
 use std::path::PathBuf;
@@ -12,7 +12,7 @@ fn main() {
     println!("cargo::rerun-if-changed={}", library.display());
     if !library.is_file() {
         println!("cargo::error=there is no {}", library.display());
-        println!("cargo::error=`rt staticlib ttml` writes it; or POSTGARLIC_LIB names the folder that has it");
+        println!("cargo::error=`tools/staticlib ttml` writes it; or POSTGARLIC_LIB names the folder that has it");
     }
     println!("cargo::rustc-link-search=native={}", folder.display());
     println!("cargo::rustc-link-lib=static=ttml");

@@ -1,5 +1,5 @@
 //! Links libprobe.a and libttml.a from the folders that the variables TTML_PROBE and TTML_LIBRARY name; without them
-//! from target/staticlib, where `rt staticlib` writes them.
+//! from target/staticlib, where `tools/staticlib` writes them.
 
 use std::path::PathBuf;
 use std::{env, fs};

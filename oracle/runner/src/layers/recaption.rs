@@ -19,8 +19,8 @@ use std::thread;
 pub const LAYER: Layer = Layer { name: "recaption", compare, record: None, bench: None };
 
 fn compare(run: &mut Run) {
-    // Where `rt check recaption` leaves it, unless another is named. The current folder is the project's root.
-    let program = std::env::var("TTML_RECAPTION").unwrap_or("target/bin/recaption".to_string());
+    // Where `rt run` in crates/recaption leaves it, unless another is named. The current folder is the project's root.
+    let program = std::env::var("TTML_RECAPTION").unwrap_or("crates/recaption/out/recaption".to_string());
     if !Path::new(&program).exists() {
         println!("recaption: there is no {program}; nothing is asked");
         return;
