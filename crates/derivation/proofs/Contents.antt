@@ -15,7 +15,7 @@ use Rattle.scan.specs.Marks as marks
 use Rattle.scan.specs.Marks.{starts_at}
 use Rattle.scan.specs.Posts.{Passed}
 use Rattle.scan.proofs.Runs.{run-low}
-use Rattle.tree.specs.Read.{Out, bad, close_mark, comment_mark, comment_end, cdata_mark, State, node_here, node_at_of, close_at, inner_turn, outer_turn}
+use Rattle.tree.specs.Read.{Out, close_mark, comment_mark, comment_end, cdata_mark, State, node_here, node_at_of, close_at, inner_turn, outer_turn}
 use Rattle.tree.specs.Read.{row_of, fresh, element_of}
 use Rattle.tree.proofs.NodeLaws.{comment-on, comment-here, comment-out}
 use Rattle.grammar.specs.Words.{Bytes}

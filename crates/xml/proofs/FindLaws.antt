@@ -192,10 +192,10 @@ found-later h w e x = record {
 pub find_found : {t u z name : List ℕ} {i a k : ℕ} (f : Forest) → Holds t u z i a f → find_row z name i f ≡ Row k → FoundAt t u z name i f k
 unfolding find_row find_element tree_in size
 find_found nil h e = never (sym e)
-find_found (text p n f) h e = found-later (omega arith) (omega arith) refl (find_found f (holds_text h).later e)
-find_found (section p n f) h e = found-later (omega arith) (omega arith) refl (find_found f (holds_section h).later e)
+find_found {i = i} (text p n f) h e = found-later (omega arith) (omega arith) refl (find_found {i = i + 1} f (holds_text h).later e)
+find_found {i = i} (section p n f) h e = found-later (omega arith) (omega arith) refl (find_found {i = i + 1} f (holds_section h).later e)
 find_found {t} {u} {z} {name} {i} {a} {k} (elem p n l c f) h e =
-    let r : find_row z name (i + 1 + size c) f ≡ Row k → FoundAt t u z name (i + 1 + size c) f k = find_found f (holds_elem h).later in
+    let r : find_row z name (i + 1 + size c) f ≡ Row k → FoundAt t u z name (i + 1 + size c) f k = find_found {i = i + 1 + size c} f (holds_elem h).later in
     by-test (named name (string_at z (p + 1) n)) here (λ w. found-later (omega arith) (omega arith) (rw w) (r (rw w at e)))
   where
     here : named name (string_at z (p + 1) n) ≡ true → FoundAt t u z name i (elem p n l c f) k

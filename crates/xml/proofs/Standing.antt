@@ -217,13 +217,13 @@ module _ (s : List ℕ) where
   then_more p x q y l a r e w (inr t) =
       inr (t.0, w ∙ t.1 ∙ ap (λ g. tag_from s r (record { list = g; count = t.0 })) (ap (◌++ l) e ∙ append_assoc x.list (a ∷ []) l))
 
-  pub attrs-at : {p : ℕ} {after w : Bytes} {l : List Attr} (d : Attributes after w l) → Stops blank after → At s p (w ++ after) → (x : TagState)
+  pub attrs-at : {after : Bytes} {p : ℕ} {w : Bytes} {l : List Attr} (d : Attributes after w l) → Stops blank after → At s p (w ++ after) → (x : TagState)
       → AttrsAt p x (p + length w) (attrs_placed length d p)
   unfolding attrs_placed tag_from
-  attrs-at {p} no_attribute t h x =
+  attrs-at {after} {p} no_attribute t h x =
       let z : p ≡ p + 0 = omega arith in
       inr (x.count, ap₂ (λ q l. tag_from s q (record { list = l; count = x.count })) z (sym (append-nil x.list)))
-  attrs-at {p} {after} (attribute {u = u} {b = b} {w = w} a bb d) t h x =
+  attrs-at {after} {p} (attribute {u = u} {b = b} {w = w} a bb d) t h x =
       let z : Bytes = w ++ after in
       let assoc : (u then b then w) ++ after ≡ u ++ (b ++ z) = simp append_assoc in
       let f : Front u = attribute-front a in
@@ -242,7 +242,7 @@ module _ (s : List ℕ) where
       (tag-turn x f.byte (f.rest ++ (b ++ z)) c f.inside (attr_placed length a p) (p + length u + length b) (e
       ∙ ap (places.attr (attr_placed length a p)) v) g)
       (omega (arith, front_length u f)))
-      (subst (λ r. AttrsAt (p + length u + length b) y r (attrs_placed length d (p + length u + length b))) m (attrs-at d t q y)))
+      (subst (λ r. AttrsAt (p + length u + length b) y r (attrs_placed length d (p + length u + length b))) m (attrs-at {p = p + length u + length b} d t q y)))
       (λ g. inl (
         7,
         p,

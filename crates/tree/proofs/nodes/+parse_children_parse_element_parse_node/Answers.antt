@@ -3,7 +3,7 @@ use Rattle.std.proofs.Common.{rules, arith, refl, sym, ◌∙◌}
 use Rattle.tree.specs.Read.{element_of, text_at, section_at}
 use Rattle.tree.proofs.NodeLaws.{node_end, node-text, node-section, node-close, node-element, el_deep, el_full, el_tag, tagged-torn}
 use Rattle.tree.proofs.NodeLaws.{tagged-open, enclose-bad, built_shut, built_elem, lower}
-use Rattle.tree.proofs.Going.{Going, start, out, fail_node, idle, step, inner_node, closed}
+use Rattle.tree.proofs.Going.{start, out, fail_node, idle, step, inner_node, closed}
 use Rattle.tree.proofs.nodes.+parse_children_parse_element_parse_node.Goals as goal
 
 pub parse_children-loop-pos-init : goal.parse_children-loop-pos-init

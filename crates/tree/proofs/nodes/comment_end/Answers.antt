@@ -1,4 +1,4 @@
-use Rattle.std.proofs.Common.{ℕ, List, ◌+◌, ◌≤◌, ◌<◌, ◌≡◌, sym, ◌∙◌, false, length, arith}
+use Rattle.std.proofs.Common.{ℕ, List, ◌+◌, ◌<◌, ◌≡◌, sym, ◌∙◌, false, length, arith}
 use Rattle.scan.specs.Marks.{starts_at, seek}
 use Rattle.scan.proofs.Splits.{whole_part}
 use Rattle.tree.specs.Read.{comment_end}

@@ -1,13 +1,9 @@
 -- `comment_end` meets its contract. The loop's invariant: the search for `-->` from `pos` goes on at `i`. The measure is what is left of the text.
 use Prim.Native.Nat.{◌+◌, ◌-◌, ◌≤◌}
-use mathlib.Core.Path.{◌≡◌, sym, ◌∙◌}
-use native.Mathlib.Omega.{arith}
+use mathlib.Core.Path.{◌≡◌}
 use lib.ListN.{length}
 use Rattle.scan.specs.Marks.{seek}
-use Rattle.scan.proofs.Splits.{whole_part}
 use Rattle.tree.specs.Read.{comment_end}
-use Rattle.tree.proofs.Comments.{end_start, end_on, end_got, end_passed}
-use borrow.Author.Rules.{rules}
 use Rattle.tree.proofs.nodes.comment_end.Given as goal
 
 abbrev pub invariant-loop-i : goal.invariant-loop-i

@@ -16,7 +16,8 @@ pub returns : goal.returns
 returns c =
     let passed : Passed cdata_end c.args.src.now (c.args.pos + 9) c.if-e-src.q
     = elim c.if-e-src.branch [
-        then-e-src w ↦ rw w.q-is (passed_got cdata_end c.args.src.now (c.args.pos + 9) c.find_seq-e.result c.find_seq-e.ensures w.if-e-src.true)
-      | else-e-src w ↦ rw w.q-is (section-unclosed cdata_end c.args.src.now (c.args.pos + 9) c.find_seq-e.result c.find_seq-e.ensures w.if-e-src.false) ] in
+      | then-e-src w ↦ rw w.q-is (passed_got cdata_end c.args.src.now (c.args.pos + 9) c.find_seq-e.result c.find_seq-e.ensures w.if-e-src.true)
+      | else-e-src w ↦ rw w.q-is (section-unclosed cdata_end c.args.src.now (c.args.pos + 9) c.find_seq-e.result c.find_seq-e.ensures w.if-e-src.false)
+    ] in
     λ u. built_section c.args.src.now c.args.nodes.now _ u c.args.pos c.args.k c.args.a c.find_seq-e.result c.if-k-ge-MOST.false c.requires.3 c.if-e-src.q c.find_seq-e.ensures
     passed c.put_node.ensures

@@ -1,9 +1,5 @@
-use Prim.Native.Nat.{◌-◌, ◌≤◌}
-use mathlib.Core.Path.{◌≡◌, refl, sym, ◌∙◌}
+use mathlib.Core.Path.{refl, sym, ◌∙◌}
 use native.Mathlib.Omega.{arith}
-use borrow.Author.Rules.{rules}
-use lib.ListN.{length}
-use Rattle.tree.specs.Read.{past_comments}
 use Rattle.tree.proofs.NodeLaws.{comment-on}
 use Rattle.tree.proofs.Comments.{comment-still}
 use Rattle.tree.proofs.nodes.skip_comments.Goals as goal

@@ -1,13 +1,9 @@
 -- `skip_comments` meets its contract. The loop's invariant: the comments from `pos` on end where those from `i` on end. The measure is what is left
 -- of the text. Assumes nothing.
 use Prim.Native.Nat.{◌-◌, ◌≤◌}
-use mathlib.Core.Path.{◌≡◌, refl, sym, ◌∙◌}
-use native.Mathlib.Omega.{arith}
-use borrow.Author.Rules.{rules}
+use mathlib.Core.Path.{◌≡◌}
 use lib.ListN.{length}
 use Rattle.tree.specs.Read.{past_comments}
-use Rattle.tree.proofs.NodeLaws.{comment-on}
-use Rattle.tree.proofs.Comments.{comment-still}
 use Rattle.tree.proofs.nodes.skip_comments.Given as goal
 
 abbrev pub invariant-loop-i : goal.invariant-loop-i

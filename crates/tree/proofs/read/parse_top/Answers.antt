@@ -1,9 +1,5 @@
-use Prim.Native.Nat.{◌-◌}
 use native.Mathlib.Omega.{arith}
-use lib.ListN.{length}
-use borrow.Author.Rules.{rules}
-use Rattle.tree.specs.Read.{outer_turn, element_of}
-use Rattle.tree.proofs.Going.{Going, start, out, fail_node, idle, step, outer_node}
+use Rattle.tree.proofs.Going.{start, out, fail_node, idle, step, outer_node}
 use Rattle.tree.proofs.read.parse_top.Goals as goal
 
 pub loop-pos-init : goal.loop-pos-init

@@ -1,11 +1,9 @@
 -- `parse_top` meets its contract. The loop's invariant is `Going`: the nodes so far are laid, and the rest of the text decides the outcome. The
 -- measure is what is left of the text. Assumes nothing.
 use Prim.Native.Nat.{◌-◌}
-use native.Mathlib.Omega.{arith}
 use lib.ListN.{length}
-use borrow.Author.Rules.{rules}
 use Rattle.tree.specs.Read.{outer_turn, element_of}
-use Rattle.tree.proofs.Going.{Going, start, out, fail_node, idle, step, outer_node}
+use Rattle.tree.proofs.Going.{Going}
 use Rattle.tree.proofs.read.parse_top.Given as goal
 
 abbrev pub invariant-loop-pos : goal.invariant-loop-pos

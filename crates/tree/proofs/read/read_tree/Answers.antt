@@ -5,7 +5,6 @@ use native.Mathlib.Omega.{arith}
 use lib.ListN.{length, replicate}
 use Rattle.tree.specs.Read.{prolog_end}
 use Rattle.tree.proofs.Whole.{in_range, refused, tree, read_of}
-use borrow.Author.Rules.{rules}
 use Rattle.tree.proofs.read.read_tree.Goals as goal
 
 pub parse_document-requires : goal.parse_document-requires

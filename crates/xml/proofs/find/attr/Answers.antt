@@ -1,0 +1,43 @@
+use Prim.Native.Nat.{◌-◌}
+use mathlib.Core.Path.{sym, ◌∙◌}
+use mathlib.Core.List.{List}
+use native.Mathlib.Omega.{arith}
+use Rattle.tree.specs.Trees.{Attr}
+use Rattle.xml.specs.Find.{Owned, find_value}
+use Rattle.xml.proofs.AttrRows.{Rest, rest-start, row_fits, end_fits, value-here, value-next, value-nowhere}
+use Rattle.xml.proofs.find.attr.Goals as goal
+
+pub overflow_add-end : goal.overflow_add-end
+overflow_add-end c =
+    record { fits = end_fits c.requires _ (omega arith) (omega arith) }
+
+pub loop-k-init : goal.loop-k-init
+loop-k-init c =
+    λ l y. rest-start y
+
+pub is_attr-requires : goal.is_attr-requires
+is_attr-requires c =
+    row_fits c.requires c.loop-k.invariant c.loop-k-test.true
+
+pub attr_at-requires : goal.attr_at-requires
+attr_at-requires c =
+    (row_fits c.requires c.loop-k.invariant c.loop-k-test.true).0
+
+pub returns-then-is_attr : goal.returns-then-is_attr
+returns-then-is_attr c =
+    let e = sym c.is_attr.ensures ∙ c.if-is_attr.true in
+    λ l y. rw c.attr_at.ensures (value-here c.args.name.now (c.loop-k.invariant l y) c.loop-k-test.true e)
+
+pub overflow_add-k : goal.overflow_add-k
+overflow_add-k c =
+    omega (arith, (row_fits c.requires c.loop-k.invariant c.loop-k-test.true).0)
+
+pub loop-k-preserved : goal.loop-k-preserved
+loop-k-preserved c =
+    let e = sym c.is_attr.ensures ∙ c.if-is_attr.false in
+    λ l y. value-next c.args.name.now (c.loop-k.invariant l y) c.loop-k-test.true e
+
+pub returns : goal.returns
+returns c =
+    let name = c.args.name.now in
+    λ l y. value-nowhere name (c.loop-k.invariant l y) c.loop-k-test.false
