@@ -1,0 +1,6 @@
+-- `span_at` meets its contract: two cells. Assumes nothing.
+use Rattle.track.proofs.parts.span_at.Goals as goal
+
+pub returns : goal.returns
+returns c =
+    rw (c.get.ensures, c.get-2.ensures)
