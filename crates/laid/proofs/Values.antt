@@ -486,8 +486,8 @@ module _ {S : Type 0} (k : Strings S) where
     element-values e g =
         let head = inside k (ascii "head") e.content in
         any _ (within 64 (length (params_of k e.attrs)) e.at (params_of k e.attrs)) _ λ params.
-        any _ (rate_of k (ascii "frame_rate_of") e.attrs) _ λ frame.
-        any _ (rate_of k (ascii "tick_rate_of") e.attrs) _ λ tick.
+        any _ (rate_of k (ascii "frameRate") e.attrs) _ λ frame.
+        any _ (rate_of k (ascii "tickRate") e.attrs) _ λ tick.
         bind (All StyleValues) _ (listed k (ascii "style") (style_of k) 0 (inside k (ascii "styling") head)) _
         (listed-values (ascii "style") (inside k (ascii "styling") head) 0) λ styles s.
         any _ (listed k (ascii "region") (region_of k) 0 (inside k (ascii "layout") head)) _ λ regions.

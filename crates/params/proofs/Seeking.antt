@@ -132,13 +132,13 @@ part-from s w r x = take_all (length s - r) (drop r s) (omega (arith, length-dro
 
 -- ---- the two rates
 module _ (l : List (nodes.Attr Placed)) where
-  pub frame_ticked : (has : Bool) (frame : Float) (a : Answer (Option Float)) → a ≡ rate_of with_places (ascii "tick_rate_of") l
+  pub frame_ticked : (has : Bool) (frame : Float) (a : Answer (Option Float)) → a ≡ rate_of with_places (ascii "tickRate") l
       → (a >>= ticked has frame) ≡ after_frame l has frame
   frame_ticked has frame a h = ap (λ (b : Answer (Option Float)). b >>= ticked has frame) h
 
-  pub timing-framed : (frame : Option Float) → is frame ≡ rate_of with_places (ascii "frame_rate_of") l
+  pub timing-framed : (frame : Option Float) → is frame ≡ rate_of with_places (ascii "frameRate") l
       → after_frame l (is_some frame) (float_or frame) ≡ timing_of l
   timing-framed frame h = ap (λ (b : Answer (Option Float)). b >>= λ f. after_frame l (is_some f) (float_or f)) h
 
-  pub timing-refused : (r : Refusal) → turned r ≡ rate_of with_places (ascii "frame_rate_of") l → turned r ≡ timing_of l
+  pub timing-refused : (r : Refusal) → turned r ≡ rate_of with_places (ascii "frameRate") l → turned r ≡ timing_of l
   timing-refused r h = ap (λ (b : Answer (Option Float)). b >>= λ f. after_frame l (is_some f) (float_or f)) h

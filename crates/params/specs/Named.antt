@@ -65,8 +65,8 @@ abbrev pub ticked : Bool → Float → Option Float → Answer TimingCtx
 ticked has frame tick = is (record { frame_rate = frame; has_frame_rate = has; tick_rate = float_or tick; has_tick_rate = is_some tick })
 
 abbrev pub after_frame : List (Attr Placed) → Bool → Float → Answer TimingCtx
-after_frame l has frame = rate_of with_places (ascii "tick_rate_of") l >>= ticked has frame
+after_frame l has frame = rate_of with_places (ascii "tickRate") l >>= ticked has frame
 
 abbrev pub timing_of : List (Attr Placed) → Answer TimingCtx
 timing_of l =
-    rate_of with_places (ascii "frame_rate_of") l >>= λ frame. rate_of with_places (ascii "tick_rate_of") l >>= λ tick. is (timing frame tick)
+    rate_of with_places (ascii "frameRate") l >>= λ frame. rate_of with_places (ascii "tickRate") l >>= λ tick. is (timing frame tick)

@@ -305,8 +305,8 @@ module _ {S : Type 0} (k : Strings S) where
       let head = inside k (ascii "head") e.content in
       bind (within 64 (length (params_of k e.attrs)) e.at (params_of k e.attrs)) _
       (numbered_within 64 (length (params_of k e.attrs)) e.at (params_of k e.attrs)) λ params.
-      bind (rate_of k (ascii "frame_rate_of") e.attrs) _ (rate-numbers (ascii "frame_rate_of") e.attrs) λ frame.
-      bind (rate_of k (ascii "tick_rate_of") e.attrs) _ (rate-numbers (ascii "tick_rate_of") e.attrs) λ tick.
+      bind (rate_of k (ascii "frameRate") e.attrs) _ (rate-numbers (ascii "frameRate") e.attrs) λ frame.
+      bind (rate_of k (ascii "tickRate") e.attrs) _ (rate-numbers (ascii "tickRate") e.attrs) λ tick.
       bind (listed k (ascii "style") (style_of k) 0 (inside k (ascii "styling") head)) _
       (listed-numbers (style_of k) style_numbers (ascii "style") (inside k (ascii "styling") head) 0) λ styles.
       bind (listed k (ascii "region") (region_of k) 0 (inside k (ascii "layout") head)) _

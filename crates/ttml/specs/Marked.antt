@@ -88,7 +88,7 @@ marked =
     -- "`-1s` is -1,000,000: a begin below zero moves a cue before its container"
     ∷ time (ascii "-1s") no_rates (Is (negsuc 999999))
     ∷ film (ascii "<tt><body><div begin=\"3s\"><p begin=\"-5s\" dur=\"1s\"/></div></body></tt>") (one_cue (negsuc 1999999) (negsuc 999999))
-    -- "`5f` is no time without frame_rate_of or with one at or below 0; at 25 it is 200,000"
+    -- "`5f` is no time without frameRate or with one at or below 0; at 25 it is 200,000"
     ∷ frameless (ascii "5f")
     ∷ time (ascii "5f") (frame_rate_of (pos 25)) (Is (pos 200000))
     -- "Written"

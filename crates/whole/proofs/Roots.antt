@@ -83,7 +83,7 @@ pub track_steps : (tt : Element Placed) → track_in with_places tt
     ≡ (limited tt.at tt.attrs >>= λ params. timing_of tt.attrs >>= λ ctx. content_means params ctx tt)
 unfolding track_in
 track_steps tt =
-    by_rates (limited tt.at tt.attrs) (rate_of with_places (ascii "frame_rate_of") tt.attrs) (rate_of with_places (ascii "tick_rate_of") tt.attrs)
+    by_rates (limited tt.at tt.attrs) (rate_of with_places (ascii "frameRate") tt.attrs) (rate_of with_places (ascii "tickRate") tt.attrs)
     (λ params ctx. content_means params ctx tt)
 
 -- ---- its parameters
