@@ -1,11 +1,11 @@
 -- The number and the value of what a text is read as. Assumes nothing.
 --     reads   the answer that is `decimal_of` has the number and the value that `Reads` says
 use Rattle.std.proofs.Common.{◌≡◌, ℕ, Bool, true, false, cond, not, ◌&&◌, ◌||◌, eqb, leb, List, length, refl}
-use mathlib.Core.Option.{Option, none, some}
+use mathlib.Core.Option.{none, some}
 use Rattle.decimals.specs.declared.read.Digits.{Digits}
 use Rattle.decimals.specs.declared.read.Decimal.{Decimal}
 use Rattle.decimals.specs.declared.read.Decimal.TheVariants.{Is, Nothing, Beyond}
-use Rattle.decimals.specs.Decimal.{unsigned, all_digits, scale_of, rest_of, is_exponent, is_word, significant, limited, unsigned_decimal, decimal_of}
+use Rattle.decimals.specs.Decimal.{unsigned, all_digits, scale_of, rest_of, is_exponent, is_word, significant, limited, decimal_of}
 use Rattle.decimals.specs.Decimal.{number_of, value_of, parses, keeps_limits, digits_of, Reads}
 
 -- no digit; a word; nothing behind the digits; an exponent there; within the limits

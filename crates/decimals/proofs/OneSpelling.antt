@@ -4,9 +4,9 @@
 --     one_spelling    two sizes with the same f32 are the same
 use Rattle.std.proofs.Common.{◌≡◌, ℕ, zero, suc, ◌+◌, ◌-◌, ◌*◌, ◌/◌, ◌%◌, ◌^◌, ◌<◌, ◌≤◌, Bool, true, false, eqb, leb, sym, refl, ap, ◌∙◌, subst, mul-le-mul_right, mod-lt, mul_assoc, suc-mul, mul_comm, add-mul, mul-le-mul_left, mul-pos, pow-suc, div-add-mod', le-div_iff_mul-le, zero-mul, mul-one, mul_right_comm, le_of_mul-le-mul_right, mul-div_cancel, mul_left_comm, arith, lit≤, ltb→lt, pow_pos, pow-add, eqb-true, leb-false, leb-true}
 use Prim.Native.Nat.{compare}
-use native.Mathlib.Nat.{one-le-pow, pow-le-pow_right}
+use native.Mathlib.Nat.{one-le-pow}
 use native.Mathlib.Nat.{mul-mod_left}
-use lib.Ieee.{Float, nan, inf, fin, binary32, prec, low, emax, size, units, round, nearest, down}
+use lib.Ieee.{Float, nan, inf, fin, binary32, size, round, down}
 use lib.Ieee.Digits.{size_reaches}
 use lib.Ieee.Fits.{nearest-le, round_is, down_pos}
 use lib.Ieee.Exact.{HasValue, units_val}
@@ -16,7 +16,6 @@ use lib.Ieee.Scale.{grid, overflow, normal_of_fraction}
 use borrow.Author.Tests.{eqb-false}
 use Rattle.decimals.specs.declared.size.Size.{Size}
 use Rattle.decimals.specs.Size.{is_size}
-use Rattle.decimals.specs.Floats.{value_in_of}
 use Rattle.decimals.proofs.Sizes.{IsSize, size-says, small_power}
 
 -- ---- rounding moves a fraction by no more than a unit, which is a 2 ^ -23rd of it at most

@@ -11,7 +11,7 @@
 --     size-made, size-says, size-again          what a decimal makes is a size; a size is what its spelling means
 --     reduced-value                             the zeros cut off change no value
 use Rattle.std.proofs.Common.{◌≡◌, ℕ, zero, suc, ◌+◌, ◌-◌, ◌*◌, ◌/◌, ◌%◌, ◌^◌, ◌<◌, ◌≤◌, Bool, true, false, cond, not, ◌&&◌, ◌||◌, eqb, ltb, leb, List, [], ◌∷◌, ◌++◌, length, set, ℤ, pos, negsuc, sym, refl, ap, ◌∙◌, append_assoc, append-nil, arith, lit≤, length-append, length-set, ltb-false, ltb-true, eq-eqb, ne_eqb, eqb-true, le-leb, leb-true}
-use mathlib.Core.Bool.{beq, and-false, and-eq-true_iff}
+use mathlib.Core.Bool.{beq, and-eq-true_iff}
 use native.Mathlib.Nat.{pow-le-pow_right}
 use lib.Seq.{sets, length-sets}
 use lib.Ieee.{Float, nan, inf, fin, Format, binary32, prec, emax, low, odd, units, round, is_nan, ne, to_bits, of_bits, fits}

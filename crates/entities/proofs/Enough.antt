@@ -5,21 +5,21 @@
 --     reference-run, length_run what follows an `&`, and how long its name is, by the bytes that the program takes
 use Prim.Native.Nat.{ℕ, zero, suc, ◌≤◌, ◌<◌}
 use mathlib.Core.Path.{◌≡◌, refl, sym, ap, ◌∙◌}
-use mathlib.Core.Bool.{Bool, true, false, cond, not, not-not, ◌&&◌, ◌||◌, and-false, false≢true, true≢false}
+use mathlib.Core.Bool.{Bool, true, false, cond, not, not-not, ◌&&◌, and-false, false≢true, true≢false}
 use mathlib.Core.List.{List, [], ◌∷◌}
 use mathlib.Core.Logic.{◌⊎◌, inl, inr}
 use native.Mathlib.Omega.{arith}
 use lib.ListN.{length, get_or, take}
 use lib.Seq.{get_or-take, length-take-le}
 use lib.Dec.{eqb, leb, ltb}
-use borrow.Author.Tests.{eqb-true, eqb-false, ne_eqb, lt-ltb, lt-leb, ltb-true, ltb-false}
+use borrow.Author.Tests.{eqb-true, eqb-false, ne_eqb, lt-leb, ltb-true, ltb-false}
 use Rattle.scan.specs.Bytes.{run_length_of}
 use Rattle.scan.specs.Names.{same_bytes_of}
 use Rattle.scan.specs.Every.{every}
 use Rattle.scan.proofs.Every.{both, every-at}
 use Rattle.scan.proofs.Naming.{same_eq}
 use Rattle.scan.proofs.Runs.{length_within}
-use Rattle.utf8.specs.Utf8.{sequence_at, char_at, scalar}
+use Rattle.utf8.specs.Utf8.{sequence_at, char_at}
 use Rattle.utf8.specs.White.{is_white}
 use Rattle.utf8.proofs.Utf8Laws.{sequence-ascii}
 use Rattle.numerals.specs.declared.Whole.{Whole}

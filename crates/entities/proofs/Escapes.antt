@@ -9,7 +9,7 @@ use mathlib.Core.Bool.{Bool, true, false, cond, not, ◌&&◌, false≢true, and
 use mathlib.Core.List.{List, [], ◌∷◌, ◌++◌, append-nil, append_assoc}
 use native.Mathlib.Omega.{arith}
 use native.Mathlib.Numerals.{add-one}
-use lib.ListN.{length, get_or, drop, length-append, length-take, length-drop, drop_of_length-le, take-append-drop}
+use lib.ListN.{length, get_or, drop, length-take, length-drop, drop_of_length-le, take-append-drop}
 use lib.Seq.{length-sets, drop-drop, drop-cons, get_or-take, get_or-drop}
 use lib.Dec.{eqb}
 use borrow.Author.Tests.{eqb-true, eqb-false, ne_eqb, not-false}

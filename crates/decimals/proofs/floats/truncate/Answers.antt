@@ -1,5 +1,5 @@
 -- `truncate` meets its contract: its four comparisons tell the whole part, or that it is past the ends.
-use Rattle.std.proofs.Common.{sym, ◌∙◌, w64, rules}
+use Rattle.std.proofs.Common.{sym, ◌∙◌, w64}
 use lib.IntN.{+ℤ_idl}
 use lib.Ieee.{of_bits, neg}
 use mir.ValLaws.{to_z_pos, to_z-of_z}

@@ -1,5 +1,5 @@
 -- `whole_part` meets its contract: the bits' two fields are the float as a fraction, and the shift cuts it.
-use Rattle.std.proofs.Common.{arith, rules}
+use Rattle.std.proofs.Common.{arith}
 use Rattle.decimals.proofs.Truncated.{bits_fields, bits_near, bits_right, bits_left, not_nan}
 use Rattle.decimals.proofs.floats.whole_part.Goals as goal
 

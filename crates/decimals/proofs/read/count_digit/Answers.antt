@@ -1,6 +1,5 @@
 -- `count_digit` meets its contract, by its three ways.
-use Rattle.std.proofs.Common.{◌-◌, ⊎_elim, arith, rules, eqb-true}
-use borrow.Author.Tests.{eqb-false}
+use Rattle.std.proofs.Common.{◌-◌, ⊎_elim, arith, eqb-true}
 use Rattle.decimals.proofs.Counting.{one_zero, one_past, one_more, room}
 use Rattle.decimals.proofs.read.count_digit.Goals as goal
 

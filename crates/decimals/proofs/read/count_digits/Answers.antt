@@ -1,5 +1,5 @@
-use Rattle.std.proofs.Common.{◌-◌, arith}
-use Rattle.decimals.proofs.Counting.{Going, going_start, going_asks, going_step, going_done}
+use Rattle.std.proofs.Common.{arith}
+use Rattle.decimals.proofs.Counting.{going_start, going_asks, going_step, going_done}
 use Rattle.decimals.proofs.read.count_digits.Goals as goal
 
 pub loop-i-init : goal.loop-i-init

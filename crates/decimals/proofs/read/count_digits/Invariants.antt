@@ -1,6 +1,6 @@
 -- `count_digits` meets its contract. The loop's invariant: the digits before `i` are read. The measure is what is left of the part.
-use Rattle.std.proofs.Common.{◌-◌, arith}
-use Rattle.decimals.proofs.Counting.{Going, going_start, going_asks, going_step, going_done}
+use Rattle.std.proofs.Common.{◌-◌}
+use Rattle.decimals.proofs.Counting.{Going}
 use Rattle.decimals.proofs.read.count_digits.Given as goal
 
 abbrev pub invariant-loop-i : goal.invariant-loop-i

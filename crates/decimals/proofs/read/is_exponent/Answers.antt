@@ -1,6 +1,6 @@
 -- `is_exponent` meets its contract: a law for each way that the text can go on.
-use Rattle.std.proofs.Common.{◌<◌, false, length, eq-eqb, ne_eqb, ◌≡◌, ◌+◌, true, ◌||◌, eqb, get_or, sym, ◌∙◌, ⊎_elim, arith, rules}
-use borrow.Author.Tests.{not-true, not-false, eqb-false}
+use Rattle.std.proofs.Common.{◌<◌, false, length, eq-eqb, ne_eqb, ◌≡◌, ◌+◌, true, ◌||◌, eqb, get_or, sym, ◌∙◌, arith}
+use borrow.Author.Tests.{not-true, eqb-false}
 use Rattle.decimals.proofs.Reading.{is-first, is-second, is-neither, exponent_none, exponent_off, exponent_signed, exponent_bare}
 use Rattle.decimals.proofs.read.is_exponent.Goals as goal
 use Rattle.decimals.proofs.read.is_exponent.Goals.{Joined-else-text-from-ne101, else-text-from-ne101-via-then-text-from-ne101+else-text-from-ne69, else-text-from-ne101-via-else-text-from-ne101, then-text-digits-eq43-via-then-text-digits-eq43, then-text-digits-eq43-via-else-text-digits-eq43+then-text-digits-eq45, then-digits-text+else-text-digits-eq43+else-text-digits-eq45, else-digits-text}

@@ -1,5 +1,5 @@
 -- `is_word` meets its contract: one of the three words.
-use Rattle.std.proofs.Common.{true, false, sym, ◌∙◌, true≢false}
+use Rattle.std.proofs.Common.{sym, ◌∙◌, true≢false}
 use Rattle.decimals.proofs.Reading.{word_first, word-second, word-last}
 use Rattle.decimals.proofs.read.is_word.Goals.{then-eq_ignore_ascii_case, else-eq_ignore_ascii_case}
 use Rattle.decimals.proofs.read.is_word.Goals as goal

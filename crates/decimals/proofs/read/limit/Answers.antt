@@ -1,5 +1,5 @@
 -- `limit` meets its contract: both rows of digits are counted as one.
-use Rattle.std.proofs.Common.{◌-◌, ◌++◌, length, take, drop, sym, arith, rules}
+use Rattle.std.proofs.Common.{◌-◌, ◌++◌, length, take, drop, sym, arith}
 use Rattle.decimals.specs.Steps.{Counted}
 use Rattle.decimals.proofs.Reading.{limited-far, limited-long, limited-is, room-before, both_read}
 use Rattle.decimals.proofs.read.limit.Goals as goal
@@ -11,7 +11,6 @@ returns-then-decimals-scale c =
 pub count_digits-requires : goal.count_digits-requires
 count_digits-requires c =
     room-before c.args.text.now c.args.whole c.args.from c.requires.0 (omega arith)
-
 
 pub returns-then-digits-count : goal.returns-then-digits-count
 returns-then-digits-count c =

@@ -1,6 +1,5 @@
 -- `read_any` meets its contract: the places that it finds give the text's shape, and a law says what each shape spells.
-use Rattle.std.proofs.Common.{◌≡◌, sym, ap, ◌∙◌, ⊎_elim, rules, eqb-true}
-use borrow.Author.Tests.{eqb-false}
+use Rattle.std.proofs.Common.{◌≡◌, sym, ap, ◌∙◌, ⊎_elim, eqb-true}
 use Rattle.scan.proofs.Splits.{whole_part}
 use Rattle.decimals.specs.Decimal.{is_word}
 use Rattle.decimals.proofs.Reading.{Shape, shape_bare, shape_point, shape_empty, shape_rest, shape_whole, shape_digital}

@@ -1,5 +1,5 @@
 -- `read_decimal` meets its contract: no text, or what follows a sign or none.
-use Rattle.std.proofs.Common.{sym, ◌∙◌, arith, rules}
+use Rattle.std.proofs.Common.{sym, ◌∙◌, arith}
 use Rattle.decimals.proofs.Reading.{decimal-none, decimal-signed}
 use Rattle.decimals.proofs.Numbers.{reads}
 use Rattle.decimals.proofs.read.read_decimal.Goals as goal

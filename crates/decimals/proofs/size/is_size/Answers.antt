@@ -1,5 +1,5 @@
 -- `is_size` meets its contract: its spelling first, then its f32.
-use Rattle.std.proofs.Common.{sym, ap, ◌∙◌, rules}
+use Rattle.std.proofs.Common.{sym, ap, ◌∙◌}
 use borrow.Author.Tests.{not-true, not-false}
 use Rattle.decimals.specs.Floats.{same_float}
 use Rattle.decimals.proofs.Sizes.{size-not, size-spelled, spelled-finite}

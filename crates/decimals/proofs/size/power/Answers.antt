@@ -1,4 +1,4 @@
-use Rattle.std.proofs.Common.{◌≡◌, ◌-◌, ◌^◌, ◌≤◌, refl, pow-suc, add-one, arith}
+use Rattle.std.proofs.Common.{◌≡◌, refl, pow-suc, add-one, arith}
 use Rattle.decimals.proofs.Sizes.{small_power}
 use Rattle.decimals.proofs.size.power.Goals as goal
 

@@ -1,6 +1,5 @@
 -- `power` meets its contract. The loop's invariant: `p` is the power so far. The measure is what is left of the scale.
-use Rattle.std.proofs.Common.{◌≡◌, ◌-◌, ◌^◌, ◌≤◌, refl, pow-suc, add-one, arith}
-use Rattle.decimals.proofs.Sizes.{small_power}
+use Rattle.std.proofs.Common.{◌≡◌, ◌-◌, ◌^◌, ◌≤◌}
 use Rattle.decimals.proofs.size.power.Given as goal
 
 abbrev pub invariant-loop-i : goal.invariant-loop-i

@@ -1,6 +1,6 @@
 -- `put_size` meets its contract: its pieces are the spelling's, each written where the one before ends.
 use Rattle.decimals.specs.Size.{spelling}
-use Rattle.std.proofs.Common.{length, ap, ◌∙◌, ⊎_elim, arith, length-set, rules}
+use Rattle.std.proofs.Common.{length, ap, ◌∙◌, arith, length-set}
 use native.Mathlib.Nat.{one-le-pow}
 use lib.Seq.{length-sets}
 use Rattle.scan.specs.Posts.{Appended}
@@ -80,7 +80,6 @@ returns c =
     c.if-s.out (begun ((goal.at.returns c).Joined-s)) c.requires.0 c.put_digits-end.new.out c.put_digits-end.result wrote c.if-s-eq0.false _ _
     (rw c.power-p.ensures at c.put_digits.ensures)
 
-
 pub overflow_add-end : goal.overflow_add-end
 overflow_add-end c =
     let wrote : Appended (before c.args.s.digits c.args.s.scale) c.if-s.start c.if-s.out c.put_digits-end.new.out c.put_digits-end.result =
@@ -96,21 +95,20 @@ overflow_add-end c =
 pub put_digits-requires : goal.put_digits-requires
 put_digits-requires c =
     let wrote : Appended (before c.args.s.digits c.args.s.scale) c.if-s.start c.if-s.out c.put_digits-end.new.out c.put_digits-end.result =
-    rw (c.decimal_width.ensures, c.power-p.ensures) at c.put_digits-end.ensures in
-    (
-  rw (length-set c.put_digits-end.new.out c.put_digits-end.result 46) (omega (
-    arith,
-    room-point c.args.s.negative
-        c.args.s.digits c.args.s.scale c.args.at c.args.out.now c.if-s.start c.if-s.out (begun ((goal.at.put_digits-requires c).Joined-s))
-        c.requires.0
-        c.put_digits-end.new.out c.put_digits-end.result wrote c.if-s-eq0.false,
-    long_two c.args.s.negative c.args.s.digits
-        c.args.s.scale c.args.at c.args.out.now c.if-s.start c.if-s.out (begun ((goal.at.put_digits-requires c).Joined-s)) c.requires.0
-        c.put_digits-end.new.out c.put_digits-end.result wrote,
-  )),
-  omega arith,
-  omega arith,
-)
+    rw (c.decimal_width.ensures, c.power-p.ensures) at c.put_digits-end.ensures in (
+      rw (length-set c.put_digits-end.new.out c.put_digits-end.result 46) (omega (
+        arith,
+        room-point c.args.s.negative
+            c.args.s.digits c.args.s.scale c.args.at c.args.out.now c.if-s.start c.if-s.out (begun ((goal.at.put_digits-requires c).Joined-s))
+            c.requires.0
+            c.put_digits-end.new.out c.put_digits-end.result wrote c.if-s-eq0.false,
+        long_two c.args.s.negative c.args.s.digits
+            c.args.s.scale c.args.at c.args.out.now c.if-s.start c.if-s.out (begun ((goal.at.put_digits-requires c).Joined-s)) c.requires.0
+            c.put_digits-end.new.out c.put_digits-end.result wrote,
+      )),
+      omega arith,
+      omega arith,
+    )
 
 pub shape_of-out : goal.shape_of-out
 shape_of-out c =

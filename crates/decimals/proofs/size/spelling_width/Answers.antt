@@ -1,5 +1,5 @@
 -- `spelling_width` meets its contract: the lengths of the spelling's pieces.
-use Rattle.std.proofs.Common.{ℕ, ◌∙◌, ◌≡◌, ◌/◌, ◌^◌, ◌≤◌, length, ⊎_elim, arith, rules}
+use Rattle.std.proofs.Common.{ℕ, ◌∙◌, ◌≡◌, ◌/◌, ◌^◌, ◌≤◌, length, arith}
 use native.Mathlib.Nat.{one-le-pow}
 use Rattle.numerals.specs.Written.{decimal_width}
 use Rattle.numerals.proofs.Writing.{width_few}

@@ -1,8 +1,5 @@
-use Prim.Native.Nat.{◌-◌}
-use lib.ListN.{length}
-use Rattle.entities.proofs.Decoding.{Decoding, run-mark, decoding_start, decoding_run, decoding_step, decoding_left, decoding_room}
+use Rattle.entities.proofs.Decoding.{run-mark, decoding_start, decoding_run, decoding_step, decoding_left, decoding_room}
 use Rattle.entities.proofs.Decoding.{decoding_done}
-use borrow.Author.Rules.{rules}
 use Rattle.entities.proofs.decode.decode_entities.Goals as goal
 
 pub loop-from-init : goal.loop-from-init

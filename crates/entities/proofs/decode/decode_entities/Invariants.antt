@@ -2,9 +2,7 @@
 -- the text.
 use Prim.Native.Nat.{◌-◌}
 use lib.ListN.{length}
-use Rattle.entities.proofs.Decoding.{Decoding, run-mark, decoding_start, decoding_run, decoding_step, decoding_left, decoding_room}
-use Rattle.entities.proofs.Decoding.{decoding_done}
-use borrow.Author.Rules.{rules}
+use Rattle.entities.proofs.Decoding.{Decoding}
 use Rattle.entities.proofs.decode.decode_entities.Given as goal
 
 abbrev pub invariant-loop-from : goal.invariant-loop-from

@@ -3,7 +3,6 @@ use mathlib.Core.Path.{refl}
 use native.Mathlib.Omega.{arith}
 use Rattle.utf8.proofs.Utf8Laws.{encode-short}
 use Rattle.entities.proofs.Decoding.{stepped_to, stepped_literal}
-use borrow.Author.Rules.{rules}
 use Rattle.entities.proofs.decode.decode_reference.Goals as goal
 
 pub put_char-to-requires : goal.put_char-to-requires

@@ -3,7 +3,6 @@ use Prim.Native.Nat.{◌≤◌}
 use native.Mathlib.Omega.{arith}
 use lib.Seq.{length-sets}
 use lib.ListN.{length, get_or}
-use borrow.Author.Rules.{rules}
 use Rattle.scan.specs.Part.{part}
 use Rattle.scan.specs.Posts.{Appended, Wrote}
 use Rattle.scan.specs.declared.table.Written.TheVariants.{Full}

@@ -1,8 +1,5 @@
-use Prim.Native.Nat.{◌-◌}
 use native.Mathlib.Omega.{arith}
-use lib.ListN.{length}
-use borrow.Author.Rules.{rules}
-use Rattle.entities.proofs.Escapes.{Escaping, starts, goes, full, last}
+use Rattle.entities.proofs.Escapes.{starts, goes, full, last}
 use Rattle.entities.proofs.escape.escape.Goals as goal
 
 pub loop-out-init : goal.loop-out-init

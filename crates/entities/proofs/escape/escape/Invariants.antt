@@ -1,10 +1,8 @@
 -- `escape` meets its contract. The loop's invariant: what is written for the text up to `from` stands from `at` on, up to `to`. The measure is what
 -- is left of the text.
 use Prim.Native.Nat.{◌-◌}
-use native.Mathlib.Omega.{arith}
 use lib.ListN.{length}
-use borrow.Author.Rules.{rules}
-use Rattle.entities.proofs.Escapes.{Escaping, starts, goes, full, last}
+use Rattle.entities.proofs.Escapes.{Escaping}
 use Rattle.entities.proofs.escape.escape.Given as goal
 
 abbrev pub invariant-loop-out : goal.invariant-loop-out

@@ -4,7 +4,6 @@ use native.Mathlib.Omega.{arith}
 use Rattle.numerals.proofs.Numerals.{after-sign}
 use Rattle.entities.specs.Reference.{character_reference}
 use Rattle.entities.proofs.References.{lookup-none, lookup-number, lookup-name}
-use borrow.Author.Rules.{rules}
 use Rattle.entities.proofs.reference.lookup_entity.Goals as goal
 
 pub returns-then-name-eq0 : goal.returns-then-name-eq0

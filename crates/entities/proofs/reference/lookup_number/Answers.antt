@@ -8,7 +8,6 @@ use Rattle.numerals.specs.Numerals.{numeral_of}
 use Rattle.numerals.proofs.Numerals.{after-sign}
 use Rattle.entities.specs.Reference.{character}
 use Rattle.entities.proofs.References.{number-none, number-hex, number-decimal}
-use borrow.Author.Rules.{rules}
 use Rattle.entities.proofs.reference.lookup_number.Goals as goal
 
 pub returns-then-rest-eq0 : goal.returns-then-rest-eq0
@@ -26,4 +25,3 @@ returns-in-88 c =
     let s = c.args.rest.now in
     c.char_of.ensures ∙ (ap character (c.read_numeral.ensures ∙ ap (λ (l : List ℕ). numeral_of l 16 0xFFFF_FFFF false) (after-sign s))
     ∙ sym (number-hex s (omega arith) c.in-88.is))
-

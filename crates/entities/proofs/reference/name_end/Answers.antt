@@ -1,12 +1,8 @@
-use Prim.Native.Nat.{◌+◌, ◌-◌, ◌≤◌}
-use mathlib.Core.Path.{◌≡◌, sym, ◌∙◌}
+use mathlib.Core.Path.{sym, ◌∙◌}
 use native.Mathlib.Omega.{arith}
 use borrow.Author.Tests.{not-true, not-false}
-use lib.ListN.{length, drop}
 use Rattle.entities.specs.Steps.{taken_byte}
-use Rattle.scan.specs.Bytes.{run_length_of}
 use Rattle.scan.proofs.Runs.{length_out, length_stop, length_on}
-use borrow.Author.Rules.{rules}
 use Rattle.entities.proofs.reference.name_end.Goals as goal
 
 pub returns-then-not-is_taken : goal.returns-then-not-is_taken

@@ -1,14 +1,10 @@
 -- `name_end` meets its contract. The loop's invariant: the name at `pos` has `i - pos` bytes, at most 17, and those of the name at `i`. The measure
 -- is what is left of the text.
 use Prim.Native.Nat.{◌+◌, ◌-◌, ◌≤◌}
-use mathlib.Core.Path.{◌≡◌, sym, ◌∙◌}
-use native.Mathlib.Omega.{arith}
-use borrow.Author.Tests.{not-true, not-false}
+use mathlib.Core.Path.{◌≡◌}
 use lib.ListN.{length, drop}
 use Rattle.entities.specs.Steps.{taken_byte}
 use Rattle.scan.specs.Bytes.{run_length_of}
-use Rattle.scan.proofs.Runs.{length_out, length_stop, length_on}
-use borrow.Author.Rules.{rules}
 use Rattle.entities.proofs.reference.name_end.Given as goal
 
 abbrev pub invariant-loop-i : goal.invariant-loop-i

@@ -1,7 +1,6 @@
 -- `reference` meets its contract: one law for each way that what follows an `&` can end.
 use mathlib.Core.Path.{sym, ◌∙◌}
 use Rattle.entities.proofs.References.{refers_out, refers_long, refers_open, refers_none, refers_to}
-use borrow.Author.Rules.{rules}
 use Rattle.entities.proofs.reference.reference.Goals as goal
 
 pub returns-then-src-end : goal.returns-then-src-end

@@ -1,0 +1,29 @@
+-- Hours up to the first colon, and what follows them.
+use Prim.Native.Nat.{◌+◌}
+use mathlib.Core.Path.{sym, ◌∙◌}
+use borrow.Author.Rules.{rules}
+use Rattle.scan.specs.Split.{split_at}
+use Rattle.times.specs.Expressions.{◌>>=◌, whole_in}
+use Rattle.times.specs.Steps.{after_hours}
+use Rattle.times.proofs.Parts.{first-length, rest_of, hours_last, hours_more, hours_none}
+use Rattle.times.proofs.clock.clock_time.Goals as goal
+
+pub returns-then-text-colon : goal.returns-then-text-colon
+returns-then-text-colon c =
+    sym (hours_last _ _ c.find_byte-colon.ensures _ c.if-text-colon.true)
+
+pub slice_bounds-integer-end : goal.slice_bounds-integer-end
+slice_bounds-integer-end c =
+    first-length _ _ _ c.find_byte-colon.ensures
+
+pub returns-in-Is : goal.returns-in-Is
+returns-in-Is c =
+    let hours = sym c.in-Is.is ∙ c.integer.ensures in
+    let rest = rest_of c.args.text.now (c.find_byte-colon.result + 1) in
+    c.after_hours.ensures
+    ∙ ((λ i. whole_in (hours i) >>= λ x. after_hours x (split_at 58 (rest i)) c.args.ctx)
+    ∙ sym (hours_more _ _ c.find_byte-colon.ensures c.args.ctx c.if-text-colon.false))
+
+pub returns-in-Nothing : goal.returns-in-Nothing
+returns-in-Nothing c =
+    hours_none _ _ c.find_byte-colon.ensures _ _ c.integer.ensures c.in-Nothing.is c.if-text-colon.false

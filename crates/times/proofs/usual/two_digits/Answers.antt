@@ -1,0 +1,22 @@
+-- Each digit is at most 1,000, so that nothing passes 64 bits.
+use native.Mathlib.Omega.{arith}
+use Rattle.times.proofs.UsualTimes.{digit_most}
+use borrow.Author.Rules.{rules}
+use Rattle.times.proofs.usual.two_digits.Goals as goal
+
+pub overflow_mul-result : goal.overflow_mul-result
+overflow_mul-result c =
+    record { fits = omega (arith, c.digit.ensures, digit_most c.args.tens) }
+
+pub overflow_add-result : goal.overflow_add-result
+overflow_add-result c =
+    record {
+      fits = omega (
+        arith,
+        c.digit.ensures,
+        digit_most c.args.tens,
+        c.digit-2.ensures,
+        digit_most
+            c.args.ones,
+      );
+    }
