@@ -34,4 +34,4 @@ within-any a b (x ∷ l) (suc i) h = within-any a b l i (omega arith)
 
 -- a number of 64 bits with a sign
 pub same_time : (z : ℤ) → mag z < 2 ^ hbits w64 → to_z w64 (of_z w64 z) ≡ z
-same_time z h = to_z-of_z (record { sfits = h })
+same_time z h = to_z-of_z {w = w64} (record { sfits = h })

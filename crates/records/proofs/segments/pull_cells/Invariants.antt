@@ -1,0 +1,10 @@
+-- `pull_cells` meets its contract. The loop's invariant: the cells before `i` are moved. The measure is what is left. Assumes nothing.
+use Prim.Native.Nat.{◌-◌}
+use Rattle.records.proofs.Moves.{Pulled}
+use Rattle.records.proofs.segments.pull_cells.Given as goal
+
+abbrev pub invariant-loop-i : goal.invariant-loop-i
+invariant-loop-i l = Pulled l.initial.cells l.at l.end l.by l.i l.cells
+
+abbrev pub decreases-loop-i : goal.decreases-loop-i
+decreases-loop-i l = l.end - l.i
