@@ -59,6 +59,7 @@ module _ (r : List Bytes) where
 
   pub member-others : (a : Bytes) (l : List Bytes) → is_in a r ≡ false → a ∈ l → a ∈ others r l
   unfolding others
+  member-others a [] e m = elim m [ ]
   member-others a (b ∷ l) e (Memᴰ.head q) = let f : is_in b r ≡ false = rw q at e in rw f (Memᴰ.head q)
   member-others a (b ∷ l) e (Memᴰ.tail m) =
       by-test (is_in b r) (λ f. rw f (member-others a l e m)) (λ f. rw f (Memᴰ.tail (member-others a l e m)))

@@ -32,6 +32,7 @@ is_in-member a (x ∷ l) h =
 
 pub member-is_in : (a : Bytes) (l : List Bytes) → a ∈ l → is_in a l ≡ true
 unfolding is_in
+member-is_in a [] m = elim m [ ]
 member-is_in a (x ∷ l) (Memᴰ.head e) = rw (e, same_refl x)
 member-is_in a (x ∷ l) (Memᴰ.tail m) = by-test (same_bytes_of a x) (λ e. rw e) (λ e. rw e (member-is_in a l m))
 

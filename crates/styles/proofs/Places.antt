@@ -45,6 +45,7 @@ ids_length x z t n = names-length x z (rows_in t n) ∙ rows-count t n
 module _ (x z : List ℕ) where
   name_member : (a : Row) (l : List Row) → a ∈ l → bytes_of x z a ∈ names_of x z l
   unfolding names_of
+  name_member a [] m = elim m [ ]
   name_member a (b ∷ l) (Memᴰ.head e) = Memᴰ.head (ap (bytes_of x z) e)
   name_member a (b ∷ l) (Memᴰ.tail m) = Memᴰ.tail (name_member a l m)
 

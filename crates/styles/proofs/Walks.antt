@@ -69,6 +69,7 @@ module _ (styles : List (Style Bytes)) where
   grows (first {a = a} {w = w} {m = mid} e d k) b m = grows k b (own-after a mid (grows d b (met-after a w m)))
 
   pub takes : {ids : List Bytes} {w r : Walked} → Walks ids w r → (b : Bytes) → b ∈ ids → b ∈ r.visited
+  takes (done _) b m = elim m [ ]
   takes (again {a = a} {w = w} e d) b (Memᴰ.head p) = grows d b (Memᴰ.cast p (is_in-member a w.visited e))
   takes (again e d) b (Memᴰ.tail m) = takes d b m
   takes (first {a = a} {w = w} {m = mid} e d k) b (Memᴰ.head p) = grows k b (own-after a mid (grows d b (Memᴰ.cast p (met a w))))

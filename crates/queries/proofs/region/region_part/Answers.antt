@@ -1,0 +1,41 @@
+-- `region_part` meets its contract. Assumes nothing.
+use mathlib.Core.Path.{refl, sym, ap, ◌∙◌}
+use mathlib.Core.List.{[]}
+use native.Mathlib.Omega.{arith}
+use Rattle.track.specs.Tables.{cell, region_at}
+use Rattle.queries.specs.declared.own.Value.{Value}
+use Rattle.queries.proofs.Regions.{row_within, region_none, region_refused, region_done}
+use borrow.Author.Rules.{rules}
+use Rattle.queries.proofs.region.region_part.Goals as goal
+
+pub region_at-region-requires : goal.region_at-region-requires
+region_at-region-requires c =
+    omega (arith, row_within _ [] _ _ _ _ (sym c.find_region.ensures ∙ c.in-Row.is), c.requires.named.rows)
+
+pub own_values-requires : goal.own_values-requires
+unfolding region_at cell
+own_values-requires c =
+    rw c.region_at-region.ensures (c.requires.extras _ (row_within _ [] _ _ _ _ (sym c.find_region.ensures ∙ c.in-Row.is)))
+
+pub value_of-value-requires : goal.value_of-value-requires
+unfolding region_at cell
+value_of-value-requires c =
+    rw c.region_at-region.ensures (c.requires.extras _ (row_within _ [] _ _ _ _ (sym c.find_region.ensures ∙ c.in-Row.is))).rows
+
+pub returns-in-Nothing : goal.returns-in-Nothing
+returns-in-Nothing c =
+    region_none _ _ _ _ _ (sym c.find_region.ensures ∙ c.in-Nothing.is) _ c.blank_part.ensures
+
+pub returns-in-Refused : goal.returns-in-Refused
+unfolding region_at cell
+returns-in-Refused c =
+    region_refused _ _ _ _ _ _ (sym c.find_region.ensures
+    ∙ c.in-Row.is) _ (rw (c.in-Refused.is, c.region_at-region.ensures) at c.own_values.ensures)
+
+pub returns-in-Is : goal.returns-in-Is
+unfolding region_at cell
+returns-in-Is c =
+    let h = sym c.find_region.ensures ∙ c.in-Row.is in
+    region_done _ _ _ _ _ _ h _ (c.requires.extras _ (row_within _ [] _ _ _ _ h)) (rw (c.in-Is.is, c.region_at-region.ensures) at
+    c.own_values.ensures)
+    (ap (λ (v : Value). v.span) (rw c.region_at-region.ensures at c.value_of-value.ensures))

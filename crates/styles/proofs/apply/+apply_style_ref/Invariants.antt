@@ -1,0 +1,22 @@
+use Rattle.std.proofs.Common.{◌≡◌, [], ◌∷◌, ℕ, ◌+◌, ◌-◌, ◌*◌, ◌<◌, ◌≤◌, length}
+use Rattle.scan.specs.Part.{string_at}
+use Rattle.utf8.specs.White.{words}
+use Rattle.track.specs.Meaning.{bytes_at}
+use Rattle.track.specs.Tables.{span}
+use Rattle.styles.specs.Ids.{Held}
+use Rattle.styles.specs.Places.{row, Walks}
+use Rattle.styles.specs.Steps.{Chained, Ready, Stands, ChainOf, OwnStyle, Visits, ApplyPost, LaysOver, PairPost, AnswerPost}
+use Rattle.scan.specs.Part.{part}
+use Rattle.styles.proofs.Along.{Along}
+use Rattle.styles.proofs.apply.+apply_style_ref.Given as goal
+
+abbrev pub decreases-apply_style_ref : goal.decreases-apply_style_ref
+decreases-apply_style_ref l = length l.ids.now - l.w.count * 4
+
+abbrev pub invariant-loop-r : goal.invariant-loop-r
+invariant-loop-r l =
+    Along l.text l.styles l.sizes l.strings l.n (part l.from l.to l.strings) l.initial.ids l.initial.s (row 1 (span l.from (l.to - l.from))) l.p
+    l.ids l.heads l.s
+
+abbrev pub decreases-loop-r : goal.decreases-loop-r
+decreases-loop-r l = length (part l.from l.to l.strings) - l.p

@@ -1,0 +1,19 @@
+-- `apply_refs` meets its contract. The loop's invariant is `Along` the words of the value. Assumes nothing.
+use Rattle.styles.proofs.Along.{part_length, Along, along_start, along_step, along_done, word_end, word-within, full-in}
+use Rattle.styles.proofs.Applying.{stands_name}
+use Prim.Native.Nat.{◌+◌, ◌-◌, ◌≤◌}
+use mathlib.Core.Path.{◌≡◌, refl, sym, ◌∙◌}
+use native.Mathlib.Omega.{arith}
+use borrow.Author.Rules.{rules}
+use lib.ListN.{length}
+use Rattle.scan.specs.Part.{part, string_at}
+use Rattle.track.specs.Tables.{span}
+use Rattle.styles.specs.Places.{row}
+use Rattle.styles.proofs.apply.apply_refs.Given as goal
+
+abbrev pub invariant-loop-x : goal.invariant-loop-x
+invariant-loop-x l = Along l.text l.styles l.sizes l.strings l.n (part l.from l.to l.own)
+    l.initial.ids l.initial.s (row l.source (span l.from l.len)) l.p l.ids l.heads l.s
+
+abbrev pub decreases-loop-x : goal.decreases-loop-x
+decreases-loop-x l = length (part l.from l.to l.own) - l.p
