@@ -1,0 +1,20 @@
+-- `fill_cue` meets its contract.
+use mathlib.Core.Path.{sym, ◌∙◌}
+use lib.Seq.{length-take-le}
+use Rattle.writer.proofs.CallLaws.{fit_bytes, fit_full}
+use borrow.Author.Rules.{rules}
+use Rattle.writer.proofs.calls.fill_cue.Goals as goal
+
+pub slice_bounds-write_single-end-2 : goal.slice_bounds-write_single-end-2
+slice_bounds-write_single-end-2 c =
+    sym (length-take-le _ _ c.limit-end.ensures.within)
+
+pub returns-in-At : goal.returns-in-At
+returns-in-At c =
+    fit_bytes _ _ _ c.requires.1 c.limit-end.ensures _ _
+    (rw c.in-At.is at c.write_single.ensures)
+
+pub returns-in-Full : goal.returns-in-Full
+returns-in-Full c =
+    let p = rw c.in-Full.is at c.write_single.ensures in
+    fit_full _ _ _ c.requires.1 c.limit-end.ensures _ _ _ c.refused.ensures p c.clear_bytes.ensures

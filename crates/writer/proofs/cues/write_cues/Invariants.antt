@@ -1,0 +1,19 @@
+-- `write_cues` meets its contract.
+use Rattle.writer.proofs.Chaining.{puts_then}
+use Prim.Native.Nat.{ℕ, ◌+◌, ◌-◌, ◌≤◌, ◌<◌}
+use native.Mathlib.Omega.{arith}
+use borrow.Author.Rules.{rules}
+use Rattle.writer.proofs.Rowing.{Rowed, rowed_start, rowed_step, rowed_done, rowed_full}
+use Rattle.writer.proofs.Rowing.{lines-over}
+use Rattle.writer.specs.Rows.{line_of}
+use Rattle.track.specs.Meaning.{cue_in}
+use Rattle.written.specs.Written.{cue_text}
+use Rattle.writer.specs.Cues.{cue_tables}
+use Rattle.writer.proofs.cues.write_cues.Given as goal
+
+abbrev pub invariant-loop-i : goal.invariant-loop-i
+invariant-loop-i l = Rowed
+    (line_of (λ (j : ℕ). cue_text (cue_in (cue_tables l.cues l.times l.segments l.extras l.strings l.texts) j))) 0 l.n l.initial.to l.initial.out l.i l.to l.out
+
+abbrev pub decreases-loop-i : goal.decreases-loop-i
+decreases-loop-i l = l.n - l.i

@@ -1,0 +1,13 @@
+-- `put_if` meets its contract.
+use Rattle.writer.proofs.Chaining.{puts_none}
+use borrow.Author.Tests.{not-true, not-false}
+use Rattle.writer.proofs.pieces.put_if.Goals as goal
+
+pub returns-then-not-has : goal.returns-then-not-has
+returns-then-not-has c =
+    rw (not-true c.args.has c.if-not-has.true-raw) (puts_none _ _ c.requires)
+
+pub returns : goal.returns
+returns c =
+    rw (not-false c.args.has c.if-not-has.false-raw)
+    c.put.ensures

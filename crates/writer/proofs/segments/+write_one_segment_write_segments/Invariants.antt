@@ -1,0 +1,30 @@
+-- `write_segments` and `write_one_segment` meet their contracts. The measure is twice the room, and which of the two writes. The loop over
+-- siblings is `Spanning`. Assumes nothing.
+use Prim.Native.Nat.{ℕ, ◌+◌, ◌-◌, ◌*◌, ◌≤◌, ◌<◌}
+use mathlib.Core.Path.{◌≡◌}
+use mathlib.Core.Logic.{⊎_elim}
+use native.Mathlib.Omega.{arith}
+use mir.Syntax.{w64}
+use mir.ValLaws.{to_z-of_z}
+use borrow.Author.Rules.{rules}
+use Rattle.track.specs.Tables.{cell}
+use Rattle.track.proofs.Chains.{fails, holds}
+use Rattle.track.proofs.SegmentLaws.{readable}
+use Rattle.writer.proofs.Chaining.{puts_then}
+use Rattle.writer.proofs.Spanning.{Spanning, spanning-start, spanning-full, spanning-done, spanning-stamp, spanning-one, first}
+use Rattle.writer.proofs.Spanning.{ready_one, ready_walk, ready_cells, ready_within, ready_inside, one_leaf, one_wrapper}
+use Rattle.writer.proofs.segments.+write_one_segment_write_segments.Given as goal
+
+abbrev pub decreases-write_one_segment : goal.decreases-write_one_segment
+decreases-write_one_segment l = 2 * l.room
+
+abbrev pub decreases-write_segments : goal.decreases-write_segments
+decreases-write_segments l = 2 * l.room + 1
+
+abbrev pub invariant-write_segments-loop-i : goal.invariant-write_segments-loop-i
+invariant-write_segments-loop-i l =
+    Spanning l.segments l.strings l.texts l.from l.n l.room l.initial.to l.initial.out l.i l.to l.out l.inside
+
+abbrev pub decreases-write_segments-loop-i : goal.decreases-write_segments-loop-i
+decreases-write_segments-loop-i l =
+    l.end - l.i
