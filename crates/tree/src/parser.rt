@@ -1,5 +1,5 @@
 // The parser: the text and a position in it, held together as in the Rust's `XmlParser`. Its functions are thin: each takes the struct
-// apart, and the work is done by a covered function on the slice and the number. They are proved by walks of their MIR, by hand.
+// apart, and the work is done by a function on the slice and the number.
 ghost use Rattle.std.specs.Prelude.{◌≡◌, [], ◌∷◌, ◌≤◌, length, get_or};
 ghost use Rattle.tree.specs.Read.{top_of, prolog_from, prolog_end};
 ghost use Rattle.tree.specs.Posts.{Ready, ContentPost};
@@ -81,7 +81,7 @@ pub fn parse_nodes<'a>(p: XmlParser<'a>, nodes: &mut [u32], attrs: &mut [u32]) -
     crate::read::parse_top(p.src, nodes, attrs, p.pos)
 }
 
-// The text's nodes at top level. Its parameters are plain, so that whoever calls it needs no walk by hand.
+// The text's nodes at top level. Its parameters are plain.
 pub fn parse_document(src: &[u8], nodes: &mut [u32], attrs: &mut [u32]) -> Content
     requires { Ready src.now nodes.old attrs.old 0 0 0 }
     ensures { ContentPost (top_of src.now (prolog_end src.now)) src.now

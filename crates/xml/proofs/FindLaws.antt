@@ -44,7 +44,7 @@ siblings_of h = record { first = _; forest = _; stands = h.stands; lo = h.lo; pl
 element-cells : {t : List ℕ} {i e p n b m : ℕ} → RowIs t i 2 e p n b m → element_row t i
     ≡ record { place = p; name_len = n; end = e; first = b; many = m }
 unfolding element_row
-element-cells r = rw (r.place_is, r.len_is, r.end_is, r.first-is, r.many_is)
+element-cells r = cc
 
 module _ {t u z : List ℕ} {i a p n : ℕ} where
   text-row : (kind : ℕ) (f g : Forest) → Holds t u z i a f → RowIs t i kind (i + 1) p n 0 0 × Stands t (i + 1) a g

@@ -1,10 +1,6 @@
-use Prim.Native.Nat.{◌-◌}
 use mathlib.Core.Path.{sym, ◌∙◌}
-use mathlib.Core.List.{List}
 use native.Mathlib.Omega.{arith}
-use Rattle.tree.specs.Trees.{Attr}
-use Rattle.xml.specs.Find.{Owned, find_value}
-use Rattle.xml.proofs.AttrRows.{Rest, rest-start, row_fits, end_fits, value-here, value-next, value-nowhere}
+use Rattle.xml.proofs.AttrRows.{rest-start, row_fits, end_fits, value-here, value-next, value-nowhere}
 use Rattle.xml.proofs.find.attr.Goals as goal
 
 pub overflow_add-end : goal.overflow_add-end

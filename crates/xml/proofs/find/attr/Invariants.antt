@@ -1,11 +1,9 @@
 -- `attr` meets its contract. The loop goes on with the attributes from k on; the measure is what is left of them.
 use Prim.Native.Nat.{◌-◌}
-use mathlib.Core.Path.{sym, ◌∙◌}
 use mathlib.Core.List.{List}
-use native.Mathlib.Omega.{arith}
 use Rattle.tree.specs.Trees.{Attr}
 use Rattle.xml.specs.Find.{Owned, find_value}
-use Rattle.xml.proofs.AttrRows.{Rest, rest-start, row_fits, end_fits, value-here, value-next, value-nowhere}
+use Rattle.xml.proofs.AttrRows.{Rest}
 use Rattle.xml.proofs.find.attr.Given as goal
 
 abbrev pub invariant-loop-k : goal.invariant-loop-k

@@ -5,7 +5,6 @@ use native.Mathlib.Omega.{arith}
 use lib.ListN.{length}
 use Rattle.xml.proofs.Parsing.{nodes-stand_ready, attrs-stand_ready, left_small, left_refused, left_tree}
 use Rattle.xml.proofs.Promises.{parsed-of}
-use borrow.Author.Rules.{rules}
 use Rattle.xml.proofs.read.parse_xml.Goals as goal
 
 pub returns-then-strings-lt-STRING_CELLS : goal.returns-then-strings-lt-STRING_CELLS

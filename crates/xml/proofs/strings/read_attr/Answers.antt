@@ -1,7 +1,6 @@
 -- `read_attr` meets its contract.
 use native.Mathlib.Omega.{arith}
 use Rattle.xml.proofs.PassLaws.{value-long, value-short, attr-wrote}
-use borrow.Author.Rules.{rules}
 use Rattle.xml.proofs.strings.read_attr.Goals as goal
 
 pub put-requires : goal.put-requires

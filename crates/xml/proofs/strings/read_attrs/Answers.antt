@@ -1,12 +1,8 @@
-use Prim.Native.Nat.{◌-◌, ◌≤◌}
 use mathlib.Core.Path.{◌≡◌, refl, ap, ◌∙◌}
 use native.Mathlib.Omega.{arith}
 use lib.ListN.{length}
-use Rattle.scan.specs.Bytes.{other}
-use Rattle.scan.specs.Posts.{Passes}
 use Rattle.xml.specs.Steps.{attrs_read, attr_strings_read}
 use Rattle.xml.proofs.PassLaws.{attrs-room, attr-strings_room, attrs-ready, attrs-next, attr-strings_next}
-use borrow.Author.Rules.{rules}
 use Rattle.xml.proofs.strings.read_attrs.Goals as goal
 
 pub loop-k-init : goal.loop-k-init

@@ -1,13 +1,9 @@
 -- `read_attrs` meets its contract: the tables are those after the first k attributes.
 use Prim.Native.Nat.{◌-◌, ◌≤◌}
-use mathlib.Core.Path.{◌≡◌, refl, ap, ◌∙◌}
-use native.Mathlib.Omega.{arith}
-use lib.ListN.{length}
+use mathlib.Core.Path.{◌≡◌}
 use Rattle.scan.specs.Bytes.{other}
 use Rattle.scan.specs.Posts.{Passes}
 use Rattle.xml.specs.Steps.{attrs_read, attr_strings_read}
-use Rattle.xml.proofs.PassLaws.{attrs-room, attr-strings_room, attrs-ready, attrs-next, attr-strings_next}
-use borrow.Author.Rules.{rules}
 use Rattle.xml.proofs.strings.read_attrs.Given as goal
 
 abbrev pub invariant-loop-k : goal.invariant-loop-k

@@ -1,5 +1,5 @@
 -- `read_node` meets its contract: the row's place and kind tell what is written and where.
-use Rattle.std.proofs.Common.{◌≡◌, ◌+◌, ◌-◌, ap, refl, ◌∙◌, arith, length, length-take, length-drop}
+use Rattle.std.proofs.Common.{◌≡◌, ◌-◌, arith, length, length-take, length-drop}
 use Rattle.scan.specs.Posts.{Appended}
 use Rattle.xml.specs.Steps.{node_place, node_bytes}
 use Rattle.xml.proofs.PassLaws.{place_element, place_other, wrote_text, wrote_other, node-short}
@@ -11,18 +11,18 @@ use Rattle.xml.proofs.strings.read_node.Goals.{Joined-kind-eq-TEXT, then-kind-eq
 start_is : (c : Joined-kind-eq-ELEMENT) → c.if-kind-eq-ELEMENT.start ≡ node_place c.args.nodes.now c.args.k
 start_is c =
     elim c.if-kind-eq-ELEMENT.branch [
-      then-kind-eq-ELEMENT w ↦ place_element _ _ _ _ w.if-kind-eq-ELEMENT.true c.get-start.ensures w.start-is
-    | else-kind-eq-ELEMENT w ↦ place_other _ _ _ _ w.if-kind-eq-ELEMENT.false c.get-start.ensures w.start-is
+      | then-kind-eq-ELEMENT w ↦ place_element _ _ _ _ w.if-kind-eq-ELEMENT.true c.get-start.ensures w.start-is
+      | else-kind-eq-ELEMENT w ↦ place_other _ _ _ _ w.if-kind-eq-ELEMENT.false c.get-start.ensures w.start-is
     ]
 
 -- what is written
 laid-is : (c : Joined-kind-eq-TEXT) → c.if-kind-eq-ELEMENT.start ≡ node_place c.args.nodes.now c.args.k
     → Appended (node_bytes c.args.src.now c.args.nodes.now c.args.k) (node_place c.args.nodes.now c.args.k) c.args.strings.now c.if-kind-eq-TEXT.strings
-      c.if-kind-eq-TEXT.end
+    c.if-kind-eq-TEXT.end
 laid-is c p =
     elim c.if-kind-eq-TEXT.branch [
-      then-kind-eq-TEXT w ↦ rw (w.strings-is, w.end-is) (wrote_text _ _ _ _ _ _ _ _ p c.get-len.ensures w.if-kind-eq-TEXT.true w.decode-end.ensures)
-    | else-kind-eq-TEXT w ↦ rw (w.strings-is, w.end-is) (wrote_other _ _ _ _ _ _ _ _ p c.get-len.ensures w.if-kind-eq-TEXT.false w.copy-end.ensures)
+      | then-kind-eq-TEXT w ↦ rw (w.strings-is, w.end-is) (wrote_text _ _ _ _ _ _ _ _ p c.get-len.ensures w.if-kind-eq-TEXT.true w.decode-end.ensures)
+      | else-kind-eq-TEXT w ↦ rw (w.strings-is, w.end-is) (wrote_other _ _ _ _ _ _ _ _ p c.get-len.ensures w.if-kind-eq-TEXT.false w.copy-end.ensures)
     ]
 
 pub decode-end-requires : goal.decode-end-requires

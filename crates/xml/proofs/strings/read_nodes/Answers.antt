@@ -1,12 +1,8 @@
-use Prim.Native.Nat.{◌-◌, ◌≤◌}
 use mathlib.Core.Path.{◌≡◌, refl, ap, ◌∙◌}
 use native.Mathlib.Omega.{arith}
 use lib.ListN.{length}
-use Rattle.scan.specs.Bytes.{other}
-use Rattle.scan.specs.Posts.{Passes}
 use Rattle.xml.specs.Steps.{nodes_read, node_strings_read}
 use Rattle.xml.proofs.PassLaws.{node-within, nodes-room, node-strings_room, nodes-ready, nodes-next, node-strings_next}
-use borrow.Author.Rules.{rules}
 use Rattle.xml.proofs.strings.read_nodes.Goals as goal
 
 pub loop-k-init : goal.loop-k-init

@@ -1,13 +1,9 @@
 -- `read_nodes` meets its contract: the tables are those after the first k nodes.
 use Prim.Native.Nat.{◌-◌, ◌≤◌}
-use mathlib.Core.Path.{◌≡◌, refl, ap, ◌∙◌}
-use native.Mathlib.Omega.{arith}
-use lib.ListN.{length}
+use mathlib.Core.Path.{◌≡◌}
 use Rattle.scan.specs.Bytes.{other}
 use Rattle.scan.specs.Posts.{Passes}
 use Rattle.xml.specs.Steps.{nodes_read, node_strings_read}
-use Rattle.xml.proofs.PassLaws.{node-within, nodes-room, node-strings_room, nodes-ready, nodes-next, node-strings_next}
-use borrow.Author.Rules.{rules}
 use Rattle.xml.proofs.strings.read_nodes.Given as goal
 
 abbrev pub invariant-loop-k : goal.invariant-loop-k
