@@ -88,13 +88,13 @@ alone p n l c f lo hi o = (
 pub first_found : {t u z name : List ℕ} {i a k : ℕ} (f : Forest) → Holds t u z i a f → find_row z name i f ≡ Row k → First t u z name i f k
 unfolding find_row first_element nodes_in attrs_named size spans
 first_found nil h e = never (sym e)
-first_found (text p n f) h e =
-    first-later (omega arith) (omega arith) refl refl (λ lo hi o. after_one p n lo hi (spans f) o.0 o.1) (first_found f (holds_text h).later e)
-first_found (section p n f) h e =
+first_found {t = t} {u = u} {z = z} {name = name} {i = i} {a = a} {k = k} (text p n f) h e =
+    first-later (omega arith) (omega arith) refl refl (λ lo hi o. after_one p n lo hi (spans f) o.0 o.1) (first_found {i = i + 1} f (holds_text h).later e)
+first_found {t = t} {u = u} {z = z} {name = name} {i = i} {a = a} {k = k} (section p n f) h e =
     first-later (omega arith) (omega arith) refl refl (λ lo hi o. after_one p n lo hi (spans f) o.0 o.1)
-    (first_found f (holds_section h).later e)
+    (first_found {i = i + 1} f (holds_section h).later e)
 first_found {t} {u} {z} {name} {i} {a} {k} (elem p n l c f) h e =
-    let r : find_row z name (i + 1 + size c) f ≡ Row k → First t u z name (i + 1 + size c) f k = first_found f (holds_elem h).later in
+    let r : find_row z name (i + 1 + size c) f ≡ Row k → First t u z name (i + 1 + size c) f k = first_found {i = i + 1 + size c} f (holds_elem h).later in
     by-test (named name (string_at z (p + 1) n)) here
     (λ w. first-later (omega arith) (omega arith) (rw (named-same name its, w)) (rw w) (after-elem p n l c f) (r (rw w at e)))
   where

@@ -115,7 +115,7 @@ fn backed(attrs: &[u32], strings: &[u8], first: usize, many: usize, tint: Tint) 
 
 // Beside a flag that there is none.
 fn transparent() -> Rgba
-    ensures* { λ r. ⌜ r ≡ record { r = 0; g = 0; b = 0; a = 0 } ⌝ }
+    ensures { result ≡ record { r = 0; g = 0; b = 0; a = 0 } }
 {
     Rgba {
         r: 0,

@@ -1,0 +1,34 @@
+use Prim.Native.Nat.{◌-◌}
+use mathlib.Core.Path.{◌≡◌, sym, ◌∙◌}
+use mathlib.Core.Logic.{inl, inr}
+use native.Mathlib.Omega.{arith}
+use borrow.Author.Tests.{not-true, not-false}
+use lib.ListN.{length, get_or}
+use Rattle.meaning.specs.Space.{white}
+use Rattle.inline.proofs.Collapsing.{Collapsing, start, kept, spaced, dropped, all}
+use Rattle.inline.proofs.collapse.collapse.Goals as goal
+use Rattle.inline.proofs.collapse.collapse.Goals.{then-not-white, else-not-white+then-not-edge, else-not-white+else-not-edge}
+
+pub loop-i-init : goal.loop-i-init
+loop-i-init c =
+    start c.args.piece.now c.args.boundary c.args.at c.args.texts.now (omega arith)
+
+pub is_white-white-requires : goal.is_white-white-requires
+is_white-white-requires c =
+    tt
+
+pub loop-i-preserved : goal.loop-i-preserved
+loop-i-preserved c =
+    let v : c.is_white-white.result ≡ white (get_or c.args.piece.now c.loop-i.i 0) = c.is_white-white.ensures in
+    elim c.if-not-white.branch [
+      | then-not-white w ↦ rw (w.texts-is, w.n-is, v) (kept c.args.piece.now c.args.boundary c.args.at c.args.texts.now _ _ _ _ c.loop-i.invariant (omega arith)
+          (sym v ∙ w.if-not-white.true))
+      | else-not-white+then-not-edge w ↦ rw (w.texts-is, w.n-is, v) (spaced c.args.piece.now c.args.boundary c.args.at c.args.texts.now _ _ _ _ c.loop-i.invariant (omega arith)
+          (sym v ∙ w.if-not-white.false) (w.if-not-edge.true))
+      | else-not-white+else-not-edge w ↦ rw (w.texts-is, w.n-is, v) (dropped c.args.piece.now c.args.boundary c.args.at c.args.texts.now _ _ _ _ c.loop-i.invariant (omega arith)
+          (sym v ∙ w.if-not-white.false) (w.if-not-edge.false))
+    ]
+
+pub returns : goal.returns
+returns c =
+    λ before e. all c.args.piece.now c.args.boundary c.args.at c.args.texts.now _ _ _ _ c.loop-i.invariant (omega arith) before e

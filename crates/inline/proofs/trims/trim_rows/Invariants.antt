@@ -1,0 +1,15 @@
+-- `trim_rows` meets its contract. The loop's invariant: the rows from `i` on are trimmed, and the search goes on. The measure is `i`.
+-- Assumes nothing.
+use Prim.Native.Nat.{◌+◌, ◌-◌}
+use mathlib.Core.Path.{◌≡◌, refl}
+use mathlib.Core.Bool.{true, false}
+use native.Mathlib.Omega.{arith}
+use Rattle.inline.specs.Trims.{trimmed}
+use Rattle.inline.proofs.TrimLaws.{ready_row, Trimming, trim_start, trim_over, trim_on, trim_none}
+use Rattle.inline.proofs.trims.trim_rows.Given as goal
+
+abbrev pub invariant-loop-i : goal.invariant-loop-i
+invariant-loop-i l = Trimming l.initial.segments l.initial.texts l.first l.end l.segments l.texts l.i
+
+abbrev pub decreases-loop-i : goal.decreases-loop-i
+decreases-loop-i l = l.i

@@ -1,0 +1,30 @@
+use mathlib.Core.Path.{refl, sym, ◌∙◌}
+use native.Mathlib.Omega.{arith}
+use borrow.Author.Tests.{not-true, not-false}
+use Rattle.scan.proofs.Runs.{run_on}
+use Rattle.meaning.specs.Styling.{number_byte}
+use Rattle.styling.proofs.Leading.{lead_here, lead_end}
+use Rattle.styling.proofs.sizes.leading_end.Goals as goal
+
+pub loop-i-init : goal.loop-i-init
+loop-i-init c =
+    (omega arith, refl)
+
+pub is_number-requires : goal.is_number-requires
+is_number-requires c =
+    tt
+
+pub returns-then-not-is_number : goal.returns-then-not-is_number
+returns-then-not-is_number c = (
+  c.loop-i.invariant.0,
+  lead_here number_byte _ _ c.loop-i.invariant.1 c.loop-i-test.true (sym c.is_number.ensures
+      ∙ not-true _ c.if-not-is_number.true-raw),
+)
+
+pub loop-i-preserved : goal.loop-i-preserved
+loop-i-preserved c =
+    (omega arith, c.loop-i.invariant.1 ∙ run_on number_byte _ _ c.loop-i-test.true (sym c.is_number.ensures ∙ not-false _ c.if-not-is_number.false-raw))
+
+pub returns : goal.returns
+returns c =
+    (c.loop-i.invariant.0, lead_end number_byte _ _ c.loop-i.invariant.1 c.loop-i-test.false)
