@@ -1,0 +1,31 @@
+use mathlib.Core.Path.{sym, ◌∙◌}
+use lib.Seq.{length-take-le}
+use Rattle.writer.proofs.CallLaws.{fit_bytes, fit_full}
+use borrow.Author.Rules.{rules}
+use Rattle.document.proofs.calls.fill.Reads as reads
+use Rattle.document.proofs.calls.fill.Lts as lts
+use Rattle.document.proofs.calls.write_document.Reads as write-document-reads
+use Rattle.scan.proofs.clear_bytes.Reads as clear-bytes-reads
+use Rattle.writer.proofs.limit.Reads as limit-reads
+use Rattle.writer.proofs.refused.Reads as refused-reads
+use Rattle.document.proofs.calls.fill.Goals as goal
+
+-- src/calls.rt:106:9
+pub slice_bounds-write_document-end-2 : goal.slice_bounds-write_document-end-2
+slice_bounds-write_document-end-2 c =
+    sym (length-take-le _ _ c.limit-end.ensures.within)
+
+-- src/calls.rt:65:1
+pub returns-in-At : goal.returns-in-At
+returns-in-At c =
+    fit_bytes _ _ _ c.requires.1 c.limit-end.ensures _ _
+    (rw c.in-At.is at c.write_document.ensures)
+
+-- src/calls.rt:65:1
+pub returns-in-Full : goal.returns-in-Full
+returns-in-Full c =
+    let p = rw c.in-Full.is at
+    c.write_document.ensures in
+    fit_full _ _ _ c.requires.1
+    c.limit-end.ensures _ _ _ c.refused.ensures p
+    c.clear_bytes.ensures

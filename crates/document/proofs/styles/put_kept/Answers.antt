@@ -1,0 +1,80 @@
+use mathlib.Core.Path.{sym, ◌∙◌}
+use native.Mathlib.Omega.{arith}
+use Rattle.track.specs.Tables.{cell}
+use Rattle.writer.proofs.Chaining.{puts_none}
+use Rattle.document.specs.Styles.{kept_text}
+use Rattle.document.proofs.StyleLaws.{row_within}
+use Rattle.scan.specs.Part.{string_at}
+use borrow.Author.Rules.{rules}
+use Rattle.document.proofs.styles.put_kept.Goals as goal
+
+-- src/styles.rt:114:43
+pub overflow_mul-j : goal.overflow_mul-j
+unfolding string_at
+overflow_mul-j c =
+    let b = row_within _ _ _ _ _ _ (sym c.find_extras.ensures ∙ c.in-Row.is) in
+    let p = c.requires.1.rows in
+    search (rules, b, p)
+
+-- src/styles.rt:114:43
+pub overflow_add-j : goal.overflow_add-j
+unfolding string_at
+overflow_add-j c =
+    let b = row_within _ _ _ _ _ _ (sym c.find_extras.ensures ∙ c.in-Row.is) in
+    let p = c.requires.1.rows in
+    search (rules, b, p)
+
+-- src/styles.rt:114:17
+pub get-first-requires : goal.get-first-requires
+unfolding string_at
+get-first-requires c =
+    let b = row_within _ _ _ _ _ _ (sym c.find_extras.ensures ∙ c.in-Row.is) in
+    omega (arith, b, c.requires.1.rows)
+
+-- src/styles.rt:115:43
+pub overflow_mul-j-in-Row : goal.overflow_mul-j-in-Row
+unfolding string_at
+overflow_mul-j-in-Row c =
+    let b = row_within _ _ _ _ _ _ (sym c.find_extras.ensures ∙ c.in-Row.is) in
+    let p = c.requires.1.rows in
+    search (rules, b, p)
+
+-- src/styles.rt:115:43
+pub overflow_add-j-in-Row : goal.overflow_add-j-in-Row
+unfolding string_at
+overflow_add-j-in-Row c =
+    let b = row_within _ _ _ _ _ _ (sym c.find_extras.ensures ∙ c.in-Row.is) in
+    let p = c.requires.1.rows in
+    search (rules, b, p)
+
+-- src/styles.rt:115:17
+pub get-count-requires : goal.get-count-requires
+unfolding string_at
+get-count-requires c =
+    let b = row_within _ _ _ _ _ _ (sym c.find_extras.ensures ∙ c.in-Row.is) in
+    omega (arith, b, c.requires.1.rows)
+
+-- src/styles.rt:116:13
+pub write_extras-requires : goal.write_extras-requires
+unfolding string_at cell
+write_extras-requires c =
+    let b = row_within _ _ _ _ _ _ (sym c.find_extras.ensures ∙ c.in-Row.is) in (
+      c.requires.0,
+      rw
+          (c.get-first.ensures, c.get-count.ensures) (c.requires.2 _ b),
+    )
+
+-- src/styles.rt:92:1
+pub returns-in-Nothing : goal.returns-in-Nothing
+unfolding kept_text string_at
+returns-in-Nothing c =
+    let h = sym c.find_extras.ensures ∙ c.in-Nothing.is in
+    rw h (puts_none _ _ c.requires.0)
+
+-- src/styles.rt:92:1
+pub returns-in-Row : goal.returns-in-Row
+unfolding kept_text string_at cell
+returns-in-Row c =
+    let h = sym c.find_extras.ensures ∙ c.in-Row.is in
+    rw h (rw (c.get-first.ensures, c.get-count.ensures) at
+    c.write_extras.ensures)
