@@ -1,9 +1,9 @@
 -- Parameters, one attribute after the other. Assumes nothing.
 --     Listing, listing_start, listing_on, listing_all, listing_full     one turn of `collect_params`
 --     value-fits, span-is, adds_none, adds_row                one attribute
-use Prim.Native.Nat.{ℕ, suc, ◌+◌, ◌-◌, ◌*◌, ◌≤◌, ◌<◌}
+use Prim.Native.Nat.{ℕ, ◌+◌, ◌-◌, ◌*◌, ◌≤◌, ◌<◌}
 use mathlib.Core.Path.{◌≡◌, refl, sym, ap, ◌∙◌}
-use mathlib.Core.Bool.{Bool, true, false, cond}
+use mathlib.Core.Bool.{true, false}
 use mathlib.Core.List.{List, [], ◌∷◌, ◌++◌, append_assoc, append-nil}
 use native.Mathlib.Omega.{arith}
 use lib.ListN.{length, get_or, take, drop, length-append, length-take, length-drop}
@@ -23,11 +23,10 @@ use Rattle.track.specs.Layout.{each, param_cells}
 use Rattle.xml.specs.Find.{Owned}
 use Rattle.xml.specs.Reading.{Placed}
 use Rattle.meaning.specs.Words.{only}
-use Rattle.meaning.specs.Nodes as nodes
 use Rattle.meaning.specs.Kinds.{with_places, attrs_in}
 use Rattle.meaning.specs.Meaning.{is_param, param_of, params_of}
 use Rattle.styling.specs.Posts.{NameFits, name_at}
-use Rattle.xml.proofs.AttrRows.{Head, Rest, rest-start, rest-first, rest-on, rest-none}
+use Rattle.xml.proofs.AttrRows.{Head, Rest, rest-start, rest-first, rest-on}
 use Rattle.params.specs.Named.{is_param_name}
 use Rattle.params.specs.Rows.{ValueFits, param_at, params_at, SpanIs, placed_params, Adds}
 

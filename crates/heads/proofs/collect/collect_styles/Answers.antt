@@ -1,0 +1,95 @@
+use Prim.Native.Nat.{◌-◌}
+use mathlib.Core.Path.{refl, sym, ◌∙◌}
+use mathlib.Core.Logic.{⊎_elim}
+use native.Mathlib.Omega.{arith}
+use borrow.Author.Rules.{rules}
+use Rattle.heads.proofs.Looping.{StylesAlong, styles_start, styles_row, styles_next, styles_done, styles_passed, style_asks}
+use Rattle.heads.proofs.Looping.{styles_skipped, styles_taken, styles_refused, styles_few}
+use Rattle.heads.proofs.collect.collect_styles.Goals as goal
+use Rattle.heads.proofs.collect.collect_styles.Goals.{then-is_element+in-Row, then-is_element+in-Skipped, else-is_element}
+
+pub loop-k-init : goal.loop-k-init
+loop-k-init c =
+    styles_start c.requires
+
+pub is_element-requires : goal.is_element-requires
+is_element-requires c =
+    styles_row c.requires c.loop-k.invariant c.loop-k-test.true
+
+pub element_at-e-requires : goal.element_at-e-requires
+element_at-e-requires c =
+    (styles_row c.requires c.loop-k.invariant c.loop-k-test.true).row
+
+pub build_style-requires : goal.build_style-requires
+build_style-requires c =
+    style_asks c.requires c.loop-k.invariant c.loop-k-test.true (sym c.is_element.ensures
+    ∙ c.if-is_element.true) c.element_at-e.result c.element_at-e.ensures
+
+pub overflow_add-n : goal.overflow_add-n
+overflow_add-n c =
+    let g = rw c.in-Row.is at c.build_style.ensures in
+    let e = sym c.is_element.ensures ∙ c.if-is_element.true in
+    omega (arith, (styles_few c.requires c.loop-k.invariant c.loop-k-test.true e c.element_at-e.result c.element_at-e.ensures _ _ _ _ g).0)
+
+pub overflow_add-at : goal.overflow_add-at
+overflow_add-at c =
+    let g = rw c.in-Row.is at c.build_style.ensures in
+    let e = sym c.is_element.ensures ∙ c.if-is_element.true in
+    omega (arith, (styles_few c.requires c.loop-k.invariant c.loop-k-test.true e c.element_at-e.result c.element_at-e.ensures _ _ _ _ g).1)
+
+pub returns-in-Refused : goal.returns-in-Refused
+returns-in-Refused c =
+    let g = rw c.in-Refused.is at c.build_style.ensures in
+    let e = sym c.is_element.ensures ∙ c.if-is_element.true in
+    styles_refused c.requires c.loop-k.invariant c.loop-k-test.true e c.element_at-e.result c.element_at-e.ensures _ _ _ _ g
+
+pub overflow_mul-k : goal.overflow_mul-k
+overflow_mul-k c =
+    omega (arith, (styles_row c.requires c.loop-k.invariant c.loop-k-test.true).row)
+
+pub overflow_add-k : goal.overflow_add-k
+overflow_add-k c =
+    omega (arith, (styles_row c.requires c.loop-k.invariant c.loop-k-test.true).row)
+
+pub get-k-requires : goal.get-k-requires
+get-k-requires c =
+    omega (arith, (styles_row c.requires c.loop-k.invariant c.loop-k-test.true).row)
+
+pub loop-k-smaller : goal.loop-k-smaller
+loop-k-smaller c =
+    let o = styles_next c.requires c.loop-k.invariant c.loop-k-test.true in
+    omega (arith, o.0, o.1, c.get-k.ensures)
+
+-- the element gives a row, or has no id, or is another
+pub loop-k-preserved : goal.loop-k-preserved
+loop-k-preserved c =
+    let i = c.loop-k.invariant in
+    let j = c.loop-k-test.true in
+    let e = c.is_element.ensures in
+    rw c.get-k.ensures (elim c.if-is_element.branch [
+      | then-is_element+in-Row w ↦
+          let g = rw w.in-Row.is at w.build_style.ensures in
+          rw (w.styles-is, w.sizes-is, w.extras-is, w.n-is, w.at-is)
+          (styles_taken c.requires i j (sym e ∙ w.if-is_element.true) w.element_at-e.result w.element_at-e.ensures _ _ _ w.build_style.auto.styles w.build_style.auto.sizes w.build_style.auto.extras _ g)
+      | then-is_element+in-Skipped w ↦
+          let g = rw w.in-Skipped.is at w.build_style.ensures in
+          rw (w.styles-is, w.sizes-is, w.extras-is, w.n-is, w.at-is)
+          (styles_skipped c.requires i j (sym e ∙ w.if-is_element.true) w.element_at-e.result w.element_at-e.ensures _ _ _ w.build_style.auto.styles w.build_style.auto.sizes w.build_style.auto.extras g)
+      | else-is_element w ↦ rw (w.styles-is, w.sizes-is, w.extras-is, w.n-is, w.at-is) (styles_passed c.requires i j (sym e ∙ w.if-is_element.false))
+    ])
+
+pub shape_of-styles : goal.shape_of-styles
+shape_of-styles c =
+    c.loop-k.invariant.same_styles
+
+pub shape_of-sizes : goal.shape_of-sizes
+shape_of-sizes c =
+    c.loop-k.invariant.same_sizes
+
+pub shape_of-extras : goal.shape_of-extras
+shape_of-extras c =
+    c.loop-k.invariant.same_extras
+
+pub returns : goal.returns
+returns c =
+    styles_done c.requires c.loop-k.invariant c.loop-k-test.false

@@ -1,0 +1,12 @@
+-- `lang_of`: what `seek` answers.
+use Rattle.meaning.specs.Meaning.{lang_of}
+use Rattle.params.proofs.Seeking.{meets-fits, meets-value}
+use Rattle.params.proofs.ids.lang_of.Goals as goal
+
+pub returns : goal.returns
+unfolding lang_of
+returns c =
+    record {
+      found_fits = meets-fits _ _ _ c.seek.result (c.seek.ensures c.requires.0 c.requires.1);
+      of_rows = λ l y. meets-value _ _ _ c.seek.result (c.seek.ensures l y);
+    }
