@@ -22,7 +22,6 @@ use Rattle.numerals.proofs.Numerals.{value-append, digits_append, numeral_plain}
 use Rattle.numerals.proofs.Writing.{padded-byte, padded-length, padded-digits, padded-value, width_fits}
 use Rattle.times.specs.declared.offset.TimingCtx.{TimingCtx}
 use Rattle.times.specs.declared.offset.Time.{Time}
-use Rattle.times.specs.Sums.{checked}
 use Rattle.times.specs.Expressions.{◌>>=◌, tested, integer, chars_length, number_in, micros_of, seconds_of, clock_time, time_in}
 use Rattle.times.specs.Written.{millis, hours_width, clock_of_millis, clock_text}
 use Rattle.times.proofs.Summing.{checked-fits}

@@ -1,7 +1,7 @@
 -- Laws of clock times as they are written: how long they are, and one field laid after another. Assumes nothing.
 use Prim.Native.Nat.{ℕ, ◌+◌, ◌/◌, ◌%◌, ◌≤◌, ◌<◌}
 use mathlib.Core.Path.{◌≡◌, refl, sym}
-use mathlib.Core.List.{List, [], ◌∷◌, ◌++◌}
+use mathlib.Core.List.{List}
 use native.Mathlib.Omega.{arith}
 use native.Mathlib.Nat.{max-le, max-eq_left, max-eq_right}
 use lib.IntN.{ℤ}

@@ -23,7 +23,6 @@ use Rattle.decimals.specs.declared.read.Decimal.{Decimal}
 use Rattle.times.specs.declared.sums.Sum.{Sum}
 use Rattle.times.specs.declared.offset.TimingCtx.{TimingCtx}
 use Rattle.times.specs.declared.offset.Time.{Time}
-use Rattle.times.specs.Sums.{checked}
 use Rattle.times.specs.Expressions as spec
 use Rattle.times.specs.Expressions.{◌>>=◌, ◌else◌, time_of, time_decimal, frame_rate_of, tick_rate_of, float, offset_time, integer, whole_in, tested}
 use Rattle.times.specs.Expressions.{seconds_of, frames_in, clock_of, clock_time, time_in}

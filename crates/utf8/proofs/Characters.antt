@@ -2,13 +2,13 @@
 --     encode-char               the bytes of the character of a sequence are the sequence
 --     well_lead                 the first byte of a sequence does not go on with a character
 --     first-chars, chars_count  a text has its first n characters, and a count of the bytes that start characters finds where they end
-use Prim.Native.Nat.{ℕ, zero, suc, ◌+◌, ◌-◌, ◌*◌, ◌/◌, ◌%◌, ◌≤◌, ◌<◌}
+use Prim.Native.Nat.{ℕ, zero, suc, ◌+◌, ◌*◌, ◌/◌, ◌%◌, ◌≤◌, ◌<◌}
 use mathlib.Core.Path.{◌≡◌, refl, sym, ap, ◌∙◌}
 use mathlib.Core.Bool.{Bool, true, false, cond, ◌&&◌, and-eq-true_iff}
 use mathlib.Core.List.{List, [], ◌∷◌, ◌++◌}
 use native.Mathlib.Omega.{arith}
 use native.Mathlib.Nat.{mod-lt}
-use lib.ListN.{length, get_or, length-append}
+use lib.ListN.{length, length-append}
 use lib.Dec.{leb}
 use borrow.Author.Tests.{leb-true, le-leb}
 use Rattle.utf8.specs.Utf8.{Range, ◌to◌, within, table, fits_at, first_fit, sequence_at, WellFormed, Utf8, empty, sequence, encode, char_at}

@@ -5,24 +5,24 @@
 --     trimmed-is, trimmed-only, trimmed-start   `trimmed` is the text without the white space at its ends, and nothing else is; where it starts
 use Prim.Native.Nat.{ℕ, zero, suc, ◌+◌, ◌-◌, ◌≤◌, ◌<◌}
 use mathlib.Core.Path.{◌≡◌, refl, sym, ap, subst, ◌∙◌}
-use mathlib.Core.Bool.{Bool, true, false, ◌&&◌, and-eq-true_iff}
+use mathlib.Core.Bool.{true, ◌&&◌, and-eq-true_iff}
 use mathlib.Core.List.{List, [], ◌∷◌, ◌++◌, append_assoc, append-nil}
 use native.Mathlib.Omega.{arith}
 use native.Mathlib.Nat.{add-zero, zero-add, sub-zero, max-eq_left, max-eq_right}
 use lib.ListN.{length, get_or, take, drop, length-append, length-drop, take-append-drop, get_or-append}
-use lib.Seq.{length-take-le, take-length, drop-length, take-nil, take-append_seam, take-append-le, take_at, drop-append_seam, drop-append-le}
+use lib.Seq.{length-take-le, drop-length, take-nil, take-append_seam, take-append-le, take_at, drop-append_seam, drop-append-le}
 use lib.Seq.{drop-append-add, drop-drop, take-add}
 use lib.Seq.{get_or-append-add}
 use lib.Dec.{eqb, leb, ltb}
 use borrow.Author.Tests.{eqb-true, eqb-false, leb-true, leb-false, ltb-true, ltb-false}
 use Rattle.scan.specs.Part.{part}
 use Rattle.scan.proofs.Splits.{whole_part}
-use Rattle.utf8.specs.Utf8.{sequence_at, char_at, WellFormed}
+use Rattle.utf8.specs.Utf8.{sequence_at, char_at}
 use Rattle.utf8.specs.WhiteSpace.{is_white, WhiteCharacter, WhiteSpace, nothing, character, Trims}
 use Rattle.utf8.specs.Steps.{WhiteEnd, white_at, ends_with, white_before, white_end, white_back, white_start}
 use Rattle.utf8.specs.White.{trimmed, Trimmed}
 use Rattle.scan.proofs.Every.{by-test}
-use Rattle.utf8.proofs.Utf8Laws.{sequence-none, sequence-short, sequence-within, well_at, well_part, part_length, part-agrees}
+use Rattle.utf8.proofs.Utf8Laws.{sequence-none, sequence-short, well_at, well_part, part_length, part-agrees}
 use Rattle.utf8.proofs.Boundaries.{sequence-inside}
 use Rattle.utf8.proofs.WhiteLaws.{white_at-white, white_at-visible, white_at-within, ends_with_here, ends_with_on, white_before-low}
 use Rattle.utf8.proofs.WhiteLaws.{white_end-here, white_end-on, white_end-out}

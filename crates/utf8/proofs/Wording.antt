@@ -6,7 +6,7 @@ use mathlib.Core.List.{List, [], ◌∷◌, ◌++◌, append_assoc, append-nil}
 use native.Mathlib.Omega.{arith}
 use native.Mathlib.Nat.{add-zero, sub-zero}
 use lib.ListN.{length, take, drop, length-append, length-drop, take-append-drop}
-use lib.Seq.{length-take-le, take-append_seam, take-append-le, take_all, take-length, drop-length, drop-append_seam, drop-append-add, drop-append-le}
+use lib.Seq.{take-append_seam, take-append-le, take_all, drop-length, drop-append-add, drop-append-le}
 use lib.Dec.{eqb, ltb}
 use borrow.Author.Tests.{eqb-true, eqb-false, ltb-true, ltb-false}
 use Rattle.scan.specs.Part.{part}
@@ -14,11 +14,11 @@ use Rattle.utf8.specs.WhiteSpace.{WhiteCharacter, WhiteSpace, Bare, Parted, ends
 use Rattle.utf8.specs.Steps.{WhiteEnd, white_at, white_end, word_end_of, words_from}
 use Rattle.utf8.specs.White.{words, WordAt}
 use Rattle.scan.proofs.Every.{by-test}
-use Rattle.utf8.proofs.WhiteLaws.{white_at-within, white_end-here, white_end-out, white_end-low, white_end-high, white_end-stops, word_end-here}
+use Rattle.utf8.proofs.WhiteLaws.{white_end-here, white_end-out, white_end-low, white_end-high, white_end-stops, word_end-here}
 use Rattle.utf8.proofs.WhiteLaws.{word_end-on, word_end-out}
-use Rattle.utf8.proofs.WhiteLaws.{word_end-low, word_end-high, word_end-stops, word_end-some, words_from-none, words_from-next, words_from-after}
+use Rattle.utf8.proofs.WhiteLaws.{word_end-high, word_end-stops, word_end-some, words_from-none, words_from-next, words_from-after}
 use Rattle.scan.proofs.Splits.{whole_part}
-use Rattle.utf8.proofs.Trimming.{there, part-long, white-part, white-there, Path, end_path, path_end, path_space, space_path}
+use Rattle.utf8.proofs.Trimming.{there, part-long, white-part, Path, end_path, path_end, path_space, space_path}
 use Rattle.utf8.proofs.Trimming.{part_join, stops_before}
 
 -- ---- where a word ends

@@ -1,7 +1,4 @@
-use Prim.Native.Nat.{◌-◌, ◌≤◌}
-use mathlib.Core.Path.{◌≡◌, refl, sym, ◌∙◌}
-use lib.ListN.{drop}
-use Rattle.colors.specs.Named.{color_table, named_in}
+use mathlib.Core.Path.{refl, sym, ◌∙◌}
 use Rattle.colors.proofs.Names.{name_hit, name_miss, name_none}
 use borrow.Author.Rules.{rules}
 use Rattle.colors.proofs.named.named.Goals as goal

@@ -1,10 +1,8 @@
 -- `named` answers the colour of the first name that the text is. The loop's invariant: the text has the colour that the rows from there on give it.
 use Prim.Native.Nat.{◌-◌, ◌≤◌}
-use mathlib.Core.Path.{◌≡◌, refl, sym, ◌∙◌}
+use mathlib.Core.Path.{◌≡◌}
 use lib.ListN.{drop}
 use Rattle.colors.specs.Named.{color_table, named_in}
-use Rattle.colors.proofs.Names.{name_hit, name_miss, name_none}
-use borrow.Author.Rules.{rules}
 use Rattle.colors.proofs.named.named.Given as goal
 
 abbrev pub invariant-loop-i : goal.invariant-loop-i

@@ -1,7 +1,5 @@
 -- `any_color` answers what three channels, and the alpha of a text that has one, decide.
 use mathlib.Core.Path.{◌≡◌, ap, ◌∙◌}
-use mathlib.Core.Logic.{⊎_elim}
-use borrow.Author.Rules.{rules}
 use Rattle.colors.specs.Steps.{hex_channels, alpha_at}
 use Rattle.colors.proofs.Digits.{alpha_some, alpha_none}
 use Rattle.colors.proofs.read.any_color.Goals as goal

@@ -1,6 +1,5 @@
 -- `are_hex_digits` meets its contract: three digits, or one that is none.
 use mathlib.Core.Path.{sym, ◌∙◌}
-use borrow.Author.Rules.{rules}
 use borrow.Author.Tests.{not-true, not-false}
 use Rattle.colors.proofs.read.are_hex_digits.Goals as goal
 

@@ -1,7 +1,5 @@
 -- `digit_color` answers what its channels, each of digits, decide.
 use mathlib.Core.Path.{◌≡◌, ◌∙◌}
-use mathlib.Core.Logic.{⊎_elim}
-use borrow.Author.Rules.{rules}
 use Rattle.colors.specs.declared.read.Channel.{Channel}
 use Rattle.colors.specs.Colors.{color_of}
 use Rattle.colors.specs.Steps.{alpha_at}

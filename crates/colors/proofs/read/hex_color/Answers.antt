@@ -2,8 +2,7 @@
 use mathlib.Core.Path.{sym, ◌∙◌}
 use native.Mathlib.Omega.{arith}
 use lib.ListN.{length}
-use borrow.Author.Tests.{not-true, not-false, eqb-true, eqb-false}
-use borrow.Author.Rules.{rules}
+use borrow.Author.Tests.{not-true, eqb-false}
 use Rattle.scan.proofs.Splits.{whole_part}
 use Rattle.colors.proofs.Reading.{hex-none}
 use Rattle.colors.proofs.Digits.{HexWidth, hex-once, hex-twice, hex-alpha}

@@ -1,8 +1,6 @@
 -- `is_hex_digit` meets its contract: the bit of a byte, in the word of its half.
 use mathlib.Core.Path.{sym}
-use mathlib.Core.Logic.{⊎_elim}
 use native.Mathlib.Omega.{arith}
-use borrow.Author.Rules.{rules}
 use Rattle.colors.proofs.Digits.{no_bit, bit_low, bit_high}
 use Rattle.colors.proofs.read.is_hex_digit.Goals as goal
 use Rattle.colors.proofs.read.is_hex_digit.Goals.{then-b-gt63, else-b-gt63}

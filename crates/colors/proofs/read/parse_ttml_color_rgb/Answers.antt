@@ -1,7 +1,6 @@
 -- `parse_ttml_color_rgb` answers the colour with the alpha 255.
 use mathlib.Core.Path.{sym, ap, ◌∙◌}
 use Rattle.colors.specs.Colors.{opaque}
-use borrow.Author.Rules.{rules}
 use Rattle.colors.proofs.Answers.{reads_color}
 use Rattle.colors.proofs.read.parse_ttml_color_rgb.Goals as goal
 

@@ -2,7 +2,6 @@
 use mathlib.Core.Path.{ap, ◌∙◌}
 use Rattle.scan.proofs.Splits.{whole_part}
 use Rattle.colors.specs.Colors.{color, color_in}
-use borrow.Author.Rules.{rules}
 use Rattle.colors.proofs.Answers.{reads_color}
 use Rattle.colors.proofs.read.parse_ttml_color_rgba.Goals as goal
 

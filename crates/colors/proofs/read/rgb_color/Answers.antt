@@ -3,7 +3,6 @@ use mathlib.Core.Path.{sym, ◌∙◌}
 use lib.Seq.{length-take-le}
 use Rattle.colors.specs.Colors.{color_of, full}
 use Rattle.colors.proofs.Reading.{parts_one, parts_two, parts_three, parts_many}
-use borrow.Author.Rules.{rules}
 use Rattle.colors.proofs.read.rgb_color.Goals as goal
 
 pub returns-then-inside-one : goal.returns-then-inside-one

@@ -1,10 +1,8 @@
 -- `trimmed_color` answers the colour by its form: after `#`, between `rgb(` and `)`, or a name.
 use mathlib.Core.Path.{sym, ap, ◌∙◌}
-use mathlib.Core.Logic.{⊎_elim}
 use native.Mathlib.Omega.{arith}
 use Rattle.colors.specs.Colors.{hex_color}
 use Rattle.colors.proofs.Reading.{to_end, color-none, color-hash, color-rgb, color-name, rgb_is, rgb_short, rgb_unmarked, rgb_open}
-use borrow.Author.Rules.{rules}
 use Rattle.colors.proofs.read.trimmed_color.Goals as goal
 use Rattle.colors.proofs.read.trimmed_color.Goals.{then-end-ge4+then-starts_with+else-text-end-eq41, then-end-ge4+else-starts_with, else-end-ge4}
 

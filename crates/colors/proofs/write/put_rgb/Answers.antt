@@ -3,7 +3,6 @@ use native.Mathlib.Omega.{arith}
 use lib.ListN.{length-set}
 use Rattle.scan.proofs.Stores.{appended_kept}
 use Rattle.colors.proofs.Writing.{hex-length, rgb_put}
-use borrow.Author.Rules.{rules}
 use Rattle.colors.proofs.write.put_rgb.Goals as goal
 
 pub put_digits-green-requires : goal.put_digits-green-requires
@@ -46,4 +45,3 @@ put_digits-requires c = (
 pub returns : goal.returns
 returns c =
     rgb_put c.args.c (omega (arith, c.requires)) c.put_digits-green.ensures c.put_digits-blue.ensures c.put_digits.ensures
-

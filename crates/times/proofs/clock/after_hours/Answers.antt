@@ -3,7 +3,6 @@ use Prim.Native.Nat.{◌+◌}
 use mathlib.Core.Path.{◌≡◌, sym, ap, ◌∙◌}
 use lib.IntN.{pos, ◌*ℤ◌}
 use lib.ListN.{take}
-use borrow.Author.Rules.{rules}
 use Rattle.scan.specs.Split.{split_at}
 use Rattle.numerals.specs.declared.Numeral.{Numeral}
 use Rattle.times.specs.Expressions.{◌>>=◌, integer, whole_in, time_of, hours_minutes}

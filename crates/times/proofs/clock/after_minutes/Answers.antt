@@ -1,12 +1,9 @@
 -- Seconds up to the next colon, summed, and the frames that follow them.
 use Prim.Native.Nat.{◌+◌}
 use mathlib.Core.Path.{◌≡◌, sym, ap, ◌∙◌}
-use mathlib.Core.Logic.{inl, inr}
-use native.Mathlib.Omega.{arith}
 use lib.ListN.{take, drop}
 use mir.Syntax.{w64}
 use mir.ValLaws.{to_z-of_z}
-use borrow.Author.Rules.{rules}
 use Rattle.scan.specs.Split.{split_at}
 use lib.IntN.{ℤ}
 use Rattle.times.specs.declared.offset.Time.{Time}

@@ -4,7 +4,6 @@ use lib.IntN.{ℤ}
 use lib.ListN.{take}
 use mir.Syntax.{w64}
 use mir.ValLaws.{to_z-of_z}
-use borrow.Author.Rules.{rules}
 use Rattle.times.specs.Expressions.{time_decimal, frame_rate_of, frames_in}
 use Rattle.times.proofs.Parts.{first-length, frames_first}
 use Rattle.times.proofs.clock.after_seconds.Goals as goal

@@ -1,7 +1,6 @@
 -- Hours up to the first colon, and what follows them.
 use Prim.Native.Nat.{◌+◌}
 use mathlib.Core.Path.{sym, ◌∙◌}
-use borrow.Author.Rules.{rules}
 use Rattle.scan.specs.Split.{split_at}
 use Rattle.times.specs.Expressions.{◌>>=◌, whole_in}
 use Rattle.times.specs.Steps.{after_hours}

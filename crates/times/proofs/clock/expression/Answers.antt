@@ -1,11 +1,9 @@
 -- A clock time where no metric ends the text; elsewhere by its last byte, or by its last two.
 use mathlib.Core.Path.{refl, sym, ◌∙◌}
-use mathlib.Core.Logic.{⊎_elim}
 use native.Mathlib.Omega.{arith}
 use lib.Ieee.{of_int, of_bits}
 use lib.Seq.{length-take-le}
-use borrow.Author.Tests.{not-true, not-false, eqb-true, eqb-false}
-use borrow.Author.Rules.{rules}
+use borrow.Author.Tests.{not-true, not-false, eqb-true}
 use Rattle.times.proofs.Parts.{metric_ms, metric_s, metric_m, metric_h, metric_f, metric_t, metric_none, ends-none, ends_last}
 use Rattle.times.proofs.clock.expression.Goals as goal
 use Rattle.times.proofs.clock.expression.Goals.{then-end-eq0-via-then-end-eq0, then-end-eq0-via-else-end-eq0+then-text-end-ne109}

@@ -4,7 +4,6 @@ use native.Mathlib.Omega.{arith}
 use lib.IntN.{pos, ◌*ℤ◌}
 use lib.ListN.{take}
 use borrow.Author.Tests.{lt-ltb, le-ltb}
-use borrow.Author.Rules.{rules}
 use Rattle.times.specs.declared.sums.Sum.{Sum}
 use Rattle.times.specs.Expressions.{chars_length, time_of, micros_of}
 use Rattle.times.specs.Sums.{checked}

@@ -5,7 +5,6 @@ use lib.Ieee.{of_int, of_bits, Float, binary64, mul, div, lt}
 use lib.IntN.{◌+ℤ◌}
 use mir.Syntax.{w64}
 use mir.ValLaws.{to_z-of_z}
-use borrow.Author.Rules.{rules}
 use Rattle.decimals.proofs.Reading.{decimal-limits}
 use Rattle.times.specs.declared.offset.Time.{Time}
 use Rattle.times.specs.Sums.{checked}
@@ -44,4 +43,3 @@ returns-then-ctx-2 c =
     (to_z-of_z w64 _ (record { sfits = c.truncate-more.type_inv })
     ∙ (c.truncate-more.ensures
     ∙ ap (λ (x : Float). truncated (mul binary64 (div binary64 x c.args.ctx.frame_rate) (float 1000000))) c.to_f64.ensures)) i)))
-

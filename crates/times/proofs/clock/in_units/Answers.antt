@@ -1,6 +1,5 @@
 -- Hours and minutes, each a product, summed.
 use mathlib.Core.Path.{◌∙◌}
-use borrow.Author.Rules.{rules}
 use Rattle.times.specs.Steps.{plus}
 use Rattle.times.proofs.clock.in_units.Goals as goal
 

@@ -1,10 +1,8 @@
-use Prim.Native.Nat.{◌-◌}
 use mathlib.Core.Path.{sym, ◌∙◌}
 use native.Mathlib.Omega.{arith}
 use lib.ListN.{take}
 use lib.Seq.{length-take-le}
-use borrow.Author.Rules.{rules}
-use Rattle.scan.proofs.Stores.{Copied, copied_none, copied_all}
+use Rattle.scan.proofs.Stores.{copied_none, copied_all}
 use Rattle.times.proofs.Fractions.{copying, some_micros, no_micros}
 use Rattle.times.proofs.clock.micros.Goals as goal
 

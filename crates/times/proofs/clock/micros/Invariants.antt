@@ -1,12 +1,7 @@
 -- The microseconds of a fraction. The loop's invariant: the first bytes of the fraction stand before zeros. The measure is what is left of them.
 use Prim.Native.Nat.{◌-◌}
-use mathlib.Core.Path.{sym, ◌∙◌}
-use native.Mathlib.Omega.{arith}
 use lib.ListN.{take}
-use lib.Seq.{length-take-le}
-use borrow.Author.Rules.{rules}
-use Rattle.scan.proofs.Stores.{Copied, copied_none, copied_all}
-use Rattle.times.proofs.Fractions.{copying, some_micros, no_micros}
+use Rattle.scan.proofs.Stores.{Copied}
 use Rattle.times.proofs.clock.micros.Given as goal
 
 abbrev pub invariant-loop-i : goal.invariant-loop-i

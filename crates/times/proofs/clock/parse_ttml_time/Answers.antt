@@ -8,7 +8,6 @@ use Rattle.times.proofs.Summing.{low_bits}
 use Rattle.times.proofs.Answers.{reads_time}
 use Rattle.times.proofs.Parts.{blank-time, some_time}
 use Rattle.times.proofs.UsualTimes.{usual_time}
-use borrow.Author.Rules.{rules}
 use Rattle.times.proofs.clock.parse_ttml_time.Goals as goal
 
 pub returns-then-ms-lt360000000 : goal.returns-then-ms-lt360000000

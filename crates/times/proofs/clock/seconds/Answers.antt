@@ -3,7 +3,6 @@ use Prim.Native.Nat.{◌+◌}
 use mathlib.Core.Path.{sym, ap, ◌∙◌}
 use lib.IntN.{pos, ◌*ℤ◌}
 use Rattle.numerals.specs.declared.Numeral.{Numeral}
-use borrow.Author.Rules.{rules}
 use Rattle.times.specs.Expressions.{◌>>=◌, time_of, tested, whole_in}
 use Rattle.times.specs.Steps.{fractioned}
 use Rattle.times.proofs.Parts.{first-length, rest_of, point_none, point_here, point_nothing}

@@ -1,11 +1,9 @@
-use Prim.Native.Nat.{◌-◌}
 use mathlib.Core.Path.{◌≡◌}
 use mathlib.Core.Bool.{false, ◌&&◌}
-use mathlib.Core.Logic.{⊎_elim}
 use native.Mathlib.Omega.{arith}
 use lib.Dec.{leb}
-use lib.ListN.{length, get_or}
-use Rattle.times.proofs.Fractions.{Six, SixOn, low_starts, high_starts, six_start, six_same, six_next, six_here, six_out, six_on, six_past}
+use lib.ListN.{get_or}
+use Rattle.times.proofs.Fractions.{SixOn, low_starts, high_starts, six_start, six_same, six_next, six_here, six_out, six_on, six_past}
 use Rattle.times.proofs.clock.six_chars.Goals as goal
 use Rattle.times.proofs.clock.six_chars.Goals.{In_default, Joined-text-i-lt128, in-128-to-191, in_default+else-chars-eq6, in_default-via-then-text-i-lt128, in_default-via-else-text-i-lt128+else-this-lt192}
 
@@ -28,11 +26,11 @@ passed c =
     elim c.if-text-i-lt128.branch [
       | in-128-to-191 w ↦ rw w.chars-is (six_same _ _ _ c.loop-i.invariant c.loop-i-test.true (omega arith) (omega arith))
       | in_default+else-chars-eq6 w ↦
-        let first : (leb 0x80 b && leb b 0xBF) ≡ false = elim w.in_default.branch [
-          | in_default-via-then-text-i-lt128 w' ↦ low_starts b (omega arith)
-          | in_default-via-else-text-i-lt128+else-this-lt192 w' ↦ high_starts b (omega arith)
-        ] in
-        rw w.chars-is (six_next _ _ _ c.loop-i.invariant c.loop-i-test.true first (omega (arith, c.loop-i.invariant.few, w.if-chars-eq6.false)))
+          let first : (leb 0x80 b && leb b 0xBF) ≡ false = elim w.in_default.branch [
+            | in_default-via-then-text-i-lt128 w' ↦ low_starts b (omega arith)
+            | in_default-via-else-text-i-lt128+else-this-lt192 w' ↦ high_starts b (omega arith)
+          ] in
+          rw w.chars-is (six_next _ _ _ c.loop-i.invariant c.loop-i-test.true first (omega (arith, c.loop-i.invariant.few, w.if-chars-eq6.false)))
     ]
 
 pub loop-i-init : goal.loop-i-init

@@ -1,13 +1,8 @@
 -- How many bytes the first six characters have. The loop's invariant: those passed, and those of the characters that are left, are the bytes of the
 -- first six. The measure is what is left of the text.
 use Prim.Native.Nat.{◌-◌}
-use mathlib.Core.Path.{◌≡◌}
-use mathlib.Core.Bool.{false, ◌&&◌}
-use mathlib.Core.Logic.{⊎_elim}
-use native.Mathlib.Omega.{arith}
-use lib.Dec.{leb}
-use lib.ListN.{length, get_or}
-use Rattle.times.proofs.Fractions.{Six, SixOn, low_starts, high_starts, six_start, six_same, six_next, six_here, six_out, six_on, six_past}
+use lib.ListN.{length}
+use Rattle.times.proofs.Fractions.{Six}
 use Rattle.times.proofs.clock.six_chars.Given as goal
 
 abbrev pub invariant-loop-i : goal.invariant-loop-i

@@ -1,16 +1,13 @@
 -- Hours, minutes and seconds summed from left to right; what is no time stays as it is.
 use mathlib.Core.Path.{ap, ◌∙◌}
-use mathlib.Core.Logic.{inl, inr}
 use lib.IntN.{pos, ◌+ℤ◌, ◌*ℤ◌}
-use native.Mathlib.Omega.{arith}
 use mir.Syntax.{w64}
 use mir.ValLaws.{to_z-of_z}
-use borrow.Author.Rules.{rules}
 use Rattle.times.specs.declared.sums.Sum.{Sum}
 use Rattle.times.specs.Expressions.{◌>>=◌, time_of, tested}
 use Rattle.times.specs.Sums.{checked}
 use Rattle.times.specs.Steps.{plus, number}
-use Rattle.times.proofs.Parts.{then_other, plus-then}
+use Rattle.times.proofs.Parts.{plus-then}
 use Rattle.times.proofs.clock.summed.Goals as goal
 
 pub returns-in-Is : goal.returns-in-Is
@@ -22,4 +19,3 @@ returns-in-Is c =
     let sum = c.plus.ensures ∙ (λ i. plus (c.in_units.ensures i) (Sum.Is (read i))) in
     rw c.in-Is.is
     (c.time_of.ensures ∙ (ap time_of sum ∙ (plus-then (plus hours minutes) (Sum.Is z) ∙ (λ i. plus-then hours minutes i >>= λ x. tested (x +ℤ z)))))
-

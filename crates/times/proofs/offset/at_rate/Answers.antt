@@ -5,7 +5,6 @@ use lib.Ieee.{of_int, of_bits, Float, binary64, mul, div, le}
 use mir.Syntax.{w64}
 use mir.ValLaws.{to_z-of_z}
 use borrow.Author.Tests.{not-true, not-false}
-use borrow.Author.Rules.{rules}
 use Rattle.decimals.proofs.Reading.{decimal-limits}
 use Rattle.times.specs.declared.offset.Time.{Time}
 use Rattle.times.specs.Expressions.{truncated, float}
@@ -40,4 +39,3 @@ returns-else-rate c =
     rw (sym c.read_count.ensures, c.in-Is.is, not-false c.args.present c.if-not-present.false-raw, f)
     (ap Time.Is (to_z-of_z w64 _ (record { sfits = c.truncate.type_inv }) ∙ (c.truncate.ensures
     ∙ ap (λ (x : Float). truncated (mul binary64 (div binary64 x c.args.rate) (float 1000000))) c.to_f64.ensures)))
-

@@ -1,12 +1,6 @@
 -- So many units: the count as a float, times the unit, truncated.
-use mathlib.Core.Path.{sym, ap, ◌∙◌}
-use lib.Ieee.{Float, binary64, mul}
-use mir.Syntax.{w64}
-use mir.ValLaws.{to_z-of_z}
-use borrow.Author.Rules.{rules}
+use mathlib.Core.Path.{sym, ◌∙◌}
 use Rattle.decimals.proofs.Reading.{decimal-limits}
-use Rattle.times.specs.declared.offset.Time.{Time}
-use Rattle.times.specs.Expressions.{truncated}
 use Rattle.times.proofs.offset.units.Goals as goal
 
 pub to_f64-requires : goal.to_f64-requires

@@ -5,7 +5,6 @@ use native.Mathlib.Omega.{arith}
 use Rattle.numerals.proofs.Numerals.{shift_fits, shift_over}
 use Rattle.times.specs.Sums.{checked}
 use Rattle.times.proofs.Summing.{signed-over, signed-times}
-use borrow.Author.Rules.{rules}
 use Rattle.times.proofs.sums.times.Goals as goal
 
 pub returns-then-unit-size : goal.returns-then-unit-size

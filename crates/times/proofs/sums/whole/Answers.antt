@@ -4,7 +4,6 @@ use native.Mathlib.Omega.{arith}
 use lib.IntN.{pos, neg_ℤ}
 use mir.Syntax.{w64}
 use mir.ValLaws.{to_z-of_z}
-use borrow.Author.Rules.{rules}
 use Rattle.times.proofs.Summing.{checked-is, checked-over, low_bits, less_one, negative_fits, signed-over}
 use Rattle.times.proofs.sums.whole.Goals as goal
 
@@ -33,4 +32,3 @@ returns-then-w c =
     let m = c.args.w.magnitude in
     rw c.if-w.true (checked-is (neg_ℤ (pos m)) _ (to_z-of_z w64 _ (rw (less_one m (omega arith) (omega arith)) (record { sfits = negative_fits m (omega arith) }))
     ∙ less_one m (omega arith) (omega arith)) (negative_fits m (omega arith)))
-

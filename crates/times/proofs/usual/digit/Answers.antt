@@ -1,7 +1,6 @@
 -- A digit by the range of its byte.
 use native.Mathlib.Omega.{arith}
 use Rattle.scan.proofs.Runs.{digit_yes, digit_below, digit_above}
-use borrow.Author.Rules.{rules}
 use Rattle.times.proofs.usual.digit.Goals as goal
 
 pub returns-in_default : goal.returns-in_default

@@ -1,7 +1,6 @@
 -- Each digit is at most 1,000, so that nothing passes 64 bits.
 use native.Mathlib.Omega.{arith}
 use Rattle.times.proofs.UsualTimes.{digit_most}
-use borrow.Author.Rules.{rules}
 use Rattle.times.proofs.usual.three_digits.Goals as goal
 
 pub overflow_mul-result : goal.overflow_mul-result

@@ -1,6 +1,5 @@
 -- Each mark is tested before the digits are read.
 use Rattle.times.proofs.UsualTimes.{no_first, no_second, no_point, all_marks}
-use borrow.Author.Rules.{rules}
 use Rattle.times.proofs.usual.usual_millis.Goals as goal
 
 pub returns-then-text-ne58 : goal.returns-then-text-ne58

@@ -6,7 +6,6 @@ use mir.ValLaws.{to_z-of_z}
 use native.Mathlib.Omega.{arith}
 use Rattle.times.specs.Written.{millis}
 use Rattle.times.proofs.Clocks.{hours_few, text-length, field-length, clock-laid}
-use borrow.Author.Rules.{rules}
 use Rattle.times.proofs.write.format_ts.Goals as goal
 
 pub overflow_add-width : goal.overflow_add-width

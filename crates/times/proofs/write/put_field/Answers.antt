@@ -2,7 +2,6 @@
 use native.Mathlib.Omega.{arith}
 use Rattle.numerals.proofs.Writing.{padded-length}
 use Rattle.times.proofs.Clocks.{field-laid}
-use borrow.Author.Rules.{rules}
 use Rattle.times.proofs.write.put_field.Goals as goal
 
 pub bounds-out-end : goal.bounds-out-end

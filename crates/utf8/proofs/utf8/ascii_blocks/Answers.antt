@@ -1,7 +1,5 @@
-use Prim.Native.Nat.{◌+◌, ◌-◌}
+use Prim.Native.Nat.{◌+◌}
 use native.Mathlib.Omega.{arith}
-use lib.ListN.{length}
-use Rattle.utf8.specs.Steps.{AsciiTo}
 use Rattle.utf8.proofs.Utf8Laws.{bounded_up, bounded_join}
 use Rattle.utf8.proofs.utf8.ascii_blocks.Goals as goal
 

@@ -1,8 +1,5 @@
-use Prim.Native.Nat.{◌+◌, ◌-◌}
 use mathlib.Core.Path.{refl}
 use native.Mathlib.Omega.{arith}
-use lib.ListN.{length}
-use Rattle.utf8.specs.Steps.{AsciiTo}
 use Rattle.utf8.proofs.Utf8Laws.{bounded_more, bounded_join}
 use Rattle.utf8.proofs.utf8.ascii_end.Goals as goal
 

@@ -1,10 +1,7 @@
 -- `utf8::ascii_end` meets its contract. The loop's invariant: the bytes from the start to `i` are ASCII. Assumes nothing.
-use Prim.Native.Nat.{◌+◌, ◌-◌}
-use mathlib.Core.Path.{refl}
-use native.Mathlib.Omega.{arith}
+use Prim.Native.Nat.{◌-◌}
 use lib.ListN.{length}
 use Rattle.utf8.specs.Steps.{AsciiTo}
-use Rattle.utf8.proofs.Utf8Laws.{bounded_more, bounded_join}
 use Rattle.utf8.proofs.utf8.ascii_end.Given as goal
 
 abbrev pub invariant-loop-i : goal.invariant-loop-i

@@ -1,10 +1,4 @@
-use Prim.Native.Nat.{ℕ, ◌+◌, ◌-◌, ◌≤◌}
-use mathlib.Core.List.{List}
-use mathlib.Core.Logic.{⊎_elim}
 use native.Mathlib.Omega.{arith}
-use lib.ListN.{get_or}
-use Rattle.utf8.specs.Steps.{Bounded}
-use Rattle.utf8.proofs.Utf8Laws.{bounded_up, bounded_more}
 use Rattle.utf8.proofs.utf8.largest.Goals as goal
 
 pub loop-i-init : goal.loop-i-init

@@ -1,11 +1,6 @@
 -- `utf8::largest` meets its contract. The loop's invariant: no byte passed is larger than `most`. Assumes nothing.
-use Prim.Native.Nat.{ℕ, ◌+◌, ◌-◌, ◌≤◌}
-use mathlib.Core.List.{List}
-use mathlib.Core.Logic.{⊎_elim}
-use native.Mathlib.Omega.{arith}
-use lib.ListN.{get_or}
+use Prim.Native.Nat.{◌+◌, ◌-◌, ◌≤◌}
 use Rattle.utf8.specs.Steps.{Bounded}
-use Rattle.utf8.proofs.Utf8Laws.{bounded_up, bounded_more}
 use Rattle.utf8.proofs.utf8.largest.Given as goal
 
 abbrev pub invariant-loop-i : goal.invariant-loop-i

@@ -1,9 +1,6 @@
-use Prim.Native.Nat.{◌-◌, ◌≤◌}
-use mathlib.Core.Path.{◌≡◌, sym, ◌∙◌}
+use mathlib.Core.Path.{sym, ◌∙◌}
 use native.Mathlib.Omega.{arith}
-use lib.ListN.{length}
-use Rattle.utf8.specs.Utf8.{utf8_end}
-use Rattle.utf8.proofs.Utf8Laws.{end_from, end_start, end_here, end_on, end_out, end_run, longest_valid, sequence-ascii}
+use Rattle.utf8.proofs.Utf8Laws.{end_start, end_here, end_on, end_out, end_run, longest_valid, sequence-ascii}
 use Rattle.utf8.proofs.utf8.utf8_end.Goals as goal
 
 pub loop-i-init : goal.loop-i-init

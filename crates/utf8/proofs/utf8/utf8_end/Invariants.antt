@@ -1,10 +1,9 @@
 -- `utf8::utf8_end` meets its contract: each turn keeps where the sequences end; that this is the longest valid beginning is a law. Assumes nothing.
 use Prim.Native.Nat.{◌-◌, ◌≤◌}
-use mathlib.Core.Path.{◌≡◌, sym, ◌∙◌}
-use native.Mathlib.Omega.{arith}
+use mathlib.Core.Path.{◌≡◌}
 use lib.ListN.{length}
 use Rattle.utf8.specs.Utf8.{utf8_end}
-use Rattle.utf8.proofs.Utf8Laws.{end_from, end_start, end_here, end_on, end_out, end_run, longest_valid, sequence-ascii}
+use Rattle.utf8.proofs.Utf8Laws.{end_from}
 use Rattle.utf8.proofs.utf8.utf8_end.Given as goal
 
 abbrev pub invariant-loop-i : goal.invariant-loop-i
