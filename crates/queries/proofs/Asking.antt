@@ -21,7 +21,7 @@ use Rattle.track.specs.declared.strings.Span.{Span}
 use Rattle.track.specs.declared.values.Look as values
 use Rattle.track.specs.declared.values.Cue as placed
 use Rattle.track.specs.declared.check.Check.{Check}
-use Rattle.track.specs.Track.{Bytes, Look, Style, Region, Cue, Track}
+use Rattle.track.specs.Track.{Bytes, Look, Style, Region, Track}
 use Rattle.track.specs.Tables.{Tables, cell, span, optional, rows_from, style_count, region_count, cue_count, cue_at}
 use Rattle.track.specs.Meaning.{bytes_at, given, look_in_of, region_in, cue_in, track_at, track_in}
 use Rattle.track.proofs.ShownLaws.{regions-in, cues-in}
@@ -71,16 +71,7 @@ use Rattle.queries.specs.Promise.{
   RegionStyle,
   EffectiveStyle,
 }
-use Rattle.queries.specs.Steps.{
-  regions_of,
-  part_as,
-  RegionPost,
-  CueRegionPost,
-  query_check,
-  refused_as_of,
-  answer_of,
-  FinishPost,
-}
+use Rattle.queries.specs.Steps.{regions_of, part_as, RegionPost, CueRegionPost, query_check, refused_as_of, FinishPost}
 use Rattle.queries.proofs.Regions.{blank-unstyled}
 use Rattle.queries.proofs.OwnNumbers.{region_refused, cue_refused}
 use Rattle.queries.proofs.Reaching.{Reached, value-reached, region_reached, cue_reached}

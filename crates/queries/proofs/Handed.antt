@@ -4,16 +4,14 @@
 --     ready, has_regions          the rows of styles and regions can be searched
 --     cue_spans                   a cue's strings stand among the strings
 use Prim.Native.Nat.{ℕ, ◌+◌, ◌-◌, ◌*◌, ◌≤◌, ◌<◌}
-use mathlib.Core.Path.{◌≡◌, refl, sym, ap, ◌∙◌}
-use mathlib.Core.Bool.{Bool, true, false, cond, ◌&&◌}
-use mathlib.Core.List.{List}
+use mathlib.Core.Path.{◌≡◌}
+use mathlib.Core.Bool.{Bool, true, ◌&&◌}
 use native.Mathlib.Omega.{arith}
 use native.Mathlib.Nat.{add-zero}
-use lib.ListN.{length, get_or, take, length-take}
+use lib.ListN.{length, get_or, length-take}
 use lib.Dec.{eqb, leb}
-use borrow.Author.Tests.{leb-true, eqb-true, eqb-false}
+use borrow.Author.Tests.{leb-true, eqb-true}
 use Rattle.scan.proofs.Every.{by-test, both}
-use Rattle.track.specs.declared.strings.Span.{Span}
 use Rattle.track.specs.Tables.{Tables, cell, span, optional, style_count, region_count, cue_count, segment_count, strings_used, cue_at}
 use Rattle.track.specs.Meaning.{is_optional, has_extras, within_limits, is_track}
 use Rattle.track.specs.Check.{is_full, rows_full, rest_full}
@@ -21,8 +19,7 @@ use Rattle.track.proofs.Spans.{span-within}
 use Rattle.track.proofs.StringLaws.{three, four, given-span}
 use Rattle.track.proofs.RowParts.{StyleParts, style_parts, RegionParts, region_parts, cue_parts, extras_within, extra_parts}
 use Rattle.track.proofs.Accepted.{used_strings, used_texts, limits_ok, style_ok, region_ok, cue_ok}
-use Rattle.records.specs.Find.{Named}
-use Rattle.styles.specs.Steps.{Chained, Ready}
+use Rattle.styles.specs.Steps.{Ready}
 use Rattle.queries.specs.Steps.{SpanIn, HasExtras, HasRegions}
 
 pub record Accepted (T : Tables) : Type 0 where

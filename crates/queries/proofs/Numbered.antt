@@ -6,12 +6,11 @@
 use Prim.Native.Nat.{ℕ, zero, suc, ◌+◌, ◌-◌, ◌*◌, ◌≤◌, ◌<◌}
 use Prim.Native.String.{String}
 use mathlib.Core.Path.{◌≡◌, refl, sym, ap, ◌∙◌}
-use mathlib.Core.Bool.{Bool, true, false, cond, not, ◌&&◌}
+use mathlib.Core.Bool.{Bool, true, false, not, ◌&&◌}
 use mathlib.Core.List.{List, [], ◌∷◌}
-use mathlib.Core.Option.{Option, none, some}
 use native.Mathlib.Omega.{arith}
 use native.Mathlib.Nat.{add-zero}
-use lib.ListN.{length, get_or}
+use lib.ListN.{get_or}
 use lib.Dec.{eqb}
 use borrow.Author.Tests.{not-true, eqb-true, eqb-false, eq-eqb, ne_eqb}
 use Rattle.scan.specs.Names.{same_bytes_of}
@@ -20,15 +19,15 @@ use Rattle.decimals.proofs.Tests.{no}
 use Rattle.names.specs.declared.tables.Listed.{Listed}
 use Rattle.names.specs.Lists.{region_attr, name_of}
 use Rattle.track.specs.declared.strings.Span.{Span}
-use Rattle.track.specs.Track.{Bytes, Extra}
+use Rattle.track.specs.Track.{Extra}
 use Rattle.track.specs.Tables.{span, cell, rows_from, extra_at}
 use Rattle.track.specs.Shown.{bytes_at, given, shown_extra}
 use Rattle.track.proofs.ShownLaws.{each_rows}
 use Rattle.records.specs.Find.{first_that}
-use Rattle.styles.specs.Own.{ascii, value_from, is_named, value_of}
+use Rattle.styles.specs.Own.{ascii, value_of}
 use Rattle.queries.specs.declared.own.Value.{Value}
 use Rattle.queries.specs.Places.{extras_of, extras_at}
-use Rattle.queries.specs.Steps.{no_value_of, value_at, value_in_of, bytes_in, SpanIn, HasExtras}
+use Rattle.queries.specs.Steps.{no_value_of, value_at, value_in_of, SpanIn}
 
 -- ---- a name that a list has once
 unfoldable pub none_of_lem : List (List ℕ) → List ℕ → Bool

@@ -1,10 +1,10 @@
 -- What a region says of itself. Assumes nothing.
 --     color-read, size-read, align_read         an absent value reads as an empty one
 --     own-cut, own-cut_back, own-beyond, own-all     the ways through `own_values`
-use Prim.Native.Nat.{ℕ, zero, suc, ◌+◌, ◌*◌, ◌≤◌, ◌<◌}
-use mathlib.Core.Path.{◌≡◌, refl, sym, ap, ◌∙◌}
-use mathlib.Core.Bool.{Bool, true, false, cond}
-use mathlib.Core.List.{List, [], ◌∷◌}
+use Prim.Native.Nat.{ℕ, ◌≤◌, ◌<◌}
+use mathlib.Core.Path.{◌≡◌, refl, sym, ◌∙◌}
+use mathlib.Core.Bool.{Bool, true, false}
+use mathlib.Core.List.{List, []}
 use mathlib.Core.Option.{Option, none, some}
 use native.Mathlib.Omega.{arith}
 use native.Mathlib.Nat.{zero-sub, zero-add}
@@ -13,8 +13,7 @@ use Rattle.scan.specs.Bytes.{run_length_of, run_end_of}
 use Rattle.scan.proofs.Runs.{run-here, run_out, run_length}
 use Rattle.scan.specs.Part.{string_at}
 use Rattle.scan.specs.Names.{same_bytes_of, same_folded}
-use Rattle.scan.specs.Loop.{loop}
-use Rattle.utf8.specs.White.{trimmed, white_end, white_start}
+use Rattle.utf8.specs.White.{trimmed, white_end}
 use Rattle.scan.proofs.Every.{by-test}
 use Rattle.colors.specs.declared.read.Rgba.{Rgba}
 use Rattle.colors.specs.declared.read.Color.{Color}
@@ -26,15 +25,13 @@ use Rattle.decimals.specs.Size.{size_of}
 use Rattle.decimals.specs.declared.read.Decimal.{Decimal}
 use Rattle.decimals.specs.declared.read.Digits.{Digits}
 use Rattle.decimals.proofs.Tests.{no}
-use Rattle.names.specs.Lists.{region_attr}
 use Rattle.track.specs.Alignment.{align_word}
 use Rattle.track.specs.declared.values.Align.{Align}
 use Rattle.track.specs.declared.values.Look as values
-use Rattle.track.specs.Track.{Bytes, Look, Extra}
-use Rattle.track.specs.Tables.{span, rows_from}
+use Rattle.track.specs.Track.{Bytes, Extra}
 use Rattle.track.specs.Meaning.{bytes_at, given, look_in_of}
-use Rattle.styles.specs.Own.{Read, is, refused, next, ascii, value_of, color_read, color_of, size_read, size_byte, size_in, is_word, align_in, own_values}
-use Rattle.styles.specs.Cells.{no_color, no_size_of, Tidy}
+use Rattle.styles.specs.Own.{is, ascii, value_of, color_read, color_of, size_read, size_byte, size_in, is_word, align_in, own_values}
+use Rattle.styles.specs.Cells.{no_color, no_size_of}
 use Rattle.queries.specs.declared.own.Value.{Value}
 use Rattle.queries.specs.declared.own.Paint.{Paint}
 use Rattle.queries.specs.declared.own.ColorRead.{ColorRead}

@@ -1,27 +1,27 @@
 -- A region's part of an answer: its chain, and what it says itself. Assumes nothing.
 --     blank-post, region_none, region_refused, region_done     the ways through `region_part`
 --     cue_none, cue_some                                       and through `cue_part`
-use Prim.Native.Nat.{ℕ, zero, suc, ◌+◌, ◌*◌, ◌≤◌, ◌<◌}
+use Prim.Native.Nat.{ℕ, ◌+◌, ◌*◌, ◌<◌}
 use mathlib.Core.Path.{◌≡◌, refl, sym, ap, ◌∙◌}
-use mathlib.Core.Bool.{Bool, true, false, cond}
-use mathlib.Core.List.{List, [], ◌∷◌}
-use mathlib.Core.Option.{Option, none, some}
+use mathlib.Core.Bool.{Bool, true, false}
+use mathlib.Core.List.{List, []}
+use mathlib.Core.Option.{some}
 use native.Mathlib.Omega.{arith}
-use lib.ListN.{length, get_or}
+use lib.ListN.{get_or}
 use Rattle.scan.specs.Part.{string_at}
 use Rattle.scan.proofs.Every.{by-test}
 use Rattle.track.specs.declared.strings.Span.{Span}
 use Rattle.track.specs.declared.values.Look as values
-use Rattle.track.specs.Track.{Bytes, Look, Extra, Style, Region}
-use Rattle.track.specs.Tables.{Tables, span, cell, rows_from, region_at}
+use Rattle.track.specs.Track.{Bytes, Style}
+use Rattle.track.specs.Tables.{span, cell, region_at}
 use Rattle.track.specs.Meaning.{bytes_at, given, look_in_of, region_in}
 use Rattle.track.specs.Layout.{is_some}
 use Rattle.scan.specs.declared.table.Found.{Found}
 use Rattle.records.specs.Find.{find_region, first_row}
 use Rattle.records.proofs.FoundRows.{row_first, region-found}
 use Rattle.styles.specs.Values.{unstyled}
-use Rattle.styles.specs.Resolve.{Resolution, resolve}
-use Rattle.styles.specs.Own.{Read, is, refused, next, value_of, own_values}
+use Rattle.styles.specs.Resolve.{resolve}
+use Rattle.styles.specs.Own.{is, next, value_of, own_values}
 use Rattle.styles.specs.Queries.{nothing, resolve_optional, with_own, region_found}
 use Rattle.styles.specs.Cells.{no_color, no_size_of, blank_look, Tidy}
 use Rattle.styles.proofs.Answering.{resolve-nothing}
@@ -30,22 +30,7 @@ use Rattle.queries.specs.declared.own.OwnRead.{OwnRead}
 use Rattle.queries.specs.declared.region.Part.{Part}
 use Rattle.queries.specs.declared.region.PartRead.{PartRead}
 use Rattle.queries.specs.Places.{or_zero, cells_of, extras_of, extras_at, blank_part, part_at}
-use Rattle.queries.specs.Steps.{
-  value_at,
-  bytes_in,
-  value_in_of,
-  SpanIn,
-  HasExtras,
-  own_as,
-  OwnPost,
-  HasRegions,
-  region_tables,
-  regions_of,
-  part_as,
-  PartPost,
-  RegionPost,
-  CueRegionPost,
-}
+use Rattle.queries.specs.Steps.{value_at, bytes_in, value_in_of, HasExtras, OwnPost, region_tables, regions_of, PartPost, RegionPost, CueRegionPost}
 use Rattle.queries.proofs.Numbered.{value-within, value-absent}
 use Rattle.queries.proofs.Owning.{chain_is, chain-at}
 

@@ -1,12 +1,12 @@
 -- Tables of rows grow by a row: what `AddPost` says of the layout. Assumes nothing.
 --     filled_more, row-added, table-grown     one more; param_wide … segment_wide     how many cells a row has
-use Prim.Native.Nat.{ℕ, zero, suc, ◌+◌, ◌-◌, ◌*◌, ◌≤◌, ◌<◌}
+use Prim.Native.Nat.{ℕ, zero, suc, ◌+◌, ◌-◌, ◌*◌, ◌≤◌}
 use mathlib.Core.List.{List, [], ◌∷◌, ◌++◌, append-nil, append_assoc}
-use mathlib.Core.Path.{◌≡◌, refl, ap, ◌∙◌}
+use mathlib.Core.Path.{◌≡◌, refl, ◌∙◌}
 use native.Mathlib.Omega.{arith}
-use native.Mathlib.Nat.{add_assoc, suc-mul, add-mul, sub-zero, zero-sub, suc-sub-suc, mul-le-mul_right}
-use lib.ListN.{length, get_or, take, drop, replicate, length-append, length-replicate, get_or-append}
-use lib.Seq.{sets, sets-eq, length-take-le, take-append_seam, drop-append-add, get_or-append-add}
+use native.Mathlib.Nat.{suc-mul, sub-zero, zero-sub, suc-sub-suc, mul-le-mul_right}
+use lib.ListN.{length, drop, replicate, length-append, length-replicate}
+use lib.Seq.{sets, sets-eq, take-append_seam, drop-append-add}
 use Rattle.track.specs.declared.values.Param.{Param}
 use Rattle.track.specs.declared.values.Extra.{Extra}
 use Rattle.track.specs.declared.values.Style.{Style}

@@ -5,7 +5,6 @@ use Rattle.scan.specs.Part.{part}
 use Rattle.track.specs.declared.strings.Span.{Span}
 use Rattle.track.specs.declared.segments.Segment.{Segment}
 use Rattle.track.specs.Track.{Wrapper, Segments, segment_rows}
-use Rattle.track.specs.Track as track
 use Rattle.track.specs.Layout.{Sized, wrapper_of, preorder, joined_cells, segment_cells}
 
 -- the rows of those wrappers, around n rows

@@ -3,14 +3,13 @@
 --     pairs_over_first, pairs_over, pairs          what `resolve_pair` leaves
 --     lays_none, lays_first, lays_second           what `lay_over` gives
 --     answered-alone, answered-over, answered      what `resolve_over` leaves
-use Prim.Native.Nat.{ℕ, zero, suc, ◌+◌, ◌-◌, ◌*◌, ◌≤◌, ◌<◌}
+use Prim.Native.Nat.{ℕ, zero, suc, ◌*◌, ◌≤◌}
 use mathlib.Core.Path.{◌≡◌, refl, sym, ap, ◌∙◌}
 use mathlib.Core.Bool.{Bool, true, false, cond, not}
-use mathlib.Core.Logic.{◌⊎◌, inl, inr}
-use mathlib.Core.List.{List, [], ◌∷◌, ◌++◌, append-nil}
+use mathlib.Core.List.{List, [], ◌++◌, append-nil}
 use mathlib.Core.Option.{Option, none, some}
 use native.Mathlib.Omega.{arith}
-use lib.ListN.{length, get_or, replicate, length-append, length-replicate, get_or-replicate}
+use lib.ListN.{length, get_or, replicate, length-append, length-replicate}
 use lib.Ieee.{Float}
 use Rattle.utf8.specs.White.{words}
 use Rattle.track.specs.declared.values.Look as values
@@ -18,31 +17,14 @@ use Rattle.track.specs.Track.{Bytes, Look, Style}
 use Rattle.track.specs.Tables.{rows_from}
 use Rattle.track.specs.Meaning.{given, look_in_of}
 use Rattle.styles.specs.declared.apply.Walk.{Walk}
-use Rattle.styles.specs.Reaches.{◌∈◌}
-use Rattle.styles.specs.Values.{blank, unstyled, laid_over}
-use Rattle.styles.specs.Resolve.{Walked, Resolution, start, walk, answered, resolve}
-use Rattle.styles.specs.Queries.{others, both, styled, with_own}
-use Rattle.styles.specs.Cells.{overlaid, blank_look, is_plain, Tidy}
+use Rattle.styles.specs.Values.{blank, laid_over}
+use Rattle.styles.specs.Resolve.{Walked, start, walk, answered, resolve}
+use Rattle.styles.specs.Queries.{others, with_own}
+use Rattle.styles.specs.Cells.{overlaid, blank_look, is_plain}
 use Rattle.styles.specs.Ids.{Row, bytes_of, names_of, rows_in, Held, Unlinked}
 use Rattle.styles.specs.Places as places
 use Rattle.styles.specs.Places.{WalkedAt, forget, start_at}
-use Rattle.styles.specs.Steps.{
-  styles_in,
-  state_in,
-  state_at,
-  Over,
-  Applies,
-  Overflows,
-  style_of,
-  Stood,
-  LaysOver,
-  ids_of_both,
-  Pairs,
-  PairsOver,
-  answer_of,
-  Answered,
-  AnswerOver,
-}
+use Rattle.styles.specs.Steps.{styles_in, state_in, state_at, Applies, Overflows, style_of, LaysOver, ids_of_both, Pairs, PairsOver, answer_of, Answered, AnswerOver}
 use Rattle.styles.proofs.Clearing.{unlinked_rows, unlinked_within}
 use Rattle.styles.proofs.Along.{over-kept, over-longer}
 use Rattle.styles.proofs.Forgetting.{walk_none, forgets}

@@ -3,9 +3,9 @@
 --     others-member, member-others       what is left out
 --     both-exactly                       exactly the ids that the one or the other reaches, each once
 --     both-ids                           the walk that goes on
-use Prim.Native.Nat.{ℕ, ◌≤◌}
-use mathlib.Core.Path.{◌≡◌, refl, sym, ap, ◌∙◌}
-use mathlib.Core.Bool.{Bool, true, false, cond}
+use Prim.Native.Nat.{◌≤◌}
+use mathlib.Core.Path.{◌≡◌, refl, sym, ◌∙◌}
+use mathlib.Core.Bool.{true, false}
 use mathlib.Core.Logic.{◌⊎◌, inl, inr}
 use mathlib.Core.List.Memᴰ
 use mathlib.Core.List.{
@@ -20,9 +20,8 @@ use lib.ListN.{length}
 use Rattle.utf8.specs.White.{words}
 use Rattle.scan.proofs.Every.{by-test}
 use Rattle.names.specs.Numbers.{is_in}
-use Rattle.decimals.proofs.Tests.{no}
 use Rattle.track.specs.Track.{Bytes, Style}
-use Rattle.styles.specs.Reaches.{◌∈◌, parents, Reaches, parent, Distinct, empty, fresh, Exactly}
+use Rattle.styles.specs.Reaches.{◌∈◌, parents, parent, Distinct, empty, fresh, Exactly}
 use Rattle.styles.specs.Resolve.{Walked, start, meet, own, walk, answered, resolve}
 use Rattle.styles.specs.Queries.{others}
 use Rattle.styles.proofs.Members.{is_in-member, member-is_in, fresh-member, no_longer}

@@ -2,11 +2,11 @@
 --     left                       how many styles have a name that is not visited: it falls with each chain that is opened
 --     walk-walks, walk-only      the walk has a result, `walk` gives it, and it has no other
 --     walk_is, is-walk           `walk` meets the equations; what meets them is `walk`
-use Prim.Native.Nat.{ℕ, zero, suc, ◌+◌, ◌≤◌, ◌<◌}
-use mathlib.Core.Path.{◌≡◌, refl, sym, ap, ◌∙◌}
+use Prim.Native.Nat.{ℕ, zero, suc, ◌≤◌, ◌<◌}
+use mathlib.Core.Path.{◌≡◌, refl, sym, ◌∙◌}
 use mathlib.Core.Bool.{Bool, true, false, cond, ◌&&◌, and-false}
 use mathlib.Core.Logic.{◌⊎◌, inl, inr}
-use mathlib.Core.Option.{Option, none, some}
+use mathlib.Core.Option.{none}
 use mathlib.Core.List.Memᴰ
 use mathlib.Core.List.{List, [], ◌∷◌, ◌++◌}
 use native.Mathlib.Omega.{arith}
@@ -15,7 +15,6 @@ use Rattle.scan.specs.Names.{same_bytes_of}
 use Rattle.scan.proofs.Naming.{same_eq}
 use Rattle.scan.proofs.Every.{by-test}
 use Rattle.names.specs.Numbers.{is_in}
-use Rattle.decimals.proofs.Tests.{no}
 use Rattle.track.specs.Track.{Bytes, Style}
 use Rattle.track.specs.Layout.{is_some}
 use Rattle.records.specs.Find.{first_that, find_chain}

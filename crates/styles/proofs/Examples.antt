@@ -6,7 +6,7 @@ use mathlib.Core.Bool.{Bool, true, false, cond}
 use mathlib.Core.List.{List, [], ◌∷◌, map}
 use mathlib.Core.Option.{Option, none, some}
 use lib.Dec.{eqb}
-use lib.IntN.{ℤ, pos}
+use lib.IntN.{pos}
 use lib.ListN.{length}
 use Rattle.scan.specs.Loop.{loop, go}
 use Rattle.scan.specs.Names.{same_bytes_of, same_folded}
@@ -18,7 +18,6 @@ use Rattle.colors.specs.Colors.{color_in}
 use Rattle.records.specs.Find.{find_style, find_chain, find_region}
 use Rattle.colors.specs.declared.read.Rgba.{Rgba}
 use Rattle.colors.specs.Named.{rgba, named_in}
-use Rattle.decimals.specs.declared.size.Size.{Size}
 use Rattle.track.specs.declared.values.Align.{Align}
 use Rattle.track.specs.Track.{Bytes, Look, Extra, Style, Region, Cue, Track}
 use Rattle.track.specs.Track as abstract

@@ -2,32 +2,31 @@
 --     look-over                    an overlay of what the program holds means the overlay
 --     chain_row, chain_none          the parents of an id, where a row with a chain is found, and where none is
 --     chain-at, no_chain_at, own-at, no_own_at      chain and own style with places
-use Prim.Native.Nat.{ℕ, ◌+◌, ◌*◌, ◌≤◌, ◌<◌}
-use mathlib.Core.Path.{◌≡◌, refl, sym, ap, ◌∙◌}
-use mathlib.Core.Bool.{Bool, true, false, cond, not, ◌&&◌, ◌||◌}
-use mathlib.Core.List.{List, [], ◌∷◌}
-use mathlib.Core.Option.{Option, none, some}
+use Prim.Native.Nat.{ℕ, ◌+◌, ◌*◌, ◌<◌}
+use mathlib.Core.Path.{◌≡◌, refl, sym}
+use mathlib.Core.Bool.{Bool, true, false, cond, ◌||◌}
+use mathlib.Core.List.{List, []}
+use mathlib.Core.Option.{some}
 use native.Mathlib.Omega.{arith}
-use native.Mathlib.Nat.{zero-add}
-use lib.ListN.{length, get_or}
+use lib.ListN.{get_or}
 use lib.Dec.{eqb}
 use lib.Ieee.{Float}
 use borrow.Author.Tests.{not-true}
 use Rattle.scan.specs.Part.{string_at}
-use Rattle.utf8.specs.White.{words, words_from}
+use Rattle.utf8.specs.White.{words}
 use Rattle.utf8.proofs.WhiteLaws.{words_from-none, white_end-low}
 use Rattle.scan.proofs.Every.{both}
 use Rattle.track.specs.declared.strings.Span.{Span}
-use Rattle.track.specs.Track.{Bytes, Style}
-use Rattle.track.specs.Tables.{Tables, cell, span, rows_from, look_at, style_at}
+use Rattle.track.specs.Track.{Bytes}
+use Rattle.track.specs.Tables.{Tables, cell, span, style_at}
 use Rattle.track.specs.Meaning.{bytes_at, given, look_in_of, style_in}
 use Rattle.scan.specs.declared.table.Found.{Found}
-use Rattle.records.specs.Find.{is_named, first_row, first_with, chain_from, found_in}
-use Rattle.records.proofs.Finding.{named, named_with}
+use Rattle.records.specs.Find.{first_row, first_with}
+use Rattle.records.proofs.Finding.{named_with}
 use Rattle.records.proofs.FoundRows.{First, row_first, with_first, chain_found}
 use Rattle.track.specs.declared.values.Look.{Look}
 use Rattle.styles.specs.declared.apply.Walk.{Walk}
-use Rattle.styles.specs.Reaches.{chain_words, parents}
+use Rattle.styles.specs.Reaches.{parents}
 use Rattle.styles.specs.Values.{or_else, overlay}
 use Rattle.styles.specs.Cells.{overlaid}
 use Rattle.styles.specs.Places.{row, WalkedAt, chain_at, own_at}

@@ -2,9 +2,9 @@
 --     is_in-member, member-is_in, fresh-member     the test and the relation
 --     distinct_last                              a list without repetition takes one more at its end
 --     same_count                                 two lists that hold exactly the same, each once, are equally long
-use Prim.Native.Nat.{ℕ, zero, suc, ◌+◌, ◌≤◌, ◌<◌}
+use Prim.Native.Nat.{suc, ◌≤◌}
 use mathlib.Core.Path.{◌≡◌, refl, sym, ap, ◌∙◌}
-use mathlib.Core.Bool.{Bool, true, false, ◌||◌}
+use mathlib.Core.Bool.{true, false}
 use mathlib.Core.Logic.{◌⊎◌, inl, inr}
 use mathlib.Core.List.Memᴰ
 use mathlib.Core.List.{
@@ -15,7 +15,7 @@ use mathlib.Core.List.{
   Memᴰ,
 }
 use native.Mathlib.Omega.{arith}
-use lib.ListN.{length, length-append}
+use lib.ListN.{length}
 use Rattle.scan.specs.Names.{same_bytes_of}
 use Rattle.scan.proofs.Naming.{same_eq, same_refl}
 use Rattle.names.specs.Numbers.{is_in}

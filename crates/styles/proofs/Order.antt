@@ -6,7 +6,7 @@ use mathlib.Core.List.{List}
 use mathlib.Core.Option.{Option}
 use Rattle.colors.specs.declared.read.Rgba.{Rgba}
 use Rattle.track.specs.Track.{Bytes, Extra}
-use Rattle.styles.specs.Own.{Read, is, refused, value_of, color_of, size_in, own_values}
+use Rattle.styles.specs.Own.{is, refused, value_of, color_of, size_in, own_values}
 
 module _ (e : List (Extra Bytes)) (n : ℕ) where
   pub color-first : color_of (value_of "tts:color" e) ≡ refused n → own_values e ≡ refused n

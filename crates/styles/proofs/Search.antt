@@ -6,46 +6,25 @@
 --     Searching, search_start, search_step, search_hit, search_none   the search for a name
 --     Falling, falling_start, falling_step, falling_ends              the search for the place of a new one
 --     second_half, first-half, second_fits, first_fits                a row put into a link
-use Prim.Native.Nat.{ℕ, zero, suc, ◌+◌, ◌-◌, ◌*◌, ◌/◌, ◌%◌, ◌≤◌, ◌<◌}
+use Prim.Native.Nat.{ℕ, zero, suc, ◌+◌, ◌-◌, ◌*◌, ◌%◌, ◌≤◌, ◌<◌}
 use mathlib.Core.Path.{◌≡◌, refl, sym, ap, ◌∙◌}
-use mathlib.Core.Bool.{Bool, true, false, cond, ◌||◌}
-use mathlib.Core.Logic.{◌⊎◌, inl, inr}
+use mathlib.Core.Bool.{Bool, true, false}
 use mathlib.Core.List.{List, [], ◌∷◌, ◌++◌}
 use native.Mathlib.Omega.{arith}
-use native.Mathlib.Nat.{add-zero, zero-add, mod-lt, suc-mul}
+use native.Mathlib.Nat.{add-zero, zero-add, mod-lt}
 use native.Mathlib.Numerals.{add-one}
 use lib.ListN.{length, get_or, drop, drop_of_length-le}
 use lib.Seq.{drop-cons}
 use lib.Dec.{eqb, leb, ltb}
 use borrow.Author.Tests.{eqb-true, eqb-false, ne_eqb, leb-true, leb-false, ltb-true, ltb-false}
 use Rattle.scan.specs.Names.{same_bytes_of}
-use Rattle.scan.specs.Part.{string_at}
 use Rattle.scan.proofs.Naming.{same_eq}
 use Rattle.scan.proofs.Every.{by-test}
 use Rattle.names.specs.Numbers.{is_in}
 use Rattle.decimals.proofs.Tests.{no}
 use Rattle.track.specs.Track.{Bytes}
 use Rattle.track.specs.Tables.{rows_from}
-use Rattle.styles.specs.Ids.{
-  source_of,
-  Row,
-  names_of,
-  row_at,
-  rows_in,
-  id_at,
-  ids_in,
-  RowWithin,
-  hash_from,
-  hash_of,
-  turn,
-  half,
-  from_one,
-  after,
-  met,
-  Tree,
-  Held,
-  Ends,
-}
+use Rattle.styles.specs.Ids.{Row, names_of, row_at, rows_in, id_at, ids_in, RowWithin, hash_from, hash_of, turn, half, from_one, after, met, Tree, Held, Ends}
 
 -- ---- rows
 module _ {A : Type 0} where

@@ -1,19 +1,18 @@
 -- The resolution answers as document 01 says: exactly the ids reached, each once; no style exactly if none of them names one. Assumes nothing.
-use Prim.Native.Nat.{ℕ}
-use mathlib.Core.Path.{◌≡◌, refl, sym, ap, ◌∙◌}
+use mathlib.Core.Path.{◌≡◌, refl}
 use mathlib.Core.Bool.{Bool, true, false, cond}
-use mathlib.Core.Logic.{◌⊎◌, inl, inr}
-use mathlib.Core.Option.{Option, none, some}
+use mathlib.Core.Logic.{inl, inr}
+use mathlib.Core.Option.{none, some}
 use mathlib.Core.List.Memᴰ
-use mathlib.Core.List.{List, []}
+use mathlib.Core.List.{List}
 use Rattle.decimals.proofs.Tests.{no}
 use Rattle.utf8.specs.White.{words}
 use Rattle.track.specs.Track.{Bytes, Look, Style}
 use Rattle.records.specs.Find.{find_style}
-use Rattle.styles.specs.Reaches.{◌∈◌, parents, Reaches, named, parent, Distinct, empty, Exactly}
-use Rattle.styles.specs.Resolve.{Walked, start, walk, Resolution, answered, resolve, Answers}
+use Rattle.styles.specs.Reaches.{◌∈◌, parents, Reaches, named, parent, empty, Exactly}
+use Rattle.styles.specs.Resolve.{Walked, start, walk, answered, resolve, Answers}
 use Rattle.styles.proofs.Members.{same_count}
-use Rattle.styles.proofs.Walks.{Walks, takes, keeps_distinct, stays_within, closes, Missed, misses, finds_none}
+use Rattle.styles.proofs.Walks.{Walks, takes, keeps_distinct, stays_within, closes, misses, finds_none}
 use Rattle.styles.proofs.Equations.{walk-walks}
 
 module _ (styles : List (Style Bytes)) (value : Bytes) where

@@ -5,18 +5,12 @@
 --     stays_within                       only ids of the value and their parents are visited
 --     closes                             the parents of a new id are visited
 --     misses, finds_none                 no style is met exactly if no new id names one
-use Prim.Native.Nat.{ℕ}
-use mathlib.Core.Path.{◌≡◌, refl, sym, ap, ◌∙◌}
-use mathlib.Core.Bool.{Bool, true, false}
+use mathlib.Core.Path.{◌≡◌, refl, sym, ◌∙◌}
+use mathlib.Core.Bool.{true, false}
 use mathlib.Core.Logic.{◌⊎◌, inl, inr}
 use mathlib.Core.Option.{Option, none, some}
 use mathlib.Core.List.Memᴰ
-use mathlib.Core.List.{
-  List,
-  [],
-  ◌∷◌,
-  ◌++◌,
-}
+use mathlib.Core.List.{List, [], ◌∷◌}
 use Rattle.names.specs.Numbers.{is_in}
 use Rattle.decimals.proofs.Tests.{no}
 use Rattle.track.specs.Track.{Bytes, Style}

@@ -1,9 +1,6 @@
 -- The styles that the contracts speak of are those of the track that the tables hold. Assumes nothing.
-use Prim.Native.Nat.{ℕ}
 use mathlib.Core.Path.{◌≡◌, sym}
-use mathlib.Core.List.{List}
-use Rattle.track.specs.Track.{Style, Track}
-use Rattle.track.specs.Tables.{Tables, rows_from, style_count}
+use Rattle.track.specs.Tables.{Tables, style_count}
 use Rattle.track.specs.Meaning.{style_in, track_at}
 use Rattle.track.proofs.ShownLaws.{styles-in}
 use Rattle.styles.specs.Steps.{styles_in}

@@ -30,7 +30,7 @@ use Rattle.track.proofs.ShownLaws.{param_in, params_in, styles-in, regions-in, c
 use Rattle.track.proofs.ReadBack.{Reads, AllAt, reads_here, reads_after, reads_rest, rows_at, at_both, rows-mean, all_append}
 use Rattle.track.proofs.ReadBack.{all_each, all_join, each_all, all_both}
 use Rattle.track.proofs.ExtrasLaid.{Sits, Stays, extras_laid_lem, laid-long, laid-extras}
-use Rattle.track.proofs.RowsLaid.{OptionalRead, optional-long, optional-read, param_read, region_read, style_read, style_long}
+use Rattle.track.proofs.RowsLaid.{OptionalRead, optional-read, param_read, region_read, style_read, style_long}
 use Rattle.track.proofs.SegmentsLaid.{Stand, cells_in}
 use Rattle.track.proofs.CuesLaid.{cues_read}
 

@@ -1,6 +1,5 @@
 -- `own_values` meets its contract. Assumes nothing.
 use Rattle.queries.proofs.Owning.{own-cut, own-cut_back, own-beyond, own-all}
-use borrow.Author.Rules.{rules}
 use Rattle.queries.proofs.own.own_values.Goals as goal
 
 pub returns-in-Cut : goal.returns-in-Cut

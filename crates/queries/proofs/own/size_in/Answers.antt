@@ -5,7 +5,6 @@ use lib.ListN.{length-take}
 use lib.Ieee.{of_bits}
 use Rattle.decimals.proofs.Reading.{decimal-limits}
 use Rattle.queries.proofs.Owning.{size-post, size_none, size-beyond}
-use borrow.Author.Rules.{rules}
 use Rattle.queries.proofs.own.size_in.Goals as goal
 
 pub slice_bounds-read_decimal-end : goal.slice_bounds-read_decimal-end

@@ -2,7 +2,6 @@
 use native.Mathlib.Omega.{arith}
 use Rattle.scan.specs.Part.{string_at}
 use Rattle.queries.proofs.Owning.{value_in}
-use borrow.Author.Rules.{rules}
 use Rattle.queries.proofs.own.size_of.Goals as goal
 
 pub value_of-v-requires : goal.value_of-v-requires

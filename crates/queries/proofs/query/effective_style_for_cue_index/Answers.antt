@@ -6,7 +6,6 @@ use Rattle.queries.proofs.Handed.{lengths, ready, has_regions, cues_few, cue_spa
 use Rattle.queries.proofs.Promising.{check_taken, check_none_asked, checked-query}
 use Rattle.queries.proofs.Asking.{cue_past, cue_refuses, cue_asked}
 use Rattle.queries.specs.Promise.{of_cue_of}
-use borrow.Author.Rules.{rules}
 use Rattle.queries.proofs.query.effective_style_for_cue_index.Goals as goal
 
 pub get-requires : goal.get-requires

@@ -5,7 +5,6 @@ use Rattle.queries.proofs.Handed.{lengths, ready, has_regions}
 use Rattle.queries.proofs.Promising.{check_taken, checked-query}
 use Rattle.queries.proofs.Asking.{no_bytes, region_refuses, region_asked}
 use Rattle.queries.specs.Promise.{of_region}
-use borrow.Author.Rules.{rules}
 use Rattle.queries.proofs.query.region_style.Goals as goal
 
 pub get-requires : goal.get-requires

@@ -3,7 +3,6 @@ use native.Mathlib.Omega.{arith}
 use borrow.Author.Tests.{not-true, not-false}
 use Rattle.scan.specs.Part.{string_at}
 use Rattle.queries.proofs.Regions.{cue_none, cue_some}
-use borrow.Author.Rules.{rules}
 use Rattle.queries.proofs.region.cue_part.Goals as goal
 
 pub returns-then-not-has : goal.returns-then-not-has

@@ -1,11 +1,10 @@
 -- `region_part` meets its contract. Assumes nothing.
-use mathlib.Core.Path.{refl, sym, ap, ◌∙◌}
+use mathlib.Core.Path.{sym, ap, ◌∙◌}
 use mathlib.Core.List.{[]}
 use native.Mathlib.Omega.{arith}
 use Rattle.track.specs.Tables.{cell, region_at}
 use Rattle.queries.specs.declared.own.Value.{Value}
 use Rattle.queries.proofs.Regions.{row_within, region_none, region_refused, region_done}
-use borrow.Author.Rules.{rules}
 use Rattle.queries.proofs.region.region_part.Goals as goal
 
 pub region_at-region-requires : goal.region_at-region-requires

@@ -1,10 +1,8 @@
 -- `put_size` meets its contract: three stores. Assumes nothing.
-use mathlib.Core.Logic.{⊎_elim}
 use native.Mathlib.Omega.{arith}
 use native.Mathlib.Numerals.{add-one, add-two}
 use lib.ListN.{length-set}
 use Rattle.track.specs.Layout.{size_cells}
-use borrow.Author.Rules.{rules}
 use Rattle.records.proofs.cells.put_size.Goals as goal
 use Rattle.records.proofs.cells.put_size.Goals.{then-s, else-s}
 

@@ -4,7 +4,6 @@ use native.Mathlib.Omega.{arith}
 use native.Mathlib.Numerals.{add-one}
 use lib.ListN.{length-set}
 use Rattle.records.proofs.Parts.{same_time}
-use borrow.Author.Rules.{rules}
 use Rattle.records.proofs.cues.add_cue.Goals as goal
 
 pub bounds-times-n-2 : goal.bounds-times-n-2

@@ -5,7 +5,6 @@ use lib.ListN.{get_or}
 use lib.IntN.{pos}
 use Rattle.records.proofs.Parts.{same_time}
 use Rattle.track.specs.Tables.{cell, cue_at}
-use borrow.Author.Rules.{rules}
 use Rattle.records.proofs.cues.cue_at.Goals as goal
 
 pub returns : goal.returns

@@ -5,7 +5,6 @@ use lib.ListN.{length, length-set}
 use lib.Seq.{append_snoc, length-sets}
 use Rattle.track.specs.Layout.{optional_cells, rows_cells, cue_cells}
 use Rattle.records.proofs.Storing.{first, then, then_cell, optional-wide}
-use borrow.Author.Rules.{rules}
 use Rattle.records.proofs.cues.put_cue.Goals as goal
 
 pub put_rows-requires : goal.put_rows-requires

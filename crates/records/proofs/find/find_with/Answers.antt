@@ -1,10 +1,7 @@
-use Prim.Native.Nat.{◌-◌, ◌≤◌}
-use mathlib.Core.Path.{◌≡◌, sym, ◌∙◌}
-use mathlib.Core.Logic.{⊎_elim}
+use mathlib.Core.Path.{sym, ◌∙◌}
 use native.Mathlib.Omega.{arith}
 use native.Mathlib.Nat.{sub-zero}
-use Rattle.records.specs.Find.{first_with}
-use Rattle.records.proofs.Finding.{first_of, named_with, first_with-of, first_out, first-hit, first-miss, with_both, with_none, with_other}
+use Rattle.records.proofs.Finding.{first_with-of, first_out, first-hit, first-miss, with_both, with_none, with_other}
 use Rattle.records.proofs.Finding.{row_within}
 use Rattle.records.proofs.find.find_with.Goals as goal
 use Rattle.records.proofs.find.find_with.Goals.{then-cells-i-ne0+else-is_named, else-cells-i-ne0}
@@ -61,7 +58,10 @@ returns c =
     sym (c.loop-i.invariant.1 ∙ first_out _ _ _ c.loop-i-test.false)
 
 pub loop-i-preserved : goal.loop-i-preserved
-loop-i-preserved c = (omega arith, c.loop-i.invariant.1 ∙ first-miss _ _ _ c.loop-i-test.true (elim c.if-cells-i-ne0.branch [
-      | then-cells-i-ne0+else-is_named w ↦ with_other _ _ _ _ _ _ w.if-cells-i-ne0.true (sym w.is_named.ensures ∙ w.if-is_named.false)
-      | else-cells-i-ne0 w ↦ with_none c.args.cells.now c.args.strings.now c.args.name.now c.args.width c.args.needed _ w.if-cells-i-ne0.false
-    ]))
+loop-i-preserved c = (
+  omega arith,
+  c.loop-i.invariant.1 ∙ first-miss _ _ _ c.loop-i-test.true (elim c.if-cells-i-ne0.branch [
+    | then-cells-i-ne0+else-is_named w ↦ with_other _ _ _ _ _ _ w.if-cells-i-ne0.true (sym w.is_named.ensures ∙ w.if-is_named.false)
+    | else-cells-i-ne0 w ↦ with_none c.args.cells.now c.args.strings.now c.args.name.now c.args.width c.args.needed _ w.if-cells-i-ne0.false
+  ]),
+)

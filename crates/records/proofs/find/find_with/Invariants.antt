@@ -1,13 +1,9 @@
 -- `find_with` meets its contract. The loop's invariant: the answer is that of the rows from `i` on. The measure is how many they are. Assumes
 -- nothing.
 use Prim.Native.Nat.{◌-◌, ◌≤◌}
-use mathlib.Core.Path.{◌≡◌, sym, ◌∙◌}
-use mathlib.Core.Logic.{⊎_elim}
-use native.Mathlib.Omega.{arith}
-use native.Mathlib.Nat.{sub-zero}
+use mathlib.Core.Path.{◌≡◌}
 use Rattle.records.specs.Find.{first_with}
-use Rattle.records.proofs.Finding.{first_of, named_with, first_with-of, first_out, first-hit, first-miss, with_both, with_none, with_other}
-use Rattle.records.proofs.Finding.{row_within}
+use Rattle.records.proofs.Finding.{first_of, named_with}
 use Rattle.records.proofs.find.find_with.Given as goal
 
 abbrev pub invariant-loop-i : goal.invariant-loop-i

@@ -1,12 +1,6 @@
 -- `put_head` meets its contract: five counts, a string that may be absent, and two counts more. Assumes nothing.
-use mathlib.Core.Path.{◌≡◌, refl, ap, ◌∙◌}
-use mathlib.Core.List.{[], ◌∷◌}
 use native.Mathlib.Omega.{arith}
-use lib.ListN.{length, length-set}
-use lib.Seq.{append_snoc, length-sets}
-use Rattle.track.specs.Layout.{optional_cells}
-use Rattle.records.proofs.Storing.{first, then, then_cell, optional-wide}
-use borrow.Author.Rules.{rules}
+use lib.ListN.{length-set}
 use Rattle.records.proofs.head.put_head.Goals as goal
 
 pub bounds-head-1 : goal.bounds-head-1
@@ -32,4 +26,3 @@ put_optional-requires c =
 pub overflow_cast-head-7 : goal.overflow_cast-head-7
 overflow_cast-head-7 c =
     omega (arith, c.requires.1.7)
-

@@ -1,10 +1,7 @@
 -- `move_row` meets its contract: six reads, then six stores. Assumes nothing.
 use mathlib.Core.Path.{refl}
 use native.Mathlib.Omega.{arith}
-use native.Mathlib.Numerals.{add-one, add-two, add-three, add-four, add_five}
 use lib.ListN.{length-set}
-use Rattle.records.proofs.RowMoves.{part-six}
-use borrow.Author.Rules.{rules}
 use Rattle.records.proofs.segments.move_row.Goals as goal
 
 pub bounds-cells-to-2 : goal.bounds-cells-to-2
@@ -30,4 +27,3 @@ bounds-cells-to-6 c =
 pub shape_of-cells : goal.shape_of-cells
 shape_of-cells c =
     simp length-set refl
-

@@ -2,12 +2,10 @@
 use Prim.Native.Nat.{◌+◌}
 use mathlib.Core.Path.{◌≡◌, ap, ◌∙◌}
 use mathlib.Core.Bool.{cond}
-use mathlib.Core.Logic.{⊎_elim}
 use mathlib.Core.List.{[], ◌∷◌}
 use native.Mathlib.Omega.{arith}
 use lib.ListN.{length-set}
 use lib.Seq.{sets}
-use borrow.Author.Rules.{rules}
 use Rattle.track.specs.Layout.{flag, span_cells, size_marks, font_cells}
 use Rattle.track.proofs.Packed.{flagged-below}
 use Rattle.records.proofs.Storing.{first, then_two, family_wide}

@@ -1,8 +1,7 @@
-use Prim.Native.Nat.{◌-◌, ◌≤◌}
+use Prim.Native.Nat.{◌-◌}
 use mathlib.Core.Path.{◌≡◌, refl}
 use native.Mathlib.Omega.{arith}
-use lib.ListN.{length}
-use Rattle.records.proofs.RowMoves.{RowsMoved, rows_none, row_moved}
+use Rattle.records.proofs.RowMoves.{rows_none, row_moved}
 use Rattle.records.proofs.segments.shift_segments.Goals as goal
 
 pub loop-i-init : goal.loop-i-init

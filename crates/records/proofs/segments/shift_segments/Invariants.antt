@@ -1,9 +1,8 @@
 -- `shift_segments` meets its contract. The loop's invariant: the rows from `i` on are moved. The measure is `i`. Assumes nothing.
-use Prim.Native.Nat.{◌-◌, ◌≤◌}
-use mathlib.Core.Path.{◌≡◌, refl}
-use native.Mathlib.Omega.{arith}
+use Prim.Native.Nat.{◌≤◌}
+use mathlib.Core.Path.{◌≡◌}
 use lib.ListN.{length}
-use Rattle.records.proofs.RowMoves.{RowsMoved, rows_none, row_moved}
+use Rattle.records.proofs.RowMoves.{RowsMoved}
 use Rattle.records.proofs.segments.shift_segments.Given as goal
 
 abbrev pub invariant-loop-i : goal.invariant-loop-i

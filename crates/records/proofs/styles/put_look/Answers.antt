@@ -2,7 +2,6 @@ use Rattle.track.specs.Layout.{optional_cells, color_cells, size_cells, flag_cel
 use Rattle.records.proofs.Storing.{first, then, optional-wide, color-wide, size-wide}
 use mathlib.Core.Path.{◌≡◌, refl}
 use lib.ListN.{length}
-use borrow.Author.Rules.{rules}
 use Rattle.records.proofs.styles.put_look.Goals as goal
 
 pub returns : goal.returns

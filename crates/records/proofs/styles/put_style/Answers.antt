@@ -1,7 +1,6 @@
 use mathlib.Core.Path.{refl}
 use Rattle.track.specs.Layout.{span_cells, rows_cells, look_cells, style_cells}
 use Rattle.records.proofs.Storing.{first, then, look-wide}
-use borrow.Author.Rules.{rules}
 use Rattle.records.proofs.styles.put_style.Goals as goal
 
 pub returns : goal.returns

@@ -1,12 +1,11 @@
 -- `apply_style_ref` meets its contract. The measure is how many cells are free: each call of itself comes after a row was added. The
 -- loop's invariant is `Along` the words of the chain. Assumes nothing.
-use Prim.Native.Nat.{ℕ, ◌+◌, ◌-◌, ◌≤◌}
-use mathlib.Core.Path.{◌≡◌, refl, sym, ◌∙◌}
+use Prim.Native.Nat.{ℕ}
+use mathlib.Core.Path.{refl, sym, ◌∙◌}
 use mathlib.Core.Logic.{inl, inr}
 use native.Mathlib.Omega.{arith}
-use lib.ListN.{length}
-use Rattle.scan.specs.Part.{part, string_at}
-use Rattle.styles.proofs.Along.{part_length, along_start, along_step, along_done, chain_length, chain_here, word_end, word-within, full-in}
+use Rattle.scan.specs.Part.{string_at}
+use Rattle.styles.proofs.Along.{along_start, along_step, along_done, chain_length, chain_here, word_end, word-within, full-in}
 use Rattle.styles.proofs.Applying.{stands_name, applied-again, applied-full, Entry, entered_held, applied-first, applied-over}
 use Rattle.styles.proofs.apply.+apply_style_ref.Goals as goal
 use Rattle.styles.proofs.apply.+apply_style_ref.Goals.{After-add_id}

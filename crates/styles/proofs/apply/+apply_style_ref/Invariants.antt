@@ -1,11 +1,6 @@
-use Rattle.std.proofs.Common.{◌≡◌, [], ◌∷◌, ℕ, ◌+◌, ◌-◌, ◌*◌, ◌<◌, ◌≤◌, length}
-use Rattle.scan.specs.Part.{string_at}
-use Rattle.utf8.specs.White.{words}
-use Rattle.track.specs.Meaning.{bytes_at}
+use Rattle.std.proofs.Common.{◌-◌, ◌*◌, length}
 use Rattle.track.specs.Tables.{span}
-use Rattle.styles.specs.Ids.{Held}
-use Rattle.styles.specs.Places.{row, Walks}
-use Rattle.styles.specs.Steps.{Chained, Ready, Stands, ChainOf, OwnStyle, Visits, ApplyPost, LaysOver, PairPost, AnswerPost}
+use Rattle.styles.specs.Places.{row}
 use Rattle.scan.specs.Part.{part}
 use Rattle.styles.proofs.Along.{Along}
 use Rattle.styles.proofs.apply.+apply_style_ref.Given as goal

@@ -1,13 +1,10 @@
-use Rattle.styles.proofs.Along.{part_length, Along, along_start, along_step, along_done, word_end, word-within, full-in}
+use Rattle.styles.proofs.Along.{part_length, along_start, along_step, along_done, word_end, word-within, full-in}
 use Rattle.styles.proofs.Applying.{stands_name}
-use Prim.Native.Nat.{◌+◌, ◌-◌, ◌≤◌}
-use mathlib.Core.Path.{◌≡◌, refl, sym, ◌∙◌}
+use Prim.Native.Nat.{◌+◌, ◌-◌}
+use mathlib.Core.Path.{◌≡◌, ◌∙◌}
 use native.Mathlib.Omega.{arith}
-use borrow.Author.Rules.{rules}
 use lib.ListN.{length}
 use Rattle.scan.specs.Part.{part, string_at}
-use Rattle.track.specs.Tables.{span}
-use Rattle.styles.specs.Places.{row}
 use Rattle.styles.proofs.apply.apply_refs.Goals as goal
 
 pub overflow_add-to : goal.overflow_add-to

@@ -1,12 +1,8 @@
 -- `apply_refs` meets its contract. The loop's invariant is `Along` the words of the value. Assumes nothing.
-use Rattle.styles.proofs.Along.{part_length, Along, along_start, along_step, along_done, word_end, word-within, full-in}
-use Rattle.styles.proofs.Applying.{stands_name}
-use Prim.Native.Nat.{◌+◌, ◌-◌, ◌≤◌}
-use mathlib.Core.Path.{◌≡◌, refl, sym, ◌∙◌}
-use native.Mathlib.Omega.{arith}
-use borrow.Author.Rules.{rules}
+use Rattle.styles.proofs.Along.{Along}
+use Prim.Native.Nat.{◌-◌}
 use lib.ListN.{length}
-use Rattle.scan.specs.Part.{part, string_at}
+use Rattle.scan.specs.Part.{part}
 use Rattle.track.specs.Tables.{span}
 use Rattle.styles.specs.Places.{row}
 use Rattle.styles.proofs.apply.apply_refs.Given as goal

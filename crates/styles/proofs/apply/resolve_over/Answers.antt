@@ -2,7 +2,6 @@
 use native.Mathlib.Omega.{arith}
 use Rattle.scan.specs.Part.{string_at}
 use Rattle.styles.proofs.Answering.{answered-alone, answered-over, is-answered}
-use borrow.Author.Rules.{rules}
 use Rattle.styles.proofs.apply.resolve_over.Goals as goal
 
 pub returns-in-Full : goal.returns-in-Full

@@ -2,7 +2,6 @@
 use mathlib.Core.Path.{refl}
 use Rattle.styles.proofs.Applying.{stands_name}
 use Rattle.styles.proofs.Answering.{held_none, pairs_over_first, pairs_over, pairs}
-use borrow.Author.Rules.{rules}
 use Rattle.styles.proofs.apply.resolve_pair.Goals as goal
 
 pub apply_refs-requires : goal.apply_refs-requires

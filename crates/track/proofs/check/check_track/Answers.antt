@@ -6,7 +6,6 @@ use Rattle.track.proofs.Chains.{fails, holds}
 use Rattle.track.proofs.Exactly.{promised, check_short, check_none, check_track}
 use Rattle.track.proofs.Answers.{rows_long, rest-long, limits_low, full-rows, full-rest, full_is, track_limits, track_bytes, track_rows}
 use Rattle.track.proofs.Answers.{track_cues, track_is}
-use borrow.Author.Rules.{rules}
 use Rattle.track.proofs.check.check_track.Goals as goal
 
 pub returns-then-not-rows_full : goal.returns-then-not-rows_full

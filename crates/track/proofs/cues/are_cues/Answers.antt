@@ -1,9 +1,7 @@
-use Prim.Native.Nat.{◌-◌, ◌≤◌}
-use mathlib.Core.Path.{◌≡◌, sym, ◌∙◌}
+use mathlib.Core.Path.{sym, ◌∙◌}
 use native.Mathlib.Nat.{sub-zero}
 use native.Mathlib.Omega.{arith}
 use Rattle.track.specs.Tables.{cell}
-use Rattle.track.specs.Meaning.{are_cues}
 use Rattle.track.proofs.Chains.{fails, holds}
 use Rattle.track.proofs.CueRows.{cues_stop, cues_next, cues_done, cue_within}
 use Rattle.track.proofs.cues.are_cues.Goals as goal

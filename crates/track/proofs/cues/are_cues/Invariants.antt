@@ -1,13 +1,8 @@
 -- `are_cues` meets its contract. The loop's invariant: all are cues as those from row i on are, their segments from row `from` on. The measure
 -- is how many are left.
 use Prim.Native.Nat.{◌-◌, ◌≤◌}
-use mathlib.Core.Path.{◌≡◌, sym, ◌∙◌}
-use native.Mathlib.Nat.{sub-zero}
-use native.Mathlib.Omega.{arith}
-use Rattle.track.specs.Tables.{cell}
+use mathlib.Core.Path.{◌≡◌}
 use Rattle.track.specs.Meaning.{are_cues}
-use Rattle.track.proofs.Chains.{fails, holds}
-use Rattle.track.proofs.CueRows.{cues_stop, cues_next, cues_done, cue_within}
 use Rattle.track.proofs.cues.are_cues.Given as goal
 
 abbrev pub invariant-loop-i : goal.invariant-loop-i

@@ -4,7 +4,6 @@ use native.Mathlib.Omega.{arith}
 use Rattle.track.specs.Tables.{cell}
 use Rattle.track.proofs.Chains.{fails, holds}
 use Rattle.track.proofs.CueRows.{cue_values_not, cue_from_not, cue_room_not, cue_is}
-use borrow.Author.Rules.{rules}
 use Rattle.track.proofs.cues.is_cue.Goals as goal
 
 pub returns-then-not-cue_values : goal.returns-then-not-cue_values

@@ -5,15 +5,14 @@ use mathlib.Core.Bool.{cond}
 use native.Mathlib.Omega.{arith}
 use borrow.Author.Tests.{not-true, not-false}
 use Rattle.track.specs.Layout.{size_marks}
-use borrow.Author.Rules.{rules}
 use Rattle.track.proofs.marks.size_marks.Goals as goal
 use Rattle.track.proofs.marks.size_marks.Goals.{Joined-s, then-s, else-s}
 
 signs : (c : Joined-s) → (c.if-s.sign ≡ cond c.args.s.negative 2 1) × (c.if-s.sign ≤ 2)
 signs c = elim c.if-s.branch [
-    | then-s w ↦ (rw w.if-s.true w.sign-is, omega (arith, w.sign-is))
-    | else-s w ↦ (rw w.if-s.false w.sign-is, omega (arith, w.sign-is))
-  ]
+  | then-s w ↦ (rw w.if-s.true w.sign-is, omega (arith, w.sign-is))
+  | else-s w ↦ (rw w.if-s.false w.sign-is, omega (arith, w.sign-is))
+]
 
 pub returns-then-not-has : goal.returns-then-not-has
 unfolding size_marks

@@ -1,6 +1,5 @@
-use Rattle.std.proofs.Common.{◌-◌, ◌≡◌, true, List, ℕ, ◌+◌, ◌*◌, ◌≤◌, length, get_or, ◌<◌}
-use Rattle.track.specs.Tables.{font_at, segment_at}
-use Rattle.track.specs.Meaning.{are_three, is_font, is_segment, are_segments}
+use Rattle.std.proofs.Common.{◌-◌, ◌≡◌, ◌≤◌}
+use Rattle.track.specs.Meaning.{are_segments}
 use Rattle.track.proofs.segments.+are_segments.Given as goal
 
 -- proposed from what the function passes where it calls itself

@@ -10,7 +10,6 @@ use Rattle.track.specs.Tables.{cell}
 use Rattle.track.proofs.SegmentLaws.{at_text, at_break, at_timestamp, at_bold, at_italic, at_underline, at_strike, at_color, at_rest}
 use Rattle.track.proofs.SegmentLaws.{color-bytes}
 use Rattle.track.proofs.Packed.{time-signed}
-use borrow.Author.Rules.{rules}
 use Rattle.track.proofs.segments.segment_at.Goals as goal
 
 pub overflow_cast-result : goal.overflow_cast-result
