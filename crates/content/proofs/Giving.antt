@@ -42,7 +42,6 @@ use Rattle.styling.specs.declared.wrap.Wrappers as read
 use Rattle.styling.specs.Posts.{space_in, color_if, font_in, wrappers_in}
 use Rattle.styling.specs.Posts as posts
 use Rattle.inline.specs.declared.collapse.Collapsed.{Collapsed}
-use Rattle.inline.specs.declared.wrappers.Wrappers.{Wrappers}
 use Rattle.inline.specs.Texts.{edge, Written}
 use Rattle.inline.specs.Wraps.{wrappers_from, stamped_if, Spanned}
 use Rattle.inline.specs.Stood.{span_in, spans_in, texts_in, Laid}
