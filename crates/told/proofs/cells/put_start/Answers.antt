@@ -1,0 +1,20 @@
+-- `put_start` meets its contract: each cell is one of the table.
+use native.Mathlib.Omega.{arith}
+use lib.ListN.{length-set}
+use Rattle.told.proofs.cells.put_start.Goals as goal
+
+pub bounds-out-1 : goal.bounds-out-1
+bounds-out-1 c =
+    simp length-set (omega arith)
+
+pub bounds-out-2 : goal.bounds-out-2
+bounds-out-2 c =
+    simp length-set (omega arith)
+
+pub bounds-out-3 : goal.bounds-out-3
+bounds-out-3 c =
+    simp length-set (omega arith)
+
+pub bounds-out-4 : goal.bounds-out-4
+bounds-out-4 c =
+    simp length-set (omega arith)
