@@ -1,12 +1,12 @@
 //! The library's calls: the only module with `unsafe` code.
 //!
 //! A slice passes as a pointer and a length. None of the calls asks anything of its caller, so each is safe for every
-//! slice: that is what their contracts say (crates/ttml/src) and the checker has proved.
+//! slice: that is what their contracts say (crates/ttml_c/src) and the checker has proved.
 
 #![allow(unsafe_code)]
 #![allow(clippy::too_many_arguments)] // the calls take each table by itself
 
-/// Declares each call and wraps it, so that a signature is written once, with slices, as crates/ttml/src has it.
+/// Declares each call and wraps it, so that a signature is written once, with slices, as crates/ttml_c/src has it.
 ///
 /// The rules below `@` take the arguments from the left, one in a step, and add each to three lists: the parameters of
 /// the C function, those of the wrapper, and what the wrapper passes.

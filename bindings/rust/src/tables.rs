@@ -195,7 +195,7 @@ impl Tables {
     }
 }
 
-/// A part of bytes. Every string of a track is UTF-8: `accepted-utf8` in crates/track/proofs/Valid.
+/// A part of bytes. Every string of a track is UTF-8: `accepted_utf8` in crates/track/proofs/Valid.
 pub(crate) fn part(bytes: &[u8], place: u32, length: u32) -> &str {
     let part = &bytes[place as usize..][..length as usize];
     str::from_utf8(part).expect("a track's strings are UTF-8")
