@@ -1,0 +1,26 @@
+-- `put_whole` meets its contract. Assumes nothing.
+use native.Mathlib.Omega.{arith}
+use borrow.Author.Rules.{rules}
+use Rattle.whole.proofs.put_whole.Goals as goal
+
+pub put_head-requires : goal.put_head-requires
+put_head-requires c =
+    let w = (c.lang_of-lang.ensures c.requires.attrs.0 c.requires.attrs.1).within in (
+      c.requires.in_head,
+      (
+        omega (arith, c.requires.few),
+        omega (arith, c.requires.few_styles),
+        omega (arith, c.requires.few_regions),
+        omega (arith, c.requires.few_cues),
+        omega (arith, c.requires.few_rows),
+        (omega (arith, w, c.requires.short), omega (arith, w, c.requires.short)),
+        omega (arith, c.requires.short),
+        omega (arith, c.requires.short),
+      ),
+    )
+
+pub returns : goal.returns
+returns c =
+    λ l o.
+    let v = c.lang_of-lang.ensures l o in
+    record { in_head = rw (v.has, v.span) at c.put_head.ensures }

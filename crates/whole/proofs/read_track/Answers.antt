@@ -1,0 +1,24 @@
+-- `read_track` meets its contract: the first tt, or 12. Assumes nothing.
+use borrow.Author.Rules.{rules}
+use Rattle.meaning.specs.Words.{ascii}
+use Rattle.cues.proofs.Elements.{elem-found}
+use Rattle.whole.proofs.Roots.{root_no, root_is, track_as}
+use Rattle.whole.proofs.read_track.Goals as goal
+
+pub read_tt-requires : goal.read_tt-requires
+read_tt-requires c =
+    record {
+      ready = c.requires.ready;
+      element = (elem-found c.requires.tree (ascii "tt") c.find_element.ensures c.in-Row.is).element;
+    }
+
+pub returns-in-Nothing : goal.returns-in-Nothing
+returns-in-Nothing c =
+    λ x. (root_no x c.find_element.ensures c.in-Nothing.is, c.requires.ready.zero)
+
+pub returns-in-Row : goal.returns-in-Row
+returns-in-Row c =
+    λ x.
+    let o = c.find_element.ensures in
+    let e = c.in-Row.is in
+    track_as _ _ _ c.read_tt.result (root_is x o e) (c.read_tt.ensures (elem-found x (ascii "tt") o e).element)
