@@ -1,0 +1,23 @@
+-- `read_cue` meets its contract: the first p, or 12. Assumes nothing.
+use Rattle.meaning.specs.Words.{ascii}
+use Rattle.cues.proofs.Elements.{elem-found}
+use Rattle.single.proofs.Alone.{cue_as, first-no, first-is}
+use Rattle.single.proofs.read_cue.Goals as goal
+
+pub read_p-requires : goal.read_p-requires
+read_p-requires c =
+    record {
+      ready = c.requires.ready;
+      element = (elem-found c.requires.tree (ascii "p") c.find_element.ensures c.in-Row.is).element;
+    }
+
+pub returns-in-Nothing : goal.returns-in-Nothing
+returns-in-Nothing c =
+    λ x. (first-no x c.find_element.ensures c.in-Nothing.is, c.requires.ready.zero)
+
+pub returns-in-Row : goal.returns-in-Row
+returns-in-Row c =
+    λ x.
+    let o = c.find_element.ensures in
+    let e = c.in-Row.is in
+    cue_as _ _ _ c.read_p.result (first-is x o e) (c.read_p.ensures (elem-found x (ascii "p") o e).element)

@@ -1,0 +1,50 @@
+-- `read_timed` meets its contract: its content, and then its row and the head. Assumes nothing.
+use mathlib.Core.List.{[]}
+use native.Mathlib.Omega.{arith}
+use Rattle.cues.proofs.Blanks.{blank-as}
+use Rattle.cues.proofs.Elements.{elem-room, elem-owned, elem-rows}
+use Rattle.single.proofs.Alone.{content_asks, content_no, alone-asks, alone-laid}
+use Rattle.single.proofs.read_timed.Goals as goal
+
+pub element_at-e-requires : goal.element_at-e-requires
+element_at-e-requires c =
+    elem-room c.requires.element
+
+pub resolve_ws-ws-requires : goal.resolve_ws-ws-requires
+resolve_ws-ws-requires c =
+    elem-rows c.requires.element c.element_at-e.ensures
+
+pub overflow_add-k : goal.overflow_add-k
+overflow_add-k c =
+    record { fits = omega (arith, elem-room c.requires.element) }
+
+pub collect_segments_timed-requires : goal.collect_segments_timed-requires
+collect_segments_timed-requires c =
+    content_asks _ _ _ _ _ c.requires.ready c.requires.element c.element_at-e.ensures
+
+pub put_alone-requires : goal.put_alone-requires
+put_alone-requires c =
+    let x = c.requires.element in
+    let row = c.element_at-e.ensures in
+    let mode = c.resolve_ws-ws.ensures x.attrs (elem-owned x row) in
+    let content = rw c.in-Is.is at c.collect_segments_timed.ensures in
+    alone-asks _ _ _ _ _ c.requires.ready x row c.no_rates.result c.resolve_ws-ws.result c.no_rates.ensures mode _ _ _ content
+
+pub returns-in-Refused : goal.returns-in-Refused
+returns-in-Refused c =
+    λ x.
+    let row = c.element_at-e.ensures in
+    let mode = c.resolve_ws-ws.ensures x.attrs (elem-owned x row) in
+    let content = rw c.in-Refused.is at c.collect_segments_timed.ensures in
+    content_no _ _ _ _ _ c.requires.ready x row c.no_rates.result c.resolve_ws-ws.result c.no_rates.ensures mode [] [] _ content
+    c.args.when (blank-as c.segments-1.given 0 c.clear.ensures) (blank-as c.texts-1.given 0
+    c.clear_bytes.ensures)
+
+pub returns-in-Is : goal.returns-in-Is
+returns-in-Is c =
+    λ x.
+    let row = c.element_at-e.ensures in
+    let mode = c.resolve_ws-ws.ensures x.attrs (elem-owned x row) in
+    let content = rw c.in-Is.is at c.collect_segments_timed.ensures in
+    alone-laid _ _ _ _ _ c.requires.ready x row c.no_rates.result c.resolve_ws-ws.result c.no_rates.ensures mode _ _ _ content
+    c.args.when _ _ _ (c.put_alone.ensures x.attrs (elem-owned x row))
