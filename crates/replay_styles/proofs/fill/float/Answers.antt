@@ -6,21 +6,11 @@ use mathlib.Core.Bool.{not}
 use lib.Ieee.{binary32, ones, hid, top, nan_bits}
 use lib.Ieee.Bits.{nan_bits_above}
 use borrow.Author.Tests.{le-ltb}
-use borrow.Author.Rules.{rules}
-use Rattle.replay_styles.proofs.fill.float.Statement.{statement}
-use Rattle.replay_styles.proofs.fill.float.Tie as tie
+use Rattle.replay_styles.proofs.fill.float.Goals as goal
 
 no_nan : (n : ℕ) → n % 2 ^ 31 ≤ 2139095040 → T (not (nan_bits binary32 n))
 no_nan n h = rw (nan_bits_above binary32 n, le-ltb (ones binary32 * hid binary32) (n % top binary32) h) tt
 
-returns : tie.Need-returns
-returns c = search rules
-
-float-from-bits-result : tie.Need-float-from-bits-result
-float-from-bits-result c = no_nan _ (omega arith)
-
-returns-2 : tie.Need-returns-2
-returns-2 c = search rules
-
-pub float-spec : {M : Type 1} → statement M
-float-spec = tie.close (tie.spec returns float-from-bits-result returns-2)
+pub float_from_bits-result : goal.float_from_bits-result
+float_from_bits-result c =
+    no_nan _ (omega arith)
