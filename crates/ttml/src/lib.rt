@@ -1,5 +1,5 @@
 #![tactic(auto)]
-// The public calls, each with a C name.
+// The public calls, as C sees them: the crate `ttml_c` gives each its C name.
 mod back;
 mod check;
 mod parse_xml;
