@@ -38,7 +38,7 @@ use Rattle.xml.specs.declared.find.Value.{Value}
 use Rattle.xml.proofs.AttrRows.{row-cells}
 use Rattle.styling.specs.Posts.{value_in_of, FoundFits}
 use Rattle.extras.specs.Kept.{wanted_by, extras_of, kept_in, kept_cells, kept_count, RoomFor, placed_cells, Collected, rows_from, Lists}
-use Rattle.extras.specs.Kept.{noted, FirstRows, entry_extra}
+use Rattle.extras.specs.Kept.{FirstRows, entry_extra}
 use Rattle.extras.proofs.Few.{extras_fit}
 use Rattle.extras.proofs.Noting.{few_names}
 

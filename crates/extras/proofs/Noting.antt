@@ -2,7 +2,7 @@
 --     Noted, noted-start, noted-on, noted-all    one turn of `first_rows`
 --     fits_on, number_fits, all_zero             its entries stand in the tables
 --     few_names, number-below, number-under, none-on   and end where it says
-use Prim.Native.Nat.{ℕ, ◌+◌, ◌-◌, ◌*◌, ◌≤◌, ◌<◌}
+use Prim.Native.Nat.{ℕ, ◌+◌, ◌-◌, ◌≤◌, ◌<◌}
 use mathlib.Core.Path.{◌≡◌, refl, sym, ap, ◌∙◌}
 use mathlib.Core.Bool.{Bool, true, false, cond, true≢false}
 use mathlib.Core.List.{List, [], ◌∷◌}

@@ -7,11 +7,11 @@
 --     styled, placed, style_made               what the functions ensure
 use Prim.Native.Nat.{ℕ, suc, ◌+◌, ◌*◌, ◌≤◌, ◌<◌, ◌^◌}
 use mathlib.Core.Path.{◌≡◌, refl, sym, ap, ◌∙◌}
-use mathlib.Core.Bool.{Bool, true, false, cond}
+use mathlib.Core.Bool.{Bool, true, false}
 use mathlib.Core.List.{List, [], ◌∷◌, ◌++◌}
-use mathlib.Core.Option.{Option, none, some}
+use mathlib.Core.Option.{Option, some}
 use native.Mathlib.Omega.{arith}
-use lib.Dec.{eqb, leb}
+use lib.Dec.{eqb}
 use lib.Seq.{sets}
 use lib.Ieee.{Float}
 use lib.ListN.{length, drop, length-take, length-drop}
@@ -25,7 +25,7 @@ use Rattle.tree.specs.declared.answers.Refusal.{Refusal}
 use Rattle.track.specs.declared.strings.Span.{Span}
 use Rattle.track.specs.declared.values.Rows.{Rows}
 use Rattle.track.specs.declared.values.Look as declared
-use Rattle.track.specs.Track.{Extra, Look, Style, Region}
+use Rattle.track.specs.Track.{Extra, Look, Style}
 use Rattle.track.specs.Layout.{is_some, size_or, span_cells, rows_cells, optional_cells, color_cells, size_cells, flag_cells, look_cells}
 use Rattle.track.specs.Layout.{style_cells, size_value, region_cells}
 use Rattle.records.specs.declared.cells.Added.{Added}

@@ -22,7 +22,7 @@ use Rattle.names.proofs.Entries.{both}
 use Rattle.colors.specs.declared.read.Rgba.{Rgba}
 use Rattle.colors.specs.declared.read.Color.{Color}
 use Rattle.colors.specs.declared.read.Channel.{Channel}
-use Rattle.colors.specs.Named.{rgba, NamedColor, ◌means◌, color_table, named_in}
+use Rattle.colors.specs.Named.{NamedColor, ◌means◌, color_table, named_in}
 use Rattle.colors.specs.Colors.{channel_of, hex_channel, ◌>>=◌, color_of, full, once, twice, hex_color, decimal_channel, rgb_parts, is_rgb, color, color_in}
 use Rattle.colors.specs.Steps.{Small}
 use Rattle.decimals.specs.declared.read.Digits.{Digits}

@@ -28,7 +28,7 @@ use Rattle.track.proofs.ReadBack.{all_join}
 use Rattle.records.specs.Find.{is_empty}
 use Rattle.grammar.specs.Scan.{run}
 use Rattle.meaning.specs.Words.{ascii, up_to_last}
-use Rattle.meaning.specs.Answers.{Answer, ◌>>=◌, within}
+use Rattle.meaning.specs.Answers.{Answer, within}
 use Rattle.meaning.specs.Nodes.{Strings, Attr, Nodes, nil, text, element, Element, named, first_element, attribute, valued, says, read_from}
 use Rattle.meaning.specs.Nodes.{reading, id_of}
 use Rattle.meaning.specs.Tracks.{segments_by}

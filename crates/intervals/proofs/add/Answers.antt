@@ -1,3 +1,4 @@
+use native.Mathlib.Omega.{arith}
 use Rattle.intervals.specs.Steps.{moment_said}
 use Rattle.intervals.specs.declared.Moment.{Moment}
 use Rattle.meaning.specs.Timing.{sum}
@@ -13,7 +14,7 @@ unfolding sum
 returns-in-Is c =
     let e = rw (to_z-of_z c.ranges.a, to_z-of_z c.ranges.b) at c.add.ensures.is in
     rw (← e, c.in-Is.is)
-    (ap (λ (z : ℤ). moment_said (Moment.Is z)) (laws.to_z-of_z w64 _ (record { sfits = c.in-Is.known_told-1-own.given.0.1 })))
+    (ap (λ (z : ℤ). moment_said (Moment.Is z)) (laws.to_z-of_z w64 _ (record { sfits = omega arith })))
 
 pub returns-in-Overflow : goal.returns-in-Overflow
 unfolding sum

@@ -1,3 +1,4 @@
+use native.Mathlib.Omega.{arith}
 use mir.ValLaws as laws
 use mir.Syntax.{w64}
 use Rattle.intervals.proofs.begin_of.Goals as goal
@@ -13,4 +14,4 @@ returns-in-Is c =
     λ l o.
     let e = rw c.in-Is.is at (c.time_given.ensures.of_rows l o) in
     let zero = rw c.in-Is.is at c.time_given.ensures.all_zeroed in
-    rw (← e, zero, laws.to_z-of_z w64 _ (record { sfits = c.struct_told-1.given.1.0.1 }))
+    rw (← e, zero, laws.to_z-of_z w64 c.in-Is.b.time (record { sfits = omega arith }))

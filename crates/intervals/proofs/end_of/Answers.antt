@@ -1,3 +1,4 @@
+use native.Mathlib.Omega.{arith}
 use Rattle.meaning.specs.Timing.{end_of}
 use Rattle.intervals.proofs.Sums.{summed}
 use mir.Facts.{to_z-of_z}
@@ -8,14 +9,14 @@ pub returns-then-end : goal.returns-then-end
 unfolding end_of
 returns-then-end c =
     rw c.if-end.true
-    (summed _ c.args.place c.args.reference c.args.end.time c.ranges.reference (sfits_of c.struct_told-1.given.1.0.1)
+    (summed _ c.args.place c.args.reference c.args.end.time c.ranges.reference (sfits_of (omega arith))
     c.add.ensures)
 
 pub returns-then-dur : goal.returns-then-dur
 unfolding end_of
 returns-then-dur c =
     rw (c.if-end.false, c.if-dur.true)
-    (summed _ c.args.place c.args.start c.args.dur.time c.ranges.start (sfits_of c.struct_told-then-dur-1.given.1.0.1)
+    (summed _ c.args.place c.args.start c.args.dur.time c.ranges.start (sfits_of (omega arith))
     c.add-then-dur.ensures)
 
 pub returns : goal.returns

@@ -1,3 +1,4 @@
+use native.Mathlib.Omega.{arith}
 use mathlib.Core.Path.{◌∙◌}
 use Rattle.meaning.specs.Kinds.{attrs_in}
 use Rattle.meaning.specs.Timing.{lasting_to}
@@ -11,7 +12,7 @@ unfolding lasting_to
 returns-then-d c =
     λ l o.
     let e = rw (c.in-Is.is, c.if-d.true) at (c.time_given.ensures.of_rows l o) in
-    summed _ c.args.container.place c.args.start c.in-Is.d.time c.ranges.start (sfits_of c.struct_told-1.given.1.0.1)
+    summed _ c.args.container.place c.args.start c.in-Is.d.time c.ranges.start (sfits_of (omega arith))
     c.add.ensures
     ∙ lasting c.args.ctx c.args.container.place c.args.start c.args.children (attrs_in c.args.strings.now l) _ e
 

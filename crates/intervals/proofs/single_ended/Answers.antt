@@ -1,3 +1,4 @@
+use native.Mathlib.Omega.{arith}
 use mir.ValLaws as laws
 use mir.Facts.{to_z-of_z}
 use mir.Syntax.{w64}
@@ -6,7 +7,7 @@ use Rattle.intervals.proofs.single_ended.Goals as goal
 pub returns-then-end : goal.returns-then-end
 returns-then-end c =
     λ l o.
-    rw (c.if-end.true, to_z-of_z c.ranges.start, laws.to_z-of_z w64 _ (record { sfits = c.struct_told-1.given.1.0.1 }))
+    rw (c.if-end.true, to_z-of_z c.ranges.start, laws.to_z-of_z w64 c.args.end.time (record { sfits = omega arith }))
 
 pub returns-in-Refused : goal.returns-in-Refused
 returns-in-Refused c =
@@ -19,5 +20,5 @@ returns-in-Is c =
     λ l o.
     let start = to_z-of_z c.ranges.start in
     let e = rw (c.in-Is.is, start) at (c.lasting_to.ensures l o) in
-    let to = laws.to_z-of_z w64 c.in-Is.end (record { sfits = c.in-Is.known_told-in-Is-1-own.given.0.1 }) in
+    let to = laws.to_z-of_z w64 c.in-Is.end (record { sfits = omega arith }) in
     rw (c.if-end.false, ← e, start, to)

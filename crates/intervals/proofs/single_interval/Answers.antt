@@ -1,3 +1,4 @@
+use native.Mathlib.Omega.{arith}
 use mir.ValLaws as laws
 use mir.Syntax.{w64}
 use Rattle.intervals.proofs.single_interval.Goals as goal
@@ -20,5 +21,5 @@ returns-in-Is-time_given c =
     λ l o.
     let e = rw c.in-Is.is at (c.begin_of.ensures l o) in
     let g = rw c.in-Is-time_given.is at (c.time_given.ensures.of_rows l o) in
-    let from = laws.to_z-of_z w64 c.in-Is.start (record { sfits = c.in-Is.known_told-in-Is-1-own.given.0.1 }) in
+    let from = laws.to_z-of_z w64 c.in-Is.start (record { sfits = omega arith }) in
     rw (← e, ← g) (rw (from) at (c.single_ended.ensures l o))

@@ -1,3 +1,4 @@
+use native.Mathlib.Omega.{arith}
 use Rattle.intervals.proofs.Sums.{summed}
 use borrow.Author.Rules.{sfits_of}
 use Rattle.intervals.proofs.start_of.Goals as goal
@@ -14,5 +15,5 @@ returns-in-Is c =
     let e = rw c.in-Is.is at (c.time_given.ensures.of_rows l o) in
     let zero = rw c.in-Is.is at c.time_given.ensures.all_zeroed in
     rw (← e, zero)
-    (summed _ c.args.e.place c.args.reference c.in-Is.b.time c.ranges.reference (sfits_of c.struct_told-1.given.1.0.1)
+    (summed _ c.args.e.place c.args.reference c.in-Is.b.time c.ranges.reference (sfits_of (omega arith))
     c.add.ensures)

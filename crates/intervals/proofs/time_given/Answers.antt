@@ -1,3 +1,4 @@
+use native.Mathlib.Omega.{arith}
 use mir.ValLaws as laws
 use mir.Syntax.{w64}
 use mathlib.Core.Path.{refl}
@@ -5,7 +6,7 @@ use Rattle.intervals.proofs.time_given.Goals as goal
 
 pub returns-in-Is : goal.returns-in-Is
 returns-in-Is c =
-    let fits = laws.to_z-of_z w64 c.in-Is.time (record { sfits = c.in-Is.known_told-1-own.given.0.1 }) in
+    let fits = laws.to_z-of_z w64 c.in-Is.time (record { sfits = omega arith }) in
     record {
       all_zeroed = refl;
       of_rows = λ l o. rw fits (rw c.in-Is.is at (c.time_attr.ensures l o));

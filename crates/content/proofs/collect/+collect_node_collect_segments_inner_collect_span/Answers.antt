@@ -220,7 +220,7 @@ collect_span-returns-in-Refused t c =
 pub collect_span-returns-in-Refused-collect_segments_inner : goal.collect_span-returns-in-Refused-collect_segments_inner
 collect_span-returns-in-Refused-collect_segments_inner t c =
     λ first w end x j.
-    let time = laws.to_z-of_z w64 c.in-Is.b.time (record { sfits = c.struct_told-1.given.1.0.1 }) in
+    let time = laws.to_z-of_z w64 c.in-Is.b.time (record { sfits = omega arith }) in
     let b = rw (to_z-of_z c.ranges.base) at c.begin_of.ensures in
     span-inside w c.args.nodes.now c.args.attrs.now c.args.strings.now c.args.base c.args.ctx c.args.ws c.args.k x.own end first x.hi c.args.run x.earlier
     x.before c.args.segments.now c.args.texts.now j c.element_at-e.result
@@ -233,7 +233,7 @@ collect_span-returns-in-Refused-collect_segments_inner t c =
 pub collect_span-returns-in-Is-collect_segments_inner : goal.collect_span-returns-in-Is-collect_segments_inner
 collect_span-returns-in-Is-collect_segments_inner t c =
     λ first w end x j.
-    let time = laws.to_z-of_z w64 c.in-Is.b.time (record { sfits = c.struct_told-1.given.1.0.1 }) in
+    let time = laws.to_z-of_z w64 c.in-Is.b.time (record { sfits = omega arith }) in
     let b = rw (to_z-of_z c.ranges.base) at c.begin_of.ensures in
     span-came w c.args.nodes.now c.args.attrs.now c.args.strings.now c.args.base c.args.ctx c.args.ws c.args.k x.own end first x.hi c.args.run x.earlier
     x.before c.args.segments.now c.args.texts.now j c.element_at-e.result

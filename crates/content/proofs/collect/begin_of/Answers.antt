@@ -1,4 +1,5 @@
 -- `begin_of` meets its contract: by what `time_attr` says. Assumes nothing.
+use native.Mathlib.Omega.{arith}
 use mathlib.Core.Path.{ap, ◌∙◌}
 use mathlib.Core.Bool.{true}
 use lib.IntN.{ℤ}
@@ -22,7 +23,7 @@ returns-in-Is c =
     let e = rw c.in-Is.is at (c.time_attr.ensures l o) in
     rw (← e)
     (c.counted.ensures ∙ ap (λ (x : ℤ). beginning true (sum c.args.e.place x (to_z w64 (of_z w64 c.in-Is.t)))) (to_z-of_z c.ranges.base)
-    ∙ ap (λ (x : ℤ). beginning true (sum c.args.e.place c.args.base x)) (laws.to_z-of_z w64 c.in-Is.t (record { sfits = c.in-Is.known_told-in-Is-1-own.given.0.1 })))
+    ∙ ap (λ (x : ℤ). beginning true (sum c.args.e.place c.args.base x)) (laws.to_z-of_z w64 c.in-Is.t (record { sfits = omega arith })))
 
 pub returns-in-Nothing : goal.returns-in-Nothing
 returns-in-Nothing c =

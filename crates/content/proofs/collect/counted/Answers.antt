@@ -1,4 +1,5 @@
 -- `counted` meets its contract. Assumes nothing.
+use native.Mathlib.Omega.{arith}
 use mathlib.Core.Path.{ap}
 use lib.IntN.{ℤ}
 use mir.Syntax.{w64}
@@ -13,7 +14,7 @@ unfolding sum
 returns-in-Is c =
     let e = rw (to_z-of_z c.ranges.base, to_z-of_z c.ranges.begin) at c.add.ensures.is in
     rw (← e, c.in-Is.is)
-    (ap (λ (z : ℤ). Beginning.Is (record { has = c.args.has; time = z })) (laws.to_z-of_z w64 _ (record { sfits = c.in-Is.known_told-1-own.given.0.1 })))
+    (ap (λ (z : ℤ). Beginning.Is (record { has = c.args.has; time = z })) (laws.to_z-of_z w64 _ (record { sfits = omega arith })))
 
 pub returns-in-Overflow : goal.returns-in-Overflow
 unfolding sum

@@ -1,4 +1,5 @@
 -- `collect_body` meets its contract. Assumes nothing.
+use native.Mathlib.Omega.{arith}
 use mir.Syntax.{w64}
 use mir.ValLaws as laws
 use Rattle.cues.specs.Steps.{five}
@@ -35,7 +36,7 @@ returns-in-Refused c =
 
 pub returns-in-Is : goal.returns-in-Is
 returns-in-Is c =
-    let at = laws.to_z-of_z w64 c.in-Is.begin (record { sfits = c.in-Is.known_told-in-Is-1-own.given.0.1 }) in
+    let at = laws.to_z-of_z w64 c.in-Is.begin (record { sfits = omega arith }) in
     let h = rw c.in-Row.is at c.find_element.ensures in
     let w = five c.args.cues.now c.args.times.now c.args.segments.now c.args.extras.now c.args.texts.now in
     let w' = five c.collect_container.new.cues c.collect_container.new.times c.collect_container.new.segments c.collect_container.new.extras c.collect_container.new.texts in

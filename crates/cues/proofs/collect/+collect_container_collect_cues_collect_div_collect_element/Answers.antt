@@ -121,11 +121,11 @@ collect_cues-loop-k-preserved t c =
     let c₃ : length c.collect_element.new.segments ≡ length c.loop-k.segments = search rules in
     let c₄ : length c.collect_element.new.extras ≡ length c.loop-k.extras = search rules in
     let c₅ : length c.collect_element.new.texts ≡ length c.loop-k.texts = search rules in
-    let at = laws.to_z-of_z w64 c.in-Is.t.end (record { sfits = c.struct_told-1.given.1.1.1.0.1 }) in
-    let last : to_z w64 (of_z w64 c.later-latest.result) ≡ later (to_z w64 c.loop-k.latest-bits) c.in-Is.t.end = laws.to_z-of_z w64 c.later-latest.result (record { sfits = c.later-latest.type_inv }) ∙
+    let at = laws.to_z-of_z w64 c.in-Is.t.end (record { sfits = omega arith }) in
+    let last : to_z w64 (of_z w64 c.later-latest.result) ≡ later (to_z w64 c.loop-k.latest-bits) c.in-Is.t.end = laws.to_z-of_z w64 c.later-latest.result (record { sfits = omega arith }) ∙
     (rw at at c.later-latest.ensures) in
     let next : to_z w64 (of_z w64 c.following-reference.result) ≡ following c.args.seq (to_z w64 (of_z w64 c.args.begin)) c.in-Is.t.end =
-    laws.to_z-of_z w64 c.following-reference.result (record { sfits = c.following-reference.type_inv }) ∙ (rw at at c.following-reference.ensures) in
+    laws.to_z-of_z w64 c.following-reference.result (record { sfits = omega arith }) ∙ (rw at at c.following-reference.ensures) in
     rw (
       c.get-next.ensures,
       last,
@@ -166,7 +166,7 @@ collect_div-returns-in-Refused t c =
 pub collect_div-returns-in-Refused-collect_container : goal.collect_div-returns-in-Refused-collect_container
 collect_div-returns-in-Refused-collect_container t c =
     let h = rw (to_z-of_z c.ranges.reference) at c.start_of.ensures in
-    let said = ap (λ s. moment_said (Moment.Is s)) (laws.to_z-of_z w64 c.in-Is.start (record { sfits = c.in-Is.known_told-in-Is-1-own.given.0.1 })) in
+    let said = ap (λ s. moment_said (Moment.Is s)) (laws.to_z-of_z w64 c.in-Is.start (record { sfits = omega arith })) in
     div_inside _ _ _ _ _ c.args.ws _ _
     (five c.collect_container.new.cues c.collect_container.new.times c.collect_container.new.segments c.collect_container.new.extras c.collect_container.new.texts)
     c.element_at-e.result c.element_at-e.ensures c.args.reference (to_z w64 (of_z w64 c.in-Is.start)) (λ l o. said ∙ (rw c.in-Is.is at (h l o))) c.in-Refused-collect_container.r
@@ -175,7 +175,7 @@ collect_div-returns-in-Refused-collect_container t c =
 pub collect_div-returns-in-Is-collect_container : goal.collect_div-returns-in-Is-collect_container
 collect_div-returns-in-Is-collect_container t c =
     let h = rw (to_z-of_z c.ranges.reference) at c.start_of.ensures in
-    let said = ap (λ s. moment_said (Moment.Is s)) (laws.to_z-of_z w64 c.in-Is.start (record { sfits = c.in-Is.known_told-in-Is-1-own.given.0.1 })) in
+    let said = ap (λ s. moment_said (Moment.Is s)) (laws.to_z-of_z w64 c.in-Is.start (record { sfits = omega arith })) in
     div_came _ _ _ _ _ c.args.ws _ _
     (five c.collect_container.new.cues c.collect_container.new.times c.collect_container.new.segments c.collect_container.new.extras c.collect_container.new.texts)
     c.element_at-e.result c.element_at-e.ensures c.args.reference (to_z w64 (of_z w64 c.in-Is.start)) (λ l o. said ∙ (rw c.in-Is.is at (h l o)))

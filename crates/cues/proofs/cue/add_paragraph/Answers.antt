@@ -31,8 +31,8 @@ returns-in-Full c =
 pub returns-in-Next : goal.returns-in-Next
 returns-in-Next c =
     λ l o.
-    let from = laws.to_z-of_z w64 c.args.when.start (record { sfits = c.struct_told-1.given.0.1 }) in
-    let to = laws.to_z-of_z w64 c.args.when.end (record { sfits = c.struct_told-1.given.1.0.1 }) in
+    let from = laws.to_z-of_z w64 c.args.when.start (record { sfits = omega arith }) in
+    let to = laws.to_z-of_z w64 c.args.when.end (record { sfits = omega arith }) in
     let row = simp (from, to) at (rw c.in-Next.is at c.add_cue.ensures.add_post) in
     let times = simp (from, to) at (rw c.in-Next.is at c.add_cue.ensures.times_post) in
     rw to

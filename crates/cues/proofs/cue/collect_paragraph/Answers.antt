@@ -1,3 +1,4 @@
+use native.Mathlib.Omega.{arith}
 use mir.ValLaws as laws
 use mir.Facts.{to_z-of_z}
 use mir.Syntax.{w64}
@@ -23,7 +24,7 @@ collect_segments-requires c =
 
 pub add_paragraph-requires : goal.add_paragraph-requires
 add_paragraph-requires c =
-    let from = laws.to_z-of_z w64 c.in-Is.when.start (record { sfits = c.struct_told-1.given.0.1 }) in
+    let from = laws.to_z-of_z w64 c.in-Is.when.start (record { sfits = omega arith }) in
     let post = rw (c.in-Is-collect_segments.is, from) at c.collect_segments.ensures in
     let more = p_after c.requires c.element_at-e.result c.element_at-e.ensures c.in-Is.when.start c.args.ctx c.resolve_ws-inside.result c.collect_segments.new.segments c.collect_segments.new.texts
     c.in-Is-collect_segments.rows post in
@@ -46,7 +47,7 @@ returns-in-Refused c =
 
 pub returns-in-Refused-collect_segments : goal.returns-in-Refused-collect_segments
 returns-in-Refused-collect_segments c =
-    let from = laws.to_z-of_z w64 c.in-Is.when.start (record { sfits = c.struct_told-1.given.0.1 }) in
+    let from = laws.to_z-of_z w64 c.in-Is.when.start (record { sfits = omega arith }) in
     let left = five c.args.cues.now c.args.times.now c.collect_segments.new.segments c.args.extras.now c.collect_segments.new.texts in
     no-segments c.requires c.element_at-e.result c.element_at-e.ensures c.args.reference c.args.ctx c.args.ws left c.in-Is.when
     (λ l o. rw (c.in-Is.is, to_z-of_z c.ranges.reference) at (c.interval_of.ensures l o)) c.resolve_ws-inside.result
@@ -55,7 +56,7 @@ returns-in-Refused-collect_segments c =
 
 pub returns-in-Is-collect_segments : goal.returns-in-Is-collect_segments
 returns-in-Is-collect_segments c =
-    let from = laws.to_z-of_z w64 c.in-Is.when.start (record { sfits = c.struct_told-1.given.0.1 }) in
+    let from = laws.to_z-of_z w64 c.in-Is.when.start (record { sfits = omega arith }) in
     let left = five c.add_paragraph.new.cues c.add_paragraph.new.times c.collect_segments.new.segments c.add_paragraph.new.extras c.collect_segments.new.texts in
     cued c.requires c.element_at-e.result c.element_at-e.ensures c.args.reference c.args.ctx c.args.ws left c.in-Is.when
     (λ l o. rw (c.in-Is.is, to_z-of_z c.ranges.reference) at (c.interval_of.ensures l o)) c.resolve_ws-inside.result

@@ -7,7 +7,7 @@ pub style_paragraph-requires : goal.style_paragraph-requires
 style_paragraph-requires c =
     let post = rw (c.in-Is.is, to_z-of_z c.ranges.start) at c.collect_segments_timed.ensures in
     let more = content_more c.requires c.args.start c.args.ctx c.args.ws c.collect_segments_timed.new.segments c.collect_segments_timed.new.texts c.in-Is.run' post in
-    (c.requires.attrs, more.0, more.1, omega (arith, c.segments-1.given, c.requires.content.roomy.wide), c.requires.content.roomy.small)
+    (c.requires.attrs, more.0, more.1, omega (arith, c.collect_segments_timed.auto.segments, c.requires.content.roomy.wide), c.requires.content.roomy.small)
 
 pub returns-in-Refused : goal.returns-in-Refused
 returns-in-Refused c =

@@ -1,6 +1,5 @@
 -- `collect`: the entries are those of the attributes, and there are no more extras than attributes.
 use native.Mathlib.Omega.{arith}
-use borrow.Author.Rules.{rules}
 use Rattle.meaning.specs.Kinds.{attrs_in}
 use Rattle.extras.proofs.Noting.{few_names}
 use Rattle.extras.proofs.Keeping.{few_extras, lists_from, all_zero}

@@ -1,6 +1,5 @@
 -- `collect_p_inline_extras`: those of its list.
 use Rattle.meaning.specs.Styling.{inline_extras}
-use borrow.Author.Rules.{rules}
 use Rattle.extras.proofs.extras.collect_p_inline_extras.Goals as goal
 
 pub returns : goal.returns

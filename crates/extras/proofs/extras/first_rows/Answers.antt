@@ -1,14 +1,10 @@
-use Prim.Native.Nat.{◌-◌}
-use mathlib.Core.Path.{◌≡◌, refl, sym, ap, ◌∙◌}
-use mathlib.Core.List.{List}
+use mathlib.Core.Path.{refl, ap, ◌∙◌}
 use native.Mathlib.Omega.{arith}
 use lib.ListN.{length}
-use Rattle.tree.specs.Trees.{Attr}
-use Rattle.xml.specs.Find.{Owned}
 use Rattle.styling.specs.Posts.{name_at}
 use Rattle.xml.proofs.AttrRows.{row_fits, end_fits}
-use Rattle.extras.specs.Kept.{RowsFit, NumberFits, NoneFrom}
-use Rattle.extras.proofs.Noting.{Noted, noted-start, noted-on, noted-all, fits_on, number_fits, long_note, number-below, number-under, none-on}
+use Rattle.extras.specs.Kept.{NumberFits}
+use Rattle.extras.proofs.Noting.{noted-start, noted-on, noted-all, fits_on, number_fits, long_note, number-below, number-under, none-on}
 use Rattle.extras.proofs.extras.first_rows.Goals as goal
 
 pub overflow_add-end : goal.overflow_add-end

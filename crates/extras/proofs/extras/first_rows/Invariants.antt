@@ -1,15 +1,12 @@
 -- `first_rows` meets its contract. The attributes before row k are noted; the measure is what is left of them.
 use Prim.Native.Nat.{◌-◌}
-use mathlib.Core.Path.{◌≡◌, refl, sym, ap, ◌∙◌}
+use mathlib.Core.Path.{◌≡◌}
 use mathlib.Core.List.{List}
-use native.Mathlib.Omega.{arith}
 use lib.ListN.{length}
 use Rattle.tree.specs.Trees.{Attr}
 use Rattle.xml.specs.Find.{Owned}
-use Rattle.styling.specs.Posts.{name_at}
-use Rattle.xml.proofs.AttrRows.{row_fits, end_fits}
-use Rattle.extras.specs.Kept.{RowsFit, NumberFits, NoneFrom}
-use Rattle.extras.proofs.Noting.{Noted, noted-start, noted-on, noted-all, fits_on, number_fits, long_note, number-below, number-under, none-on}
+use Rattle.extras.specs.Kept.{RowsFit, NoneFrom}
+use Rattle.extras.proofs.Noting.{Noted}
 use Rattle.extras.proofs.extras.first_rows.Given as goal
 
 abbrev pub invariant-loop-k : goal.invariant-loop-k

@@ -1,7 +1,6 @@
 -- `past`: a number below the end leaves it.
 use native.Mathlib.Omega.{arith}
 use borrow.Author.Tests.{lt-ltb, le-ltb}
-use borrow.Author.Rules.{rules}
 use Rattle.extras.proofs.extras.past.Goals as goal
 
 pub returns-then-i-end : goal.returns-then-i-end

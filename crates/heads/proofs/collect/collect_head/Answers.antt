@@ -2,7 +2,6 @@
 use native.Mathlib.Omega.{arith}
 use Rattle.meaning.specs.Words.{ascii}
 use Rattle.heads.proofs.Finding.{found_first, first-row, head_inside, head_found, head_nothing}
-use borrow.Author.Rules.{rules}
 use Rattle.heads.proofs.collect.collect_head.Goals as goal
 
 pub element_at-e-requires : goal.element_at-e-requires

@@ -1,6 +1,5 @@
 -- `collect_inside`, by the answers for the styles and for the regions.
 use Rattle.heads.proofs.Joining.{asks_styles, asks_regions, head_styles, head_regions, head_both}
-use borrow.Author.Rules.{rules}
 use Rattle.heads.proofs.collect.collect_inside.Goals as goal
 
 pub find_styles-requires : goal.find_styles-requires
@@ -9,7 +8,7 @@ find_styles-requires c =
 
 pub find_regions-requires : goal.find_regions-requires
 find_regions-requires c =
-    asks_regions c.requires _ (rw c.in-Is.is at c.find_styles.ensures) c.extras-1.given
+    asks_regions c.requires _ (rw c.in-Is.is at c.find_styles.ensures) c.find_styles.auto.extras
 
 pub returns-in-Refused : goal.returns-in-Refused
 returns-in-Refused c =

@@ -1,9 +1,6 @@
-use Prim.Native.Nat.{◌-◌}
-use mathlib.Core.Path.{refl, sym, ◌∙◌}
-use mathlib.Core.Logic.{⊎_elim}
+use mathlib.Core.Path.{sym, ◌∙◌}
 use native.Mathlib.Omega.{arith}
-use borrow.Author.Rules.{rules}
-use Rattle.heads.proofs.Looping.{RegionsAlong, regions_start, regions_row, regions_next, regions_done, regions_passed, region_asks}
+use Rattle.heads.proofs.Looping.{regions_start, regions_row, regions_next, regions_done, regions_passed, region_asks}
 use Rattle.heads.proofs.Looping.{regions_skipped, regions_taken, regions_refused, regions_few}
 use Rattle.heads.proofs.collect.collect_regions.Goals as goal
 use Rattle.heads.proofs.collect.collect_regions.Goals.{then-is_element+in-Row, then-is_element+in-Skipped, else-is_element}

@@ -1,11 +1,6 @@
 -- `collect_regions` meets its contract. The loop's invariant is `RegionsAlong`; the measure is what is left of the rows.
 use Prim.Native.Nat.{◌-◌}
-use mathlib.Core.Path.{refl, sym, ◌∙◌}
-use mathlib.Core.Logic.{⊎_elim}
-use native.Mathlib.Omega.{arith}
-use borrow.Author.Rules.{rules}
-use Rattle.heads.proofs.Looping.{RegionsAlong, regions_start, regions_row, regions_next, regions_done, regions_passed, region_asks}
-use Rattle.heads.proofs.Looping.{regions_skipped, regions_taken, regions_refused, regions_few}
+use Rattle.heads.proofs.Looping.{RegionsAlong}
 use Rattle.heads.proofs.collect.collect_regions.Given as goal
 
 abbrev pub invariant-loop-k : goal.invariant-loop-k

@@ -1,9 +1,6 @@
-use Prim.Native.Nat.{◌-◌}
-use mathlib.Core.Path.{refl, sym, ◌∙◌}
-use mathlib.Core.Logic.{⊎_elim}
+use mathlib.Core.Path.{sym, ◌∙◌}
 use native.Mathlib.Omega.{arith}
-use borrow.Author.Rules.{rules}
-use Rattle.heads.proofs.Looping.{StylesAlong, styles_start, styles_row, styles_next, styles_done, styles_passed, style_asks}
+use Rattle.heads.proofs.Looping.{styles_start, styles_row, styles_next, styles_done, styles_passed, style_asks}
 use Rattle.heads.proofs.Looping.{styles_skipped, styles_taken, styles_refused, styles_few}
 use Rattle.heads.proofs.collect.collect_styles.Goals as goal
 use Rattle.heads.proofs.collect.collect_styles.Goals.{then-is_element+in-Row, then-is_element+in-Skipped, else-is_element}

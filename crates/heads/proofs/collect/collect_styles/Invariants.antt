@@ -1,11 +1,6 @@
 -- `collect_styles` meets its contract. The loop's invariant is `StylesAlong`; the measure is what is left of the rows.
 use Prim.Native.Nat.{◌-◌}
-use mathlib.Core.Path.{refl, sym, ◌∙◌}
-use mathlib.Core.Logic.{⊎_elim}
-use native.Mathlib.Omega.{arith}
-use borrow.Author.Rules.{rules}
-use Rattle.heads.proofs.Looping.{StylesAlong, styles_start, styles_row, styles_next, styles_done, styles_passed, style_asks}
-use Rattle.heads.proofs.Looping.{styles_skipped, styles_taken, styles_refused, styles_few}
+use Rattle.heads.proofs.Looping.{StylesAlong}
 use Rattle.heads.proofs.collect.collect_styles.Given as goal
 
 abbrev pub invariant-loop-k : goal.invariant-loop-k

@@ -2,7 +2,6 @@
 use native.Mathlib.Omega.{arith}
 use Rattle.meaning.specs.Words.{ascii}
 use Rattle.heads.proofs.Finding.{found_first, first-row, regions_inside, regions_found, regions_nothing}
-use borrow.Author.Rules.{rules}
 use Rattle.heads.proofs.collect.find_regions.Goals as goal
 
 pub element_at-e-requires : goal.element_at-e-requires

@@ -1,6 +1,5 @@
 -- `add_named`: the row that is written is that of the layout.
 use native.Mathlib.Omega.{arith}
-use borrow.Author.Rules.{rules}
 use Rattle.heads.proofs.Cells.{rows-small, placed}
 use Rattle.heads.proofs.regions.add_named.Goals as goal
 

@@ -1,7 +1,6 @@
 -- `build_region`, by the id and by the limit.
 use mathlib.Core.Path.{refl, sym}
 use native.Mathlib.Omega.{arith}
-use borrow.Author.Rules.{rules}
 use Rattle.heads.proofs.Cells.{region_taken, region_full}
 use Rattle.heads.proofs.regions.build_region.Goals as goal
 

@@ -1,6 +1,5 @@
 -- `build_style`, by the id.
 use mathlib.Core.Path.{refl, sym}
-use borrow.Author.Rules.{rules}
 use Rattle.heads.proofs.Cells.{style_made}
 use Rattle.heads.proofs.styles.build_style.Goals as goal
 

@@ -1,7 +1,6 @@
 -- `named`, by the look and by the limit.
 use mathlib.Core.Path.{refl}
 use native.Mathlib.Omega.{arith}
-use borrow.Author.Rules.{rules}
 use Rattle.heads.proofs.Cells.{style_taken, style_full, style_refused}
 use Rattle.heads.proofs.styles.named.Goals as goal
 

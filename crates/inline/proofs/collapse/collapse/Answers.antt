@@ -1,11 +1,8 @@
-use Prim.Native.Nat.{◌-◌}
 use mathlib.Core.Path.{◌≡◌, sym, ◌∙◌}
-use mathlib.Core.Logic.{inl, inr}
 use native.Mathlib.Omega.{arith}
-use borrow.Author.Tests.{not-true, not-false}
-use lib.ListN.{length, get_or}
+use lib.ListN.{get_or}
 use Rattle.meaning.specs.Space.{white}
-use Rattle.inline.proofs.Collapsing.{Collapsing, start, kept, spaced, dropped, all}
+use Rattle.inline.proofs.Collapsing.{start, kept, spaced, dropped, all}
 use Rattle.inline.proofs.collapse.collapse.Goals as goal
 use Rattle.inline.proofs.collapse.collapse.Goals.{then-not-white, else-not-white+then-not-edge, else-not-white+else-not-edge}
 

@@ -1,13 +1,8 @@
 -- `collapse` meets its contract. The loop's invariant: what the first `i` bytes give stands from `at` on. The measure is what is left of the
 -- piece. Assumes nothing.
 use Prim.Native.Nat.{◌-◌}
-use mathlib.Core.Path.{◌≡◌, sym, ◌∙◌}
-use mathlib.Core.Logic.{inl, inr}
-use native.Mathlib.Omega.{arith}
-use borrow.Author.Tests.{not-true, not-false}
-use lib.ListN.{length, get_or}
-use Rattle.meaning.specs.Space.{white}
-use Rattle.inline.proofs.Collapsing.{Collapsing, start, kept, spaced, dropped, all}
+use lib.ListN.{length}
+use Rattle.inline.proofs.Collapsing.{Collapsing}
 use Rattle.inline.proofs.collapse.collapse.Given as goal
 
 abbrev pub invariant-loop-i : goal.invariant-loop-i

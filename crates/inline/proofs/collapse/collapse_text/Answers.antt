@@ -1,6 +1,5 @@
 -- `collapse_text` meets its contract: the piece is the string. Assumes nothing.
 use Rattle.scan.specs.Part.{string_at}
-use borrow.Author.Rules.{rules}
 use Rattle.inline.proofs.collapse.collapse_text.Goals as goal
 
 pub returns : goal.returns

@@ -6,7 +6,6 @@ use Rattle.track.specs.Track.{wrapped}
 use Rattle.meaning.specs.Inline.{span_of}
 use Rattle.inline.specs.Wraps.{wrappers_from, stamped_if}
 use Rattle.inline.proofs.Spanning.{span-wrapped, changed_same}
-use borrow.Author.Rules.{rules}
 use Rattle.inline.proofs.spans.put_span.Goals as goal
 
 pub returns : goal.returns

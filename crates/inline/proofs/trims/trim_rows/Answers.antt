@@ -3,7 +3,7 @@ use mathlib.Core.Path.{◌≡◌, refl}
 use mathlib.Core.Bool.{true, false}
 use native.Mathlib.Omega.{arith}
 use Rattle.inline.specs.Trims.{trimmed}
-use Rattle.inline.proofs.TrimLaws.{ready_row, Trimming, trim_start, trim_over, trim_on, trim_none}
+use Rattle.inline.proofs.TrimLaws.{ready_row, trim_start, trim_over, trim_on, trim_none}
 use Rattle.inline.proofs.trims.trim_rows.Goals as goal
 
 pub loop-i-init : goal.loop-i-init

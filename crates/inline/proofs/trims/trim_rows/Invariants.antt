@@ -1,11 +1,6 @@
 -- `trim_rows` meets its contract. The loop's invariant: the rows from `i` on are trimmed, and the search goes on. The measure is `i`.
 -- Assumes nothing.
-use Prim.Native.Nat.{◌+◌, ◌-◌}
-use mathlib.Core.Path.{◌≡◌, refl}
-use mathlib.Core.Bool.{true, false}
-use native.Mathlib.Omega.{arith}
-use Rattle.inline.specs.Trims.{trimmed}
-use Rattle.inline.proofs.TrimLaws.{ready_row, Trimming, trim_start, trim_over, trim_on, trim_none}
+use Rattle.inline.proofs.TrimLaws.{Trimming}
 use Rattle.inline.proofs.trims.trim_rows.Given as goal
 
 abbrev pub invariant-loop-i : goal.invariant-loop-i

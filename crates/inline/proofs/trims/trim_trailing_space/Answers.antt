@@ -1,5 +1,4 @@
 -- `trim_trailing_space` meets its contract: rows from the last one back are segments from the last one back. Assumes nothing.
-use borrow.Author.Rules.{rules}
 use Rattle.inline.proofs.TrimStands.{trims}
 use Rattle.inline.proofs.trims.trim_trailing_space.Goals as goal
 

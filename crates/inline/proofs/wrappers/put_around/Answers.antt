@@ -1,7 +1,6 @@
 -- `put_around` meets its contract: the two halves side by side. Assumes nothing.
 use Rattle.inline.specs.Wraps.{outer_of, inner_of}
 use Rattle.inline.proofs.Wrapping.{many-outer, halves, wrap-then}
-use borrow.Author.Rules.{rules}
 use Rattle.inline.proofs.wrappers.put_around.Goals as goal
 
 pub returns : goal.returns

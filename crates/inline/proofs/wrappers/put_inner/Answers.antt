@@ -2,7 +2,6 @@
 use native.Mathlib.Omega.{arith}
 use Rattle.inline.specs.Wraps.{inner_of}
 use Rattle.inline.proofs.Wrapping.{same_underline, same_italic, same_bold, wrap-three}
-use borrow.Author.Rules.{rules}
 use Rattle.inline.proofs.wrappers.put_inner.Goals as goal
 
 pub returns : goal.returns

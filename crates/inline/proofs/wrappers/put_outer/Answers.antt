@@ -2,7 +2,6 @@
 use native.Mathlib.Omega.{arith}
 use Rattle.inline.specs.Wraps.{outer_of}
 use Rattle.inline.proofs.Wrapping.{same_font, same_color, same_strike, wrap-three}
-use borrow.Author.Rules.{rules}
 use Rattle.inline.proofs.wrappers.put_outer.Goals as goal
 
 pub returns : goal.returns

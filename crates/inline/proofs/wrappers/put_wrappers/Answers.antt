@@ -9,7 +9,6 @@ use mir.Val.{to_z, of_z}
 use Rattle.track.specs.Layout.{flag}
 use Rattle.inline.specs.Wraps.{Rows, stamp_rows, wrappers_from}
 use Rattle.inline.proofs.Wrapping.{many_all, rows-stamped, stands_wrapped}
-use borrow.Author.Rules.{rules}
 use Rattle.inline.proofs.wrappers.put_wrappers.Goals as goal
 
 pub returns-then-end-k-gt-SEGMENTS : goal.returns-then-end-k-gt-SEGMENTS

@@ -1,7 +1,6 @@
 -- `add_at`: no parameter, or one in its row.
 use mathlib.Core.Path.{sym, ◌∙◌}
 use native.Mathlib.Omega.{arith}
-use borrow.Author.Tests.{not-true, not-false}
 use Rattle.xml.proofs.AttrRows.{row-cells}
 use Rattle.params.proofs.Adding.{adds_none, adds_row}
 use Rattle.params.proofs.params.add_at.Goals as goal
@@ -9,7 +8,7 @@ use Rattle.params.proofs.params.add_at.Goals as goal
 pub returns-then-not-is_param_at : goal.returns-then-not-is_param_at
 returns-then-not-is_param_at c =
     adds_none c.args.attrs.now c.args.strings.now c.args.k c.args.params.now c.args.n (sym
-    c.is_param_at.ensures ∙ not-true _ c.if-not-is_param_at.true-raw)
+    c.is_param_at.ensures ∙ c.if-not-is_param_at.true)
 
 pub add_param-requires : goal.add_param-requires
 add_param-requires c =
@@ -22,7 +21,7 @@ add_param-requires c =
 
 pub returns : goal.returns
 returns c =
-    let e = sym c.is_param_at.ensures ∙ not-false _ c.if-not-is_param_at.false-raw in
+    let e = sym c.is_param_at.ensures ∙ c.if-not-is_param_at.false in
     let h = row-cells _ _ c.attr_at-h.ensures in
     adds_row _ _ _ _ _ _ _ e c.name_at-name.ensures h.1 h.2 c.requires.1 c.add_param.result
     c.add_param.ensures

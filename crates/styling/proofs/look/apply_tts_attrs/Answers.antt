@@ -1,6 +1,5 @@
 -- `apply_tts_attrs`: by the colour.
 use mathlib.Core.Path.{◌∙◌}
-use borrow.Author.Rules.{rules}
 use Rattle.styling.proofs.Looks.{look-colored, color-refused}
 use Rattle.styling.proofs.look.apply_tts_attrs.Goals as goal
 

@@ -1,6 +1,5 @@
 use mathlib.Core.Path.{refl, sym, ◌∙◌}
 use native.Mathlib.Omega.{arith}
-use borrow.Author.Tests.{not-true, not-false}
 use Rattle.scan.proofs.Runs.{run_on}
 use Rattle.meaning.specs.Styling.{number_byte}
 use Rattle.styling.proofs.Leading.{lead_here, lead_end}
@@ -18,12 +17,12 @@ pub returns-then-not-is_number : goal.returns-then-not-is_number
 returns-then-not-is_number c = (
   c.loop-i.invariant.0,
   lead_here number_byte _ _ c.loop-i.invariant.1 c.loop-i-test.true (sym c.is_number.ensures
-      ∙ not-true _ c.if-not-is_number.true-raw),
+      ∙ c.if-not-is_number.true),
 )
 
 pub loop-i-preserved : goal.loop-i-preserved
 loop-i-preserved c =
-    (omega arith, c.loop-i.invariant.1 ∙ run_on number_byte _ _ c.loop-i-test.true (sym c.is_number.ensures ∙ not-false _ c.if-not-is_number.false-raw))
+    (omega arith, c.loop-i.invariant.1 ∙ run_on number_byte _ _ c.loop-i-test.true (sym c.is_number.ensures ∙ c.if-not-is_number.false))
 
 pub returns : goal.returns
 returns c =

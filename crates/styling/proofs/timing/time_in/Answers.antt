@@ -1,4 +1,5 @@
 -- `time_in` answers what `time_answer` does, case by case.
+use native.Mathlib.Omega.{arith}
 use mathlib.Core.Path.{sym, ap, ◌∙◌}
 use lib.IntN.{ℤ}
 use mir.Syntax.{w64}
@@ -12,7 +13,7 @@ use Rattle.styling.proofs.timing.time_in.Goals as goal
 pub returns-in-Is : goal.returns-in-Is
 unfolding string_at
 returns-in-Is c =
-    ap (λ (z : ℤ). time_said (TimeSaid.Is z)) (to_z-of_z w64 _ (record { sfits = c.in-Is.known_told-1-own.given.0.1 }))
+    ap (λ (z : ℤ). time_said (TimeSaid.Is z)) (to_z-of_z w64 _ (record { sfits = omega arith }))
     ∙ ap (time_answer c.args.element c.args.h.at) (sym c.in-Is.is ∙ c.parse_ttml_time.ensures.is)
 
 pub returns-in-Nothing : goal.returns-in-Nothing

@@ -1,6 +1,5 @@
 -- `wrappers_of`: by the size.
 use mathlib.Core.Path.{◌∙◌}
-use borrow.Author.Rules.{rules}
 use Rattle.styling.proofs.Wrapped.{wrappers_sized, wrappers_refused}
 use Rattle.styling.proofs.wrap.wrappers_of.Goals as goal
 
