@@ -27,7 +27,6 @@ use Rattle.track.specs.Track.{Bytes, Cue, Track}
 use Rattle.track.specs.Tables as track
 use Rattle.track.specs.Tables.{zero_float}
 use Rattle.track.specs.Meaning.{is_track, cue_in, track_at, track_in}
-use Rattle.track.proofs.Answers.{long_full}
 use Rattle.track.specs.Plain.{is_plain_track}
 use Rattle.track.specs.Check.{Checked}
 use Rattle.track.specs.declared.check.Check.{Check}
@@ -46,7 +45,7 @@ use Rattle.readback.specs.Steps.{CuesPlain}
 use Rattle.readback.proofs.CheckedCues.{cues_checked, cues_plain}
 use Rattle.readback.proofs.Theorem.{read_back}
 use Rattle.promised.specs.declared.Answer as reader
-use Rattle.promised.specs.Promise.{Tables, LongEnough, Parsed, CueParsed}
+use Rattle.promised.specs.Promise.{Tables, Parsed, CueParsed}
 use Rattle.promised.proofs.Determined.{zero_same}
 use Rattle.promised.proofs.Theorem.{parsed-determined, cue_determined, parsed-track, cue_track}
 use Rattle.promised.proofs.Cases.{parsed-case, cue_case}

@@ -1,0 +1,7 @@
+-- `pg_resolve_referenced_style` meets its contract: the query's promise, and its answer told.
+use Rattle.told.proofs.Queries.{as_promised}
+use Rattle.ttml.proofs.query.pg_resolve_referenced_style.Goals as goal
+
+pub returns : goal.returns
+returns c =
+    as_promised c.ids-1.given c.resolve_referenced_style-answer.ensures c.tell_style.ensures
