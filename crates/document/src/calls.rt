@@ -73,7 +73,9 @@ fn fill(
     requires { WholeReady (tables head.now params.now styles.now regions.now cues.now times.now segments.now sizes.now extras.now
         strings.now texts.now)
         × (out.old ≡ replicate (length out.old) 0) }
-    ensures { Filled (written_of (track_at (tables head.now params.now styles.now regions.now cues.entry.now times.now segments.now sizes.now extras.now strings.now texts.entry.now))) (length out.old) result out.new }
+    ensures { Filled (written_of (track_at (tables head.now params.now styles.now regions.now cues.entry.now times.now segments.now sizes.now extras.now
+        strings.now texts.entry.now)))
+        (length out.old) result out.new }
 {
     let end = writer::limit(out.len());
     let start = Written::At(0);

@@ -51,18 +51,6 @@ pub size_scale : (d : Digits) (z : Size) → z ≡ size_of d → d.scale ≤ 10 
 unfolding size_of
 size_scale d z e h = rw e (omega (arith, (reduced-is d).nearer))
 
-pub put_at : (d : Digits) (z : Size) (b b' : List ℕ) (t : List Float) (o : Written) (n : ℕ) → z ≡ size_of d → o ≡ At n → Wrote (text_of z) 0 b b' o →
-    SizePut (size_of d) b b' t (set t 0 z.value) 1
-put_at d z b b' t o n s e w =
-    let p : Appended (text_of z) 0 b b' n = rw e at w in
-    rw (← s) (record { whole = λ h. (refl, p.laid, refl); short = λ h. absurd (omega (arith, p.next, p.within)) })
-
-pub put_full : (d : Digits) (z : Size) (b b' : List ℕ) (t : List Float) (o : Written) → z ≡ size_of d → o ≡ Full → Wrote (text_of z) 0 b b' o →
-    SizePut (size_of d) b b' t t 3
-put_full d z b b' t o s e w =
-    let p : (length b < 0 + length (text_of z)) × (b' ≡ b) = rw e at w in
-    rw (← s) (record { whole = λ h. absurd (omega (arith, p.0)); short = λ h. (refl, p.1, refl) })
-
 pub sized-is : (x : Decimal) (d : Digits) (b b' : List ℕ) (t t' : List Float) (r : ℕ) → x ≡ Is d → 0 < length t → SizePut (size_of d) b b' t t' r →
     Sized x b b' t t' r
 sized-is x d b b' t t' r e h p = record { cell = λ g. rw e p; none = λ g. absurd (omega arith) }

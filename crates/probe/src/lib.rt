@@ -1,6 +1,6 @@
 #![tactic(auto)]
-// No public call: C names for the functions that the comparison with the Rust calls (`oracle/`), and no part
-// of the library. None asks anything of its caller: each tests what the function below it asks.
+// No public call: a function for each that the comparison with the Rust calls (`oracle/`), and no part of the
+// library; the C names are `probe_c`. None asks anything of its caller: each tests what the function below it asks.
 mod color;
 mod decimal;
 mod parse;

@@ -1,6 +1,7 @@
 -- What the inner functions of the queries ask and ensure; no part of what a reader of the promise must believe.
 --     e are the extras, z the strings, k the number of a name in REGION_ATTR_ORDER; n rows from row i on
-use Rattle.std.specs.Prelude.{ℕ, zero, suc, ◌+◌, ◌*◌, ◌≤◌, ◌<◌, ◌≡◌, Bool, true, false, cond, ◌||◌, List, [], length, get_or, take, replicate, eqb, leb}
+use Rattle.std.specs.Prelude.{ℕ, zero, suc, ◌+◌, ◌*◌, ◌≤◌, ◌<◌, ◌≡◌}
+use Rattle.std.specs.Prelude.{Bool, true, false, cond, ◌||◌, List, [], length, get_or, take, replicate, eqb, leb}
 use Rattle.std.proofs.Math.Option.{Option, none, some}
 use Rattle.scan.specs.Names.{same_folded}
 use Rattle.scan.specs.Bytes.{run_length_of}

@@ -4,7 +4,8 @@
 --     offset-time       : time-count fraction? metric
 --     metric            : "h" | "m" | "s" | "ms" | "f" | "t"
 -- and the Rust's reading of each, `parse_ttml_time`. docs/DIFFERENCES.md says where the two differ. Definitions alone.
-use Rattle.std.specs.Prelude.{ℕ, zero, suc, ◌-◌, ◌^◌, ◌≡◌, ◌↔◌, Bool, true, false, cond, ◌&&◌, ◌||◌, List, [], ◌∷◌, ◌++◌, length, take, replicate, eqb, leb, ltb, ℤ, pos, ◌+ℤ◌, ◌*ℤ◌, Float}
+use Rattle.std.specs.Prelude.{ℕ, zero, suc, ◌-◌, ◌^◌, ◌≡◌, ◌↔◌, Bool, true, false, cond, ◌&&◌, ◌||◌}
+use Rattle.std.specs.Prelude.{List, [], ◌∷◌, ◌++◌, length, take, replicate, eqb, leb, ltb, ℤ, pos, ◌+ℤ◌, ◌*ℤ◌, Float}
 use Rattle.std.specs.Float.{binary64}
 use Rattle.std.specs.Float.Ieee.{mul, div, lt, le, of_int, to_signed}
 use Rattle.scan.specs.Marks.{starts_at}

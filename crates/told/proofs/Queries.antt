@@ -2,16 +2,14 @@
 --     tell_style, tell_none, tell_refused    the cells of each answer
 --     no_room, answers                       to a caller in C
 --     as_promised                            of an answer that a query promises
---     room_of                                cleared, there is as much room
-use Prim.Native.Nat.{ℕ, ◌≤◌}
+use Prim.Native.Nat.{ℕ}
 use mathlib.Core.Path.{◌≡◌, refl, sym, ◌∙◌}
 use mathlib.Core.Bool.{true, false, ◌&&◌, and-false, true≢false}
 use mathlib.Core.List.{List}
-use lib.ListN.{length, replicate, length-replicate}
+use lib.ListN.{length, replicate}
 use lib.Dec.{leb}
-use borrow.Author.Tests.{le-leb, lt-leb, leb-true}
+use borrow.Author.Tests.{le-leb, lt-leb}
 use lib.Ieee.{Float}
-use Rattle.scan.proofs.Every.{both}
 use Rattle.tree.specs.declared.answers.Refusal.{Refusal}
 use Rattle.track.specs.declared.values.Look.{Look}
 use Rattle.track.specs.Tables.{span, zero_float}
@@ -67,11 +65,3 @@ module _ {P : Resolved → List ℕ → Type 0} {lent left out out' : List ℕ} 
     where
       as_lent : NoRoom found left out out' size size' r → NoRoom lent left out out' size size' r
       as_lent n = record { is = n.is; ids = rw (← l) n.ids; cells = n.cells; floats = n.floats }
-
--- cleared, there is as much room
-pub room_of : {cleared : List ℕ} {zero : List Float} (out : List ℕ) (size : List Float) → (leb 27 (length out) && leb 1 (length size)) ≡ true
-    → cleared ≡ replicate (length out) 0 → zero ≡ replicate (length size) zero_float → (27 ≤ length cleared) × (1 ≤ length zero)
-room_of out size e a b =
-    let h = both {a = leb 27 (length out)} {b = leb 1 (length size)} e in
-    rw (a, b, length-replicate {A = ℕ} (length out) 0, length-replicate (length size) zero_float)
-    (leb-true 27 (length out) h.0, leb-true 1 (length size) h.1)

@@ -19,10 +19,6 @@ use Rattle.scan.proofs.Searches.{mark_end, mark_off, mark_on, mark_here, mark_no
 abbrev pub Here : List ℕ → ℕ → ℕ → Type 0
 Here s p b = b ≡ get_or s p 0
 
--- the place r after the prolog at p of the text s
-abbrev pub Begun : List ℕ → ℕ → ℕ → Type 0
-Begun s p r = (r ≡ prolog_from s p) × (r ≤ length s)
-
 pub begin : (s : List ℕ) (r : ℕ) → Ends blank s 0 r → prolog_end s ≡ prolog_from s r
 unfolding prolog_end
 begin s r h = rw (← h.is)

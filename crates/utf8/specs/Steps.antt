@@ -1,5 +1,5 @@
--- Steps of the program, and what its inner functions ensure. White.antt defines `trimmed` and `words` by those on white space; what these are is said in
--- WhiteSpace.antt, and proofs/Trimming and proofs/Wording show it of them, for every list of bytes.
+-- Steps of the program, and what its inner functions ensure. White.antt defines `trimmed` and `words` by those on white space; what these are is
+-- said in WhiteSpace.antt, and proofs/Trimming and proofs/Wording show it of them, for every list of bytes.
 use Rattle.std.specs.Prelude.{ℕ, zero, suc, ◌+◌, ◌-◌, ◌≤◌, ◌<◌, ◌≡◌, cond, ◌&&◌, List, [], ◌∷◌, ◌++◌, length, get_or, eqb, leb, ltb}
 use Rattle.scan.specs.Loop.{Next, halt, more, loop}
 use Rattle.scan.specs.Part.{part}
