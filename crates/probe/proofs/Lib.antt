@@ -1,5 +1,4 @@
 -- What the proofs of several functions use.
-pub mod Rooms
 pub mod Numbers
 pub mod Cells
 pub mod Colors
