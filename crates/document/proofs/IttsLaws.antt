@@ -5,19 +5,19 @@
 --     name_itts, value-itts
 --     rows-itts          extras: one of them
 --     extras_one         what is asked of one
-use Prim.Native.Nat.{ℕ, zero, suc, ◌+◌, ◌-◌, ◌*◌, ◌≤◌, ◌<◌}
-use mathlib.Core.Path.{◌≡◌, refl, sym, ap, ap₂, ◌∙◌}
-use mathlib.Core.Bool.{Bool, true, false, cond, not, ◌&&◌, ◌||◌}
+use Prim.Native.Nat.{ℕ, zero, suc, ◌+◌, ◌≤◌, ◌<◌}
+use mathlib.Core.Path.{◌≡◌, refl, sym, ap, ◌∙◌}
+use mathlib.Core.Bool.{Bool, true, false, not, ◌&&◌, ◌||◌}
 use mathlib.Core.List.{List, [], ◌∷◌, ◌++◌, append_assoc}
 use native.Mathlib.Omega.{arith}
-use native.Mathlib.Nat.{add-zero, zero-add}
+use native.Mathlib.Nat.{zero-add}
 use lib.ListN.{length, get_or, drop, drop_of_length-le}
 use lib.Dec.{eqb, ltb, leb}
-use borrow.Author.Tests.{lt-ltb, le-ltb, ne_eqb, le-leb, lt-leb, leb-true, leb-false}
+use borrow.Author.Tests.{lt-ltb, le-ltb, le-leb, lt-leb}
 use Rattle.scan.specs.Marks.{starts_at, seek}
 use Rattle.scan.specs.Posts.{Found}
 use Rattle.scan.proofs.Searches.{seek-here, seek-on, seek-out}
-use Rattle.entities.specs.Escape.{plain, escape_byte, escaped}
+use Rattle.entities.specs.Escape.{escape_byte, escaped}
 use Rattle.entities.proofs.Escapes.{Way, amp, lt, gt, quot, self, way}
 use Rattle.grammar.specs.Tree.{attr}
 use Rattle.grammar.specs.Scan.{prefix}

@@ -1,47 +1,31 @@
 -- The rows of a track that passes the check can be written. Assumes nothing.
 --     whole_ready
-use Prim.Native.Nat.{ℕ, ◌+◌, ◌*◌, ◌≤◌, ◌<◌}
-use mathlib.Core.Path.{◌≡◌, refl, sym, ◌∙◌}
-use mathlib.Core.Bool.{Bool, true, false, cond, not, ◌&&◌}
+use Prim.Native.Nat.{ℕ, ◌+◌, ◌≤◌, ◌<◌}
+use mathlib.Core.Path.{◌≡◌}
+use mathlib.Core.Bool.{true, false, not, ◌&&◌}
 use mathlib.Core.List.{List}
 use native.Mathlib.Omega.{arith}
 use lib.ListN.{length, get_or}
 use lib.Dec.{eqb, leb}
 use lib.Ieee.{Float}
-use borrow.Author.Tests.{eqb-true, not-true}
+use borrow.Author.Tests.{not-true}
 use Rattle.decimals.specs.declared.size.Size.{Size}
 use Rattle.decimals.specs.Size.{is_size}
 use Rattle.decimals.proofs.Sizes.{size-says}
 use Rattle.scan.proofs.Every.{both}
-use Rattle.names.specs.declared.tables.Listed.{Listed}
-use Rattle.names.specs.declared.tables.Listed.TheVariants.{InlineExtra, RegionAttr, StyleExtra}
-use Rattle.track.specs.Tables.{
-  Tables,
-  cell,
-  param_at,
-  style_at,
-  look_at,
-  size_at,
-  region_at,
-  cue_at,
-  optional,
-  param_count,
-  style_count,
-  region_count,
-  cue_count,
-  size_cell,
-}
+use Rattle.names.specs.declared.tables.Listed.TheVariants.{RegionAttr, StyleExtra}
+use Rattle.track.specs.Tables.{Tables, cell, param_at, style_at, look_at, size_at, region_at, cue_at, optional, param_count, style_count, region_count, size_cell}
 use Rattle.track.specs.Meaning.{is_track, is_size_at}
 use Rattle.track.specs.Steps.{is_full}
 use Rattle.track.proofs.Spans.{span-within}
-use Rattle.track.proofs.Accepted.{used_strings, param_ok, style_ok, region_ok, cue_ok, lang_ok}
-use Rattle.track.proofs.RowParts.{ParamParts, param_parts, StyleParts, style_parts, RegionParts, region_parts, cue_parts}
+use Rattle.track.proofs.Accepted.{used_strings, param_ok, style_ok, region_ok, lang_ok}
+use Rattle.track.proofs.RowParts.{param_parts, StyleParts, style_parts, RegionParts, region_parts}
 use Rattle.records.proofs.FoundRows.{styles_named}
 use Rattle.writer.specs.Rows.{ExtrasReady}
 use Rattle.writer.proofs.Accepting.{extras_ready, cue_ready, there, long, rest, low, fewer_strings}
 use Rattle.document.specs.Styles.{StyleRow, StylesReady}
 use Rattle.document.specs.Regions.{region_tables, RegionReady}
-use Rattle.document.specs.Roots.{ParamReady, OwnersReady, RootReady, WholeReady}
+use Rattle.document.specs.Roots.{ParamReady, RootReady, WholeReady}
 
 -- a size that is there is written with at most ten digits after the point
 near : (c d s : ℕ) (v : Float) → is_size_at c d s v ≡ true → not (eqb c 0) ≡ true → (size_at c d s v).scale ≤ 10

@@ -1,8 +1,7 @@
 -- Regions as they are written. Assumes nothing.
 --     region_is, region_puts       one, and of what the program has read
 --     layout-none, layout-some     their part of the head
-use Prim.Native.Nat.{ℕ, zero, suc, ◌<◌}
-use native.Mathlib.Omega.{arith}
+use Prim.Native.Nat.{ℕ, zero, suc}
 use mathlib.Core.Path.{◌≡◌, refl, ap, ◌∙◌}
 use mathlib.Core.Bool.{true}
 use mathlib.Core.List.{List, [], ◌++◌, append_assoc}

@@ -3,15 +3,12 @@
 --     head_none, headed_by
 use Prim.Native.Nat.{ℕ, zero, suc, ◌+◌}
 use Prim.Native.String.{String}
-use mathlib.Core.Path.{◌≡◌, refl, sym, ap, ap₂, ◌∙◌}
-use mathlib.Core.Bool.{Bool, true, false, cond, not, ◌&&◌, ◌||◌}
-use mathlib.Core.List.{List, [], ◌∷◌, ◌++◌, append-nil, append_assoc}
-use mathlib.Core.Option.{Option, none, some}
+use mathlib.Core.Path.{◌≡◌, refl, ap, ap₂, ◌∙◌}
+use mathlib.Core.Bool.{Bool, true, false, cond, not, ◌||◌}
+use mathlib.Core.List.{[], ◌∷◌, ◌++◌, append_assoc}
 use mathlib.Core.Logic.{◌⊎◌, inl, inr}
-use native.Mathlib.Omega.{arith}
 use lib.ListN.{get_or}
 use lib.Dec.{eqb}
-use Rattle.scan.specs.Part.{string_at}
 use Rattle.entities.specs.Escape.{escaped}
 use Rattle.grammar.specs.Tree.{Attr, attr}
 use Rattle.names.specs.declared.tables.Listed.{Listed}
@@ -20,28 +17,12 @@ use Rattle.track.specs.Track.{Bytes}
 use Rattle.track.specs.Track as track
 use Rattle.track.specs.Tables.{Tables, cell, style_at, region_at, cue_at, param_at, rows_from, param_count, style_count, region_count, cue_count}
 use Rattle.track.specs.Meaning.{bytes_at, style_in, region_in, cue_in, track_at}
-use Rattle.track.specs.Meaning as meaning
 use Rattle.track.proofs.ShownLaws.{extras_in_lem, param_in, params_in, styles-in, regions-in, cues-in}
 use Rattle.scan.specs.Text.{ascii}
-use Rattle.written.specs.Attributes.{
-  attr_text,
-  attrs_text,
-  joined,
-  given,
-  listed,
-  extra_attrs,
-  is_imsc,
-  param_attr,
-  some_of,
-  contains,
-  holds_itts,
-  uses_itts,
-  lang_of,
-  root_attrs,
-}
+use Rattle.written.specs.Attributes.{attr_text, attrs_text, given, listed, is_imsc, param_attr, some_of, contains, holds_itts, uses_itts, lang_of, root_attrs}
 use Rattle.written.specs.Written.{tag, styling_lines, layout_lines}
 use Rattle.writer.specs.Puts.{quoted}
-use Rattle.writer.specs.Rows.{over, extra_text}
+use Rattle.writer.specs.Rows.{over}
 use Rattle.writer.proofs.AttrLaws.{attrs-joined, attrs-last, attrs-one, attrs-given, attrs-extras}
 use Rattle.document.specs.Roots.{
   some_row,

@@ -3,9 +3,8 @@
 --     searching_start, searching_step, searching_found, searching_done   how it begins, goes on and ends
 --     some_rows, some_same                                               of what stands in the rows; of equal tests
 use Prim.Native.Nat.{ℕ, zero, suc, ◌+◌, ◌-◌, ◌≤◌, ◌<◌}
-use mathlib.Core.Path.{◌≡◌, refl, sym, ap, ap₂, ◌∙◌}
+use mathlib.Core.Path.{◌≡◌, refl, ap, ap₂, ◌∙◌}
 use mathlib.Core.Bool.{Bool, true, false, ◌||◌}
-use mathlib.Core.List.{List}
 use native.Mathlib.Omega.{arith}
 use Rattle.track.specs.Tables.{rows_from}
 use Rattle.written.specs.Attributes.{some_of}

@@ -3,23 +3,21 @@
 --     styling_none, styling_some     their part of the head
 --     row_within                     the row that is found
 use Prim.Native.Nat.{ℕ, zero, suc, ◌+◌, ◌*◌, ◌≤◌, ◌<◌}
-use mathlib.Core.Path.{◌≡◌, refl, sym, ap, ◌∙◌}
-use mathlib.Core.Bool.{Bool, true, false, cond, not, ◌&&◌}
-use mathlib.Core.List.{List, [], ◌∷◌, ◌++◌, append-nil, append_assoc}
-use mathlib.Core.Option.{Option, none, some}
+use mathlib.Core.Path.{◌≡◌, refl, ap, ◌∙◌}
+use mathlib.Core.Bool.{Bool, true, false, cond, not}
+use mathlib.Core.List.{List, [], ◌++◌, append-nil, append_assoc}
 use native.Mathlib.Omega.{arith}
 use lib.ListN.{length, get_or}
 use lib.Dec.{eqb}
 use lib.Ieee.{Float}
 use borrow.Author.Tests.{not-true}
-use Rattle.scan.specs.Part.{string_at}
 use Rattle.scan.specs.declared.table.Written.{Written}
 use Rattle.entities.specs.Escape.{escaped}
 use Rattle.colors.specs.declared.read.Rgba.{Rgba}
 use Rattle.colors.specs.Written.{rgba_text}
 use Rattle.decimals.specs.declared.size.Size.{Size}
 use Rattle.scan.proofs.Every.{both}
-use Rattle.grammar.specs.Tree.{Attr, attr}
+use Rattle.grammar.specs.Tree.{attr}
 use Rattle.names.specs.declared.tables.Listed.TheVariants.{StyleExtra}
 use Rattle.track.specs.declared.values.Align.{Align}
 use Rattle.track.specs.declared.values.Look.{Look}
@@ -32,13 +30,11 @@ use Rattle.track.specs.Meaning as meaning
 use Rattle.scan.specs.declared.table.Found.{Found}
 use Rattle.records.specs.Find.{is_named, first_with, find_chain, find_extras, chain_from, extras_from, found_in}
 use Rattle.records.proofs.FoundRows.{with_first, chain_found, extras_found}
-use Rattle.records.proofs.Finding.{named_with}
 use Rattle.scan.specs.Text.{ascii}
-use Rattle.written.specs.Attributes.{attr_text, attrs_text, joined, given, optional, extra_attrs, size_text, align_attrs, style_attrs}
+use Rattle.written.specs.Attributes.{attrs_text, optional, extra_attrs, size_text, align_attrs, style_attrs}
 use Rattle.written.specs.Written.{style_text, lines, styling_lines}
 use Rattle.written.proofs.Values.{rgba-itself, size-itself}
 use Rattle.writer.specs.Puts.{quoted, Puts}
-use Rattle.writer.specs.Rows.{over, extra_text}
 use Rattle.writer.proofs.AttrLaws.{attrs-joined, attrs-last, attrs-one, attrs-given, attrs-optional, attrs-extras}
 use Rattle.document.specs.Styles.{look_text, align_text, flags_text, chain_text, kept_text, StylesReady}
 

@@ -3,7 +3,7 @@
 --     whole-puts    the same of places
 use Prim.Native.Nat.{ℕ, zero, suc, ◌+◌}
 use mathlib.Core.Path.{◌≡◌, refl, sym, ap, ap₂, ◌∙◌}
-use mathlib.Core.List.{List, [], ◌++◌, append_assoc}
+use mathlib.Core.List.{List, ◌++◌, append_assoc}
 use Rattle.scan.specs.declared.table.Written.{Written}
 use Rattle.track.specs.Track.{Bytes}
 use Rattle.track.specs.Tables.{Tables, rows_from, style_count, region_count, cue_count}
@@ -13,7 +13,7 @@ use Rattle.scan.specs.Text.{ascii}
 use Rattle.written.specs.Attributes.{root_attrs}
 use Rattle.written.specs.Written.{tag, lines, cue_text, head_lines, written_of}
 use Rattle.writer.specs.Puts.{Puts}
-use Rattle.writer.specs.Rows.{over, line_of}
+use Rattle.writer.specs.Rows.{over}
 use Rattle.writer.specs.Cues.{cue_tables}
 use Rattle.writer.proofs.Rowing.{lines-over}
 use Rattle.writer.proofs.CueLaws.{cue_is}

@@ -12,7 +12,7 @@ use Rattle.track.specs.Meaning.{bytes_at}
 use Rattle.records.specs.Find.{is_empty}
 use Rattle.scan.specs.Text.{ascii}
 use Rattle.written.specs.Attributes.{contains}
-use Rattle.written.specs.Written.{styling_lines, layout_lines, lines}
+use Rattle.written.specs.Written.{styling_lines, layout_lines}
 use Rattle.writer.specs.Puts.{quoted}
 use Rattle.writer.specs.Rows.{over, extra_text, ExtrasReady}
 use Rattle.writer.specs.Cues.{cue_tables, CuesReady}

@@ -1,6 +1,6 @@
 -- The read-back said of definitions alone (`ReadsBack`), and what is known of a track that was checked: the way to what `ttml/specs/Demands` says of
 -- the calls. It need not be believed.
-use Rattle.std.specs.Prelude.{ℕ, ◌+◌, ◌*◌, ◌^◌, ◌≤◌, ◌<◌, ◌≡◌, Bool, true, false, cond, ◌&&◌, List, [], ◌∷◌, eqb, length, ℤ, pos}
+use Rattle.std.specs.Prelude.{ℕ, ◌+◌, ◌^◌, ◌≤◌, ◌<◌, ◌≡◌, Bool, true, false, cond, ◌&&◌, List, [], ◌∷◌, eqb, length}
 use Rattle.std.proofs.Math.Option.{none}
 use Rattle.std.specs.Int.Signed.{mag}
 use Rattle.track.specs.Track.{Bytes, Wrapper, Segments, Cue, Extra, Track}

@@ -4,7 +4,7 @@
 --     head_asks, heads_no, body_asks, body_no   its head and its body, as they are asked for; refused
 --     HeadBlank, BodyBlank, cleared-as          what they have written is cleared
 --     whole-asks, content_laid                  all of it
-use Prim.Native.Nat.{ℕ, ◌+◌, ◌-◌, ◌≤◌}
+use Prim.Native.Nat.{ℕ, ◌+◌, ◌≤◌}
 use mathlib.Core.Path.{◌≡◌, refl, sym, ap, subst, ◌∙◌}
 use mathlib.Core.Bool.{true, false}
 use mathlib.Core.List.{List, []}
@@ -29,7 +29,7 @@ use Rattle.xml.specs.Reading.{Placed}
 use Rattle.xml.proofs.PassForests.{string_long}
 use Rattle.meaning.specs.Answers.{Answer}
 use Rattle.meaning.specs.Words.{ascii}
-use Rattle.meaning.specs.Nodes.{Attr, Element, first_element}
+use Rattle.meaning.specs.Nodes.{Attr, first_element}
 use Rattle.meaning.specs.Kinds.{with_places, attrs_in, nodes_in}
 use Rattle.meaning.specs.Space.{collapse, space_of}
 use Rattle.meaning.specs.Tracks.{option_by}

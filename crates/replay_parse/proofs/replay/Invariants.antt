@@ -1,10 +1,7 @@
 -- `replay` is safe and ends. No more lines are counted than bytes are passed. The measure is what is left of the list.
 use Prim.Native.Nat.{◌+◌, ◌-◌, ◌≤◌}
-use mathlib.Core.Path.{◌≡◌, sym}
-use native.Mathlib.Omega.{arith}
+use mathlib.Core.Path.{◌≡◌}
 use lib.ListN.{length}
-use lib.Seq.{length-take-le}
-use borrow.Author.Rules.{rules}
 use Rattle.replay_parse.proofs.replay.Given as goal
 
 abbrev pub invariant-loop-pos : goal.invariant-loop-pos

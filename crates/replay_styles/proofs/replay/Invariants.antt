@@ -1,6 +1,5 @@
 -- `replay` is safe and ends. The loop's invariant: no more lines are counted than bytes are passed. The measure is what is left of the list.
 use Prim.Native.Nat.{◌+◌, ◌-◌, ◌≤◌}
-use native.Mathlib.Omega.{arith}
 use lib.ListN.{length}
 use Rattle.replay_styles.proofs.replay.Given as goal
 

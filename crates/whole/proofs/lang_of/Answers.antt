@@ -1,5 +1,4 @@
 -- `lang_of` meets its contract.
-use borrow.Author.Rules.{rules}
 use Rattle.whole.proofs.Contents.{lang_found, lang_none}
 use Rattle.whole.proofs.lang_of.Goals as goal
 

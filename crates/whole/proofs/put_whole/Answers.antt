@@ -1,6 +1,5 @@
 -- `put_whole` meets its contract. Assumes nothing.
 use native.Mathlib.Omega.{arith}
-use borrow.Author.Rules.{rules}
 use Rattle.whole.proofs.put_whole.Goals as goal
 
 pub put_head-requires : goal.put_head-requires

@@ -3,7 +3,6 @@ use mathlib.Core.Path.{◌∙◌}
 use mathlib.Core.List.{[]}
 use native.Mathlib.Omega.{arith}
 use lib.IntN.{pos}
-use borrow.Author.Rules.{rules}
 use Rattle.track.specs.Tables.{zero_float}
 use Rattle.cues.specs.Steps.{five}
 use Rattle.cues.proofs.Blanks.{blank-as}

@@ -1,5 +1,4 @@
 -- `read_track` meets its contract: the first tt, or 12. Assumes nothing.
-use borrow.Author.Rules.{rules}
 use Rattle.meaning.specs.Words.{ascii}
 use Rattle.cues.proofs.Elements.{elem-found}
 use Rattle.whole.proofs.Roots.{root_no, root_is, track_as}

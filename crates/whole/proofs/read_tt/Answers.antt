@@ -1,7 +1,6 @@
 -- `read_tt` meets its contract: its parameters, its rates, and then its content. Assumes nothing.
 use mathlib.Core.Path.{◌∙◌}
 use native.Mathlib.Omega.{arith}
-use borrow.Author.Rules.{rules}
 use Rattle.cues.proofs.Blanks.{blank-as}
 use Rattle.cues.proofs.Elements.{elem-room, elem-rows}
 use Rattle.whole.proofs.Roots.{params_full, params_cleared, few_params, many_params, rates_no, tt-laid, tt-no}

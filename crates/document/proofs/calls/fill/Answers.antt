@@ -1,13 +1,6 @@
-use mathlib.Core.Path.{sym, ◌∙◌}
+use mathlib.Core.Path.{sym}
 use lib.Seq.{length-take-le}
 use Rattle.writer.proofs.CallLaws.{fit_bytes, fit_full}
-use borrow.Author.Rules.{rules}
-use Rattle.document.proofs.calls.fill.Reads as reads
-use Rattle.document.proofs.calls.fill.Lts as lts
-use Rattle.document.proofs.calls.write_document.Reads as write-document-reads
-use Rattle.scan.proofs.clear_bytes.Reads as clear-bytes-reads
-use Rattle.writer.proofs.limit.Reads as limit-reads
-use Rattle.writer.proofs.refused.Reads as refused-reads
 use Rattle.document.proofs.calls.fill.Goals as goal
 
 -- src/calls.rt:106:9

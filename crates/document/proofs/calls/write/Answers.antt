@@ -1,15 +1,9 @@
 use Prim.Native.Nat.{ℕ}
-use mathlib.Core.Path.{refl, sym, ap, ◌∙◌}
+use mathlib.Core.Path.{refl, ap, ◌∙◌}
 use lib.ListN.{length, length-replicate}
 use Rattle.writer.proofs.CallLaws.{checked, accepted, clear_self}
 use Rattle.writer.proofs.Promised.{promise_refused, promise_done}
 use Rattle.document.proofs.Ready.{whole_ready}
-use borrow.Author.Rules.{rules}
-use Rattle.document.proofs.calls.write.Reads as reads
-use Rattle.document.proofs.calls.write.Lts as lts
-use Rattle.document.proofs.calls.fill.Reads as fill-reads
-use Rattle.scan.proofs.clear_bytes.Reads as clear-bytes-reads
-use Rattle.track.proofs.check_track.Reads as check-track-reads
 use Rattle.document.proofs.calls.write.Goals as goal
 
 -- src/calls.rt:155:25

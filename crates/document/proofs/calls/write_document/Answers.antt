@@ -1,14 +1,6 @@
-use Rattle.track.specs.Tables.{Tables}
 use Rattle.writer.proofs.Chaining.{puts_then}
-use Rattle.document.proofs.Whole.{whole_is, whole-puts}
+use Rattle.document.proofs.Whole.{whole-puts}
 use borrow.Author.Rules.{rules}
-use Rattle.document.proofs.calls.write_document.Reads as reads
-use Rattle.document.proofs.calls.write_document.Lts as lts
-use Rattle.document.proofs.root.write_head.Reads as write-head-reads
-use Rattle.document.proofs.root.write_root.Reads as write-root-reads
-use Rattle.scan.proofs.get.Reads as get-reads
-use Rattle.writer.proofs.write_cues.Reads as write-cues-reads
-use Rattle.writer.proofs.put.Reads as put_reads
 use Rattle.document.proofs.calls.write_document.Goals as goal
 
 -- src/calls.rt:46:9

@@ -3,7 +3,6 @@ use mathlib.Core.Path.{refl, sym, ◌∙◌}
 use native.Mathlib.Omega.{arith}
 use Rattle.decimals.proofs.Reading.{decimal-limits}
 use Rattle.probe.proofs.Decimals.{sized-is, sized-none, sized-beyond}
-use borrow.Author.Rules.{rules}
 use Rattle.probe.proofs.decimal.probe_size.Goals as goal
 
 pub returns-then-out-eq0 : goal.returns-then-out-eq0

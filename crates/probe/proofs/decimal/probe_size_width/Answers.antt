@@ -1,9 +1,8 @@
 -- `probe_size_width` meets its contract, by the cases of what `read_decimal` and `spell` answer.
-use mathlib.Core.Path.{refl, sym, ◌∙◌}
+use mathlib.Core.Path.{sym, ◌∙◌}
 use native.Mathlib.Omega.{arith}
-use borrow.Author.Rules.{rules}
 use Rattle.decimals.proofs.Reading.{decimal-limits}
-use Rattle.probe.proofs.Decimals.{size_scale, width_at, width_full}
+use Rattle.probe.proofs.Decimals.{size_scale}
 use Rattle.probe.proofs.decimal.probe_size_width.Goals as goal
 
 pub size_of-requires : goal.size_of-requires

@@ -2,7 +2,6 @@
 use mathlib.Core.Path.{sym}
 use native.Mathlib.Omega.{arith}
 use lib.Seq.{length-take-le}
-use borrow.Author.Rules.{rules}
 use Rattle.replay_parse.proofs.question.agrees.Goals as goal
 
 pub slice_bounds-call_agrees-end : goal.slice_bounds-call_agrees-end

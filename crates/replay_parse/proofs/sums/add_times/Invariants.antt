@@ -1,7 +1,6 @@
 -- `add_times` is safe and ends. The measure is what is left of the table.
 use Prim.Native.Nat.{◌-◌, ◌≤◌}
 use lib.ListN.{length}
-use borrow.Author.Rules.{rules}
 use Rattle.replay_parse.proofs.sums.add_times.Given as goal
 
 abbrev pub invariant-loop-i : goal.invariant-loop-i

@@ -1,12 +1,11 @@
 -- `cue_to_bytes` meets its contract.
-use mathlib.Core.Path.{refl, sym, ap, ◌∙◌}
+use mathlib.Core.Path.{ap, ◌∙◌}
 use native.Mathlib.Omega.{arith}
 use lib.ListN.{length, length-replicate}
 use Prim.Native.Nat.{ℕ}
 use Rattle.writer.proofs.Accepting.{long, cue_ready}
 use Rattle.writer.proofs.CallLaws.{checked, accepted, clear_self, filled-same}
 use Rattle.writer.proofs.Promised.{promise_refused, promise_cue, promise_past}
-use borrow.Author.Rules.{rules}
 use Rattle.writer.proofs.calls.cue_to_bytes.Goals as goal
 
 pub get-requires : goal.get-requires

@@ -1,8 +1,7 @@
 -- `fill_cue` meets its contract.
-use mathlib.Core.Path.{sym, ◌∙◌}
+use mathlib.Core.Path.{sym}
 use lib.Seq.{length-take-le}
 use Rattle.writer.proofs.CallLaws.{fit_bytes, fit_full}
-use borrow.Author.Rules.{rules}
 use Rattle.writer.proofs.calls.fill_cue.Goals as goal
 
 pub slice_bounds-write_single-end-2 : goal.slice_bounds-write_single-end-2

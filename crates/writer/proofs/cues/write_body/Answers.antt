@@ -1,7 +1,6 @@
 -- `write_body` meets its contract.
 use Rattle.writer.specs.Cues.{body_text}
 use Rattle.writer.proofs.Chaining.{puts_then}
-use borrow.Author.Rules.{rules}
 use Rattle.writer.proofs.cues.write_body.Goals as goal
 
 pub returns : goal.returns

@@ -1,7 +1,6 @@
 -- `write_cue` meets its contract.
 use Rattle.writer.proofs.Chaining.{puts_then}
-use Rattle.writer.proofs.CueLaws.{single-puts, cue_puts}
-use borrow.Author.Rules.{rules}
+use Rattle.writer.proofs.CueLaws.{cue_puts}
 use Rattle.writer.proofs.cues.write_cue.Goals as goal
 
 pub open_cue-a-requires : goal.open_cue-a-requires

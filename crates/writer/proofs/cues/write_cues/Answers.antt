@@ -1,13 +1,7 @@
 use Rattle.writer.proofs.Chaining.{puts_then}
-use Prim.Native.Nat.{ℕ, ◌+◌, ◌-◌, ◌≤◌, ◌<◌}
 use native.Mathlib.Omega.{arith}
-use borrow.Author.Rules.{rules}
-use Rattle.writer.proofs.Rowing.{Rowed, rowed_start, rowed_step, rowed_done, rowed_full}
+use Rattle.writer.proofs.Rowing.{rowed_start, rowed_step, rowed_done, rowed_full}
 use Rattle.writer.proofs.Rowing.{lines-over}
-use Rattle.writer.specs.Rows.{line_of}
-use Rattle.track.specs.Meaning.{cue_in}
-use Rattle.written.specs.Written.{cue_text}
-use Rattle.writer.specs.Cues.{cue_tables}
 use Rattle.writer.proofs.cues.write_cues.Goals as goal
 
 pub loop-i-init : goal.loop-i-init

@@ -1,10 +1,6 @@
 -- `write_cues` meets its contract.
-use Rattle.writer.proofs.Chaining.{puts_then}
-use Prim.Native.Nat.{ℕ, ◌+◌, ◌-◌, ◌≤◌, ◌<◌}
-use native.Mathlib.Omega.{arith}
-use borrow.Author.Rules.{rules}
-use Rattle.writer.proofs.Rowing.{Rowed, rowed_start, rowed_step, rowed_done, rowed_full}
-use Rattle.writer.proofs.Rowing.{lines-over}
+use Prim.Native.Nat.{ℕ, ◌-◌}
+use Rattle.writer.proofs.Rowing.{Rowed}
 use Rattle.writer.specs.Rows.{line_of}
 use Rattle.track.specs.Meaning.{cue_in}
 use Rattle.written.specs.Written.{cue_text}

@@ -1,7 +1,6 @@
 -- `write_single` meets its contract.
 use Rattle.writer.proofs.Chaining.{puts_then}
-use Rattle.writer.proofs.CueLaws.{single-puts, cue_puts}
-use borrow.Author.Rules.{rules}
+use Rattle.writer.proofs.CueLaws.{single-puts}
 use Rattle.writer.proofs.cues.write_single.Goals as goal
 
 pub open_cue-a-requires : goal.open_cue-a-requires

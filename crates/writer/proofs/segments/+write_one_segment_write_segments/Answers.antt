@@ -1,6 +1,4 @@
-use Prim.Native.Nat.{ℕ, ◌+◌, ◌-◌, ◌*◌, ◌≤◌, ◌<◌}
-use mathlib.Core.Path.{◌≡◌}
-use mathlib.Core.Logic.{⊎_elim}
+use Prim.Native.Nat.{◌+◌, ◌-◌, ◌*◌, ◌≤◌, ◌<◌}
 use native.Mathlib.Omega.{arith}
 use mir.Syntax.{w64}
 use mir.ValLaws.{to_z-of_z}
@@ -9,7 +7,7 @@ use Rattle.track.specs.Tables.{cell}
 use Rattle.track.proofs.Chains.{fails, holds}
 use Rattle.track.proofs.SegmentLaws.{readable}
 use Rattle.writer.proofs.Chaining.{puts_then}
-use Rattle.writer.proofs.Spanning.{Spanning, spanning-start, spanning-full, spanning-done, spanning-stamp, spanning-one, first}
+use Rattle.writer.proofs.Spanning.{spanning-start, spanning-full, spanning-done, spanning-stamp, spanning-one, first}
 use Rattle.writer.proofs.Spanning.{ready_one, ready_walk, ready_cells, ready_within, ready_inside, one_leaf, one_wrapper}
 use Rattle.writer.proofs.segments.+write_one_segment_write_segments.Goals as goal
 use Rattle.writer.proofs.segments.+write_one_segment_write_segments.Goals.{write_segments-then-segments-i-eq-TIMESTAMP, write_segments-else-segments-i-eq-TIMESTAMP}

@@ -1,18 +1,7 @@
 -- `write_segments` and `write_one_segment` meet their contracts. The measure is twice the room, and which of the two writes. The loop over
 -- siblings is `Spanning`. Assumes nothing.
-use Prim.Native.Nat.{ℕ, ◌+◌, ◌-◌, ◌*◌, ◌≤◌, ◌<◌}
-use mathlib.Core.Path.{◌≡◌}
-use mathlib.Core.Logic.{⊎_elim}
-use native.Mathlib.Omega.{arith}
-use mir.Syntax.{w64}
-use mir.ValLaws.{to_z-of_z}
-use borrow.Author.Rules.{rules}
-use Rattle.track.specs.Tables.{cell}
-use Rattle.track.proofs.Chains.{fails, holds}
-use Rattle.track.proofs.SegmentLaws.{readable}
-use Rattle.writer.proofs.Chaining.{puts_then}
-use Rattle.writer.proofs.Spanning.{Spanning, spanning-start, spanning-full, spanning-done, spanning-stamp, spanning-one, first}
-use Rattle.writer.proofs.Spanning.{ready_one, ready_walk, ready_cells, ready_within, ready_inside, one_leaf, one_wrapper}
+use Prim.Native.Nat.{◌+◌, ◌-◌, ◌*◌}
+use Rattle.writer.proofs.Spanning.{Spanning}
 use Rattle.writer.proofs.segments.+write_one_segment_write_segments.Given as goal
 
 abbrev pub decreases-write_one_segment : goal.decreases-write_one_segment
