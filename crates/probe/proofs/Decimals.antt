@@ -1,5 +1,5 @@
 -- What the functions on decimals and sizes answer, by cases. Assumes nothing.
-use Prim.Native.Nat.{ℕ, ◌+◌, ◌≤◌, ◌<◌}
+use Prim.Native.Nat.{ℕ, ◌≤◌, ◌<◌}
 use mathlib.Core.Path.{◌≡◌, refl}
 use mathlib.Core.Bool.{Bool, true, ◌&&◌}
 use mathlib.Core.List.{List}
@@ -8,10 +8,7 @@ use lib.ListN.{length, set}
 use lib.Seq.{sets}
 use lib.Dec.{leb}
 use lib.Ieee.{Float, binary64}
-use borrow.Author.Tests.{le-leb, lt-leb}
-use Rattle.scan.specs.Posts.{Appended, Wrote}
-use Rattle.scan.specs.declared.table.Written.{Written}
-use Rattle.scan.specs.declared.table.Written.TheVariants.{At, Full}
+use borrow.Author.Tests.{le-leb}
 use Rattle.decimals.specs.declared.read.Digits.{Digits}
 use Rattle.decimals.specs.declared.read.Decimal.{Decimal}
 use Rattle.decimals.specs.declared.read.Decimal.TheVariants.{Is, Nothing, Beyond}
@@ -20,7 +17,7 @@ use Rattle.decimals.specs.Floats.{value_in_of}
 use Rattle.decimals.specs.Size.{size_of}
 use Rattle.decimals.proofs.Sizes.{reduced-is}
 use Rattle.probe.specs.Answers.{Answered}
-use Rattle.probe.specs.Decimals.{kind_of, digit_cells, decimal_cells, float_cells, text_of, SizePut, Sized, width_of}
+use Rattle.probe.specs.Decimals.{kind_of, digit_cells, decimal_cells, float_cells, SizePut, Sized}
 use Rattle.probe.proofs.Cells.{answers}
 
 pub will-read : (digits decimals n : ℕ) → 3 ≤ n → digits ≤ 18 → decimals ≤ 0xFFFF_FFFF → (leb 3 n && leb digits 18 && leb decimals 0xFFFF_FFFF) ≡ true
@@ -60,15 +57,3 @@ sized-none x b t e h = record { cell = λ g. rw e (refl, refl, refl); none = λ 
 
 pub sized-beyond : (x : Decimal) (b : List ℕ) (t : List Float) → x ≡ Beyond → 0 < length t → Sized x b b t t 2
 sized-beyond x b t e h = record { cell = λ g. rw e (refl, refl, refl); none = λ g. absurd (omega arith) }
-
-pub width_at : (x : Decimal) (d : Digits) (z : Size) (t t' : List ℕ) (o : Written) (n : ℕ) → x ≡ Is d → z ≡ size_of d → o ≡ At n → length t ≡ 18 →
-    Wrote (text_of z) 0 t t' o → n ≡ width_of x
-width_at x d z t t' o n e s f l w =
-    let p : Appended (text_of z) 0 t t' n = rw f at w in
-    rw (e, ← s, le-leb (length (text_of z)) 18 (omega (arith, p.next, p.within))) (omega (arith, p.next))
-
-pub width_full : (x : Decimal) (d : Digits) (z : Size) (t t' : List ℕ) (o : Written) → x ≡ Is d → z ≡ size_of d → o ≡ Full → length t ≡ 18 → Wrote
-    (text_of z) 0 t t' o → 0 ≡ width_of x
-width_full x d z t t' o e s f l w =
-    let p : (length t < 0 + length (text_of z)) × (t' ≡ t) = rw f at w in
-    rw (e, ← s, lt-leb (length (text_of z)) 18 (omega (arith, p.0)))
