@@ -55,8 +55,9 @@ unfoldable pub is_marked : (marks bits : ℕ) → Bool
 unfolding spelled_bits
 is_marked m bits =
     eqb (sign_mark m) 0
-    || leb (sign_mark m) 2 && is_spelling (digits_mark m) (scale_mark m)
-    && eqb bits (spelled_bits (eqb (sign_mark m) 2) (digits_mark m) (scale_mark m))
+    || (leb (sign_mark m) 2
+    && is_spelling (digits_mark m) (scale_mark m)
+    && eqb bits (spelled_bits (eqb (sign_mark m) 2) (digits_mark m) (scale_mark m)))
 
 -- ---- extras: names of a list of `most`, in its order, none twice: each number is at least `least`
 unfoldable pub is_extra : List ℕ → List ℕ → (most least i : ℕ) → Bool
