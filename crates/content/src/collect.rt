@@ -1,5 +1,5 @@
 // The inline content of a p: its nodes as rows of segments, and their texts.
-ghost use Rattle.std.specs.Prelude.{◌≡◌, ◌||◌, List, ℕ, ◌+◌, ◌-◌, ◌*◌, ◌≤◌, ◌<◌, ◌^◌, length, get_or};
+ghost use Rattle.std.specs.Prelude.{◌≡◌, List, ℕ, ◌+◌, ◌-◌, ◌*◌, ◌≤◌, ◌<◌, ◌^◌, length, get_or};
 ghost use Rattle.scan.specs.Part.{string_at};
 ghost use Rattle.meaning.specs.Kinds.{with_places};
 ghost use Rattle.meaning.specs.Words.{ascii};
@@ -9,12 +9,11 @@ ghost use Rattle.styling.specs.Posts.{HasRows, OfRows, wrappers_in};
 ghost use Rattle.inline.specs.Trims.{Ready};
 ghost use Rattle.inline.specs.Wraps.{wrappers_from};
 ghost use Rattle.content.specs.Steps.{Wide, Roomy, added_in, node_place, Writes, TextGiven, Ends, BreakGiven, wrappers_by, SpanGiven};
-ghost use Rattle.content.specs.Steps.{beginning, begin_from, AsksNode, NodePost, AsksSpan, SpanPost, Asks, Post, AsksContent, ContentPost};
+ghost use Rattle.content.specs.Steps.{moment_said, begin_from, AsksNode, NodePost, AsksSpan, SpanPost, Asks, Post, AsksContent, ContentPost};
 
 use inline::{Collapsed, Wrappers};
-use records::Added;
-use styling::{TimeSaid, Wrapping, WsMode};
-use times::{Sum, TimingCtx};
+use styling::WsMode;
+use times::TimingCtx;
 use track::Span;
 use tree::{ELEMENT, NODE_CELLS, Refusal, SECTION};
 
@@ -25,28 +24,14 @@ pub struct Run {
     pub boundary: bool,
 }
 
-#[derive(Clone, Copy)]
-pub enum Collecting {
-    Is(Run),
-    Refused(Refusal),
-}
-
 // The bytes of a section's opening: a section begins before its string.
 const OPENING: usize = 9;
 
-fn refused(number: u32, place: usize) -> Collecting
-    ensures { result ≡ Collecting.Refused (record { number = number; place = place }) }
-{
-    Collecting::Refused(Refusal { number, place })
-}
-
-fn added(a: Added, boundary: bool, place: usize) -> Collecting
+fn added(a: Option<usize>, boundary: bool, place: usize) -> Result<Run, Refusal>
     ensures { result ≡ added_in a boundary place }
 {
-    match a {
-        Added::Next(rows) => Collecting::Is(Run { rows, boundary }),
-        Added::Full => refused(13, place),
-    }
+    let rows = a.ok_or(Refusal { number: 13, place })?;
+    Ok(Run { rows, boundary })
 }
 
 // The place of node k in the text: its first byte.
@@ -55,13 +40,11 @@ fn node_place(nodes: &[u32], k: usize) -> usize
     ensures { result ≡ node_place nodes.now k }
 {
     let place = scan::get(nodes, k * NODE_CELLS + 2);
-    if nodes[k * NODE_CELLS] != SECTION {
-        return place;
+    if nodes[k * NODE_CELLS] == SECTION {
+        place.saturating_sub(OPENING)
+    } else {
+        place
     }
-    if place < OPENING {
-        return 0;
-    }
-    place - OPENING
 }
 
 // The string at a place in its mode, in `texts` from the same place on.
@@ -92,7 +75,7 @@ fn collect_text(
     k: usize,
     ws: WsMode,
     run: Run,
-) -> Collecting
+) -> Result<Run, Refusal>
     requires { Roomy strings.now segments.old texts.old × (run.rows ≤ 16384) × (k * 6 + 6 ≤ length nodes.now)
         × (get_or nodes.now (k * 6 + 2) 0 + get_or nodes.now (k * 6 + 3) 0 ≤ length strings.now) }
     ensures { TextGiven nodes.now strings.now k ws run
@@ -102,7 +85,7 @@ fn collect_text(
     let len = scan::get(nodes, k * NODE_CELLS + 3);
     let c = write_text(strings, texts, place, len, ws, run.boundary);
     if c.len == 0 {
-        return Collecting::Is(Run {
+        return Ok(Run {
             rows: run.rows,
             boundary: c.boundary,
         });
@@ -117,11 +100,8 @@ fn end_siblings(segments: &mut [u32], texts: &mut [u8], ws: WsMode, first: usize
     requires { (first ≤ end) × Ready segments.old texts.old first end }
     ensures { Ends ws first end segments.old texts.old segments.new texts.new }
 {
-    match ws {
-        WsMode::Collapse => {
-            inline::trim_trailing_space(segments, texts, first, end);
-        }
-        WsMode::Preserve => {}
+    if let WsMode::Collapse = ws {
+        inline::trim_trailing_space(segments, texts, first, end);
     }
 }
 
@@ -133,7 +113,7 @@ fn collect_break(
     ws: WsMode,
     first: usize,
     rows: usize,
-) -> Collecting
+) -> Result<Run, Refusal>
     requires { Wide segments.old × (first ≤ rows) × Ready segments.old texts.old first rows }
     ensures { BreakGiven place first rows ws
         segments.old texts.old segments.new texts.new result }
@@ -141,15 +121,6 @@ fn collect_break(
     end_siblings(segments, texts, ws, first, rows);
     let a = records::add_break(segments, rows);
     added(a, true, place)
-}
-
-fn either(a: bool, b: bool) -> bool
-    ensures { result ≡ (a || b) }
-{
-    if a {
-        return true;
-    }
-    b
 }
 
 // The wrappers of an element as they are put around rows.
@@ -160,7 +131,7 @@ pub fn around(w: styling::Wrappers) -> Wrappers
     let font = w.font;
     let color = w.color;
     Wrappers {
-        has_font: either(font.has_family, font.has_size),
+        has_font: font.has_family || font.has_size,
         font,
         has_color: w.has_color,
         color,
@@ -181,53 +152,40 @@ fn wrap_with_style(
     inner: Run,
     stamp: bool,
     time: i64,
-) -> Collecting
+) -> Result<Run, Refusal>
     requires { HasRows attrs.now strings.now e.first e.many × (first ≤ inner.rows) × (inner.rows ≤ 16384)
         × Wide segments.old × (length strings.now < 2 ^ 32) }
     ensures { OfRows attrs.now strings.now e.first e.many (λ l. (y : List ℕ)
         → SpanGiven (wrappers_of with_places l) e.place first inner.rows inner.boundary stamp time
         segments.old y segments.new result) }
 {
-    match styling::wrappers_of(attrs, strings, e.first, e.many) {
-        Wrapping::Refused(r) => Collecting::Refused(r),
-        Wrapping::Is(w) => {
-            let a = inline::put_span(segments, first, inner.rows, stamp, time, around(w));
-            added(a, inner.boundary, e.place)
-        }
-    }
+    let w = styling::wrappers_of(attrs, strings, e.first, e.many)?;
+    let a = inline::put_span(segments, first, inner.rows, stamp, time, around(w));
+    added(a, inner.boundary, e.place)
+}
+
+// The sum, or 16 at the element.
+fn counted(base: i64, begin: i64, place: usize) -> Result<i64, Refusal>
+    ensures { moment_said result ≡ sum place base begin }
+{
+    times::add(base, begin).ok_or(Refusal { number: 16, place })
 }
 
 // When a span begins: its own begin, if that is a time, counted from `base`.
-#[derive(Clone, Copy)]
-pub struct Begin {
-    pub has: bool,
-    pub time: i64,
-}
-
-#[derive(Clone, Copy)]
-pub enum Beginning {
-    Is(Begin),
-    Refused(Refusal),
-}
-
-fn counted(base: i64, begin: i64, has: bool, place: usize) -> Beginning
-    ensures { result ≡ beginning has (sum place base begin) }
-{
-    match times::add(base, begin) {
-        Sum::Is(time) => Beginning::Is(Begin { has, time }),
-        Sum::Overflow => Beginning::Refused(Refusal { number: 16, place }),
-    }
-}
-
-fn begin_of(attrs: &[u32], strings: &[u8], e: xml::Element, base: i64, ctx: TimingCtx) -> Beginning
+fn begin_of(
+    attrs: &[u32],
+    strings: &[u8],
+    e: xml::Element,
+    base: i64,
+    ctx: TimingCtx,
+) -> Result<Option<i64>, Refusal>
     requires { HasRows attrs.now strings.now e.first e.many }
     ensures { OfRows attrs.now strings.now e.first e.many (λ l.
         result ≡ begin_from e.place base (time_of with_places ctx e.place (ascii "begin") l)) }
 {
-    match styling::time_attr(attrs, strings, e.first, e.many, b"begin", ctx, e.place) {
-        TimeSaid::Refused(r) => Beginning::Refused(r),
-        TimeSaid::Is(t) => counted(base, t, true, e.place),
-        TimeSaid::Nothing => counted(base, 0, false, e.place),
+    match styling::time_attr(attrs, strings, e.first, e.many, b"begin", ctx, e.place)? {
+        Some(begin) => Ok(Some(counted(base, begin, e.place)?)),
+        None => Ok(None),
     }
 }
 
@@ -245,7 +203,7 @@ fn collect_node(
     ws: WsMode,
     first: usize,
     run: Run,
-) -> Collecting
+) -> Result<Run, Refusal>
     requires { AsksNode nodes.now attrs.now strings.now k first run segments.old texts.old }
     ensures { NodePost nodes.now attrs.now strings.now k first run base ctx ws
         segments.old texts.old segments.new texts.new result }
@@ -290,36 +248,38 @@ fn collect_span(
     ctx: TimingCtx,
     ws: WsMode,
     run: Run,
-) -> Collecting
+) -> Result<Run, Refusal>
     requires { AsksSpan nodes.now attrs.now strings.now k run segments.old texts.old }
     ensures { SpanPost nodes.now attrs.now strings.now k run base ctx ws
         segments.old texts.old segments.new texts.new result }
 {
     let e = xml::element_at(nodes, k);
-    match begin_of(attrs, strings, e, base, ctx) {
-        Beginning::Refused(r) => Collecting::Refused(r),
-        Beginning::Is(b) => {
-            let inside = styling::resolve_ws(attrs, strings, e.first, e.many, ws);
-            match collect_segments_inner(
-                nodes,
-                attrs,
-                strings,
-                segments,
-                texts,
-                k + 1,
-                e.end,
-                b.time,
-                ctx,
-                inside,
-                run,
-            ) {
-                Collecting::Refused(r) => Collecting::Refused(r),
-                Collecting::Is(inner) => wrap_with_style(
-                    attrs, strings, segments, e, run.rows, inner, b.has, b.time,
-                ),
-            }
-        }
-    }
+    let begin = begin_of(attrs, strings, e, base, ctx)?;
+    let from = begin.unwrap_or(base);
+    let inside = styling::resolve_ws(attrs, strings, e.first, e.many, ws);
+    let inner = collect_segments_inner(
+        nodes,
+        attrs,
+        strings,
+        segments,
+        texts,
+        k + 1,
+        e.end,
+        from,
+        ctx,
+        inside,
+        run,
+    )?;
+    wrap_with_style(
+        attrs,
+        strings,
+        segments,
+        e,
+        run.rows,
+        inner,
+        begin.is_some(),
+        from,
+    )
 }
 
 // The siblings in the rows from `from` up to `end`: a list of their own.
@@ -336,7 +296,7 @@ pub fn collect_segments_inner(
     ctx: TimingCtx,
     ws: WsMode,
     run: Run,
-) -> Collecting
+) -> Result<Run, Refusal>
     requires { Asks nodes.now attrs.now strings.now from end run segments.old texts.old }
     ensures { Post nodes.now attrs.now strings.now from end run base ctx ws
         segments.old texts.old segments.new texts.new result }
@@ -345,19 +305,12 @@ pub fn collect_segments_inner(
     let mut s = run;
     let mut k = from;
     while k < end {
-        match collect_node(
+        s = collect_node(
             nodes, attrs, strings, segments, texts, k, base, ctx, ws, first, s,
-        ) {
-            Collecting::Refused(r) => {
-                return Collecting::Refused(r);
-            }
-            Collecting::Is(t) => {
-                s = t;
-            }
-        }
+        )?;
         k = scan::get(nodes, k * NODE_CELLS + 1);
     }
-    Collecting::Is(s)
+    Ok(s)
 }
 
 // The content of a p or of a single cue, from row `rows` on: in collapse mode without a space at its end.
@@ -373,7 +326,7 @@ pub fn collect_segments_timed(
     ctx: TimingCtx,
     ws: WsMode,
     rows: usize,
-) -> Collecting
+) -> Result<Run, Refusal>
     requires { AsksContent nodes.now attrs.now strings.now from end rows segments.old texts.old }
     ensures { ContentPost nodes.now attrs.now strings.now from end rows base ctx ws
         segments.old texts.old segments.new texts.new result }
@@ -382,13 +335,9 @@ pub fn collect_segments_timed(
         rows,
         boundary: true,
     };
-    match collect_segments_inner(
+    let s = collect_segments_inner(
         nodes, attrs, strings, segments, texts, from, end, base, ctx, ws, run,
-    ) {
-        Collecting::Refused(r) => Collecting::Refused(r),
-        Collecting::Is(s) => {
-            end_siblings(segments, texts, ws, rows, s.rows);
-            Collecting::Is(s)
-        }
-    }
+    )?;
+    end_siblings(segments, texts, ws, rows, s.rows);
+    Ok(s)
 }

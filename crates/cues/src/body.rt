@@ -1,11 +1,10 @@
 // The body.
 ghost use Rattle.cues.specs.Steps.{five, AsksBody, BodyPost};
 
-use crate::lines::{Line, Lining};
-use intervals::Moment;
+use crate::lines::Line;
 use styling::WsMode;
 use times::TimingCtx;
-use xml::Found;
+use tree::Refusal;
 
 // The cues of the first body among the siblings in the rows from `from` up to `end`, where `rows` extras stand.
 pub fn collect_body(
@@ -22,7 +21,7 @@ pub fn collect_body(
     ctx: TimingCtx,
     ws: WsMode,
     rows: usize,
-) -> Lining
+) -> Result<Line, Refusal>
     requires { AsksBody nodes.now attrs.now strings.now from end rows
         (five cues.old times.old segments.old extras.old texts.old) }
     ensures { BodyPost nodes.now attrs.now strings.now from end ctx ws rows
@@ -35,14 +34,11 @@ pub fn collect_body(
         extras: rows,
         end: 0,
     };
-    match xml::find_element(nodes, strings, from, end, b"body") {
-        Found::Nothing => Lining::Is(line),
-        Found::Row(k) => match intervals::begin_of(attrs, strings, xml::element_at(nodes, k), ctx) {
-            Moment::Refused(r) => Lining::Refused(r),
-            Moment::Is(begin) => crate::collect::collect_container(
-                nodes, attrs, strings, cues, times, segments, extras, texts, k, begin, ctx, ws,
-                line,
-            ),
-        },
-    }
+    let Some(k) = xml::find_element(nodes, strings, from, end, b"body") else {
+        return Ok(line);
+    };
+    let begin = intervals::begin_of(attrs, strings, xml::element_at(nodes, k), ctx)?;
+    crate::collect::collect_container(
+        nodes, attrs, strings, cues, times, segments, extras, texts, k, begin, ctx, ws, line,
+    )
 }

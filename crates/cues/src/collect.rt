@@ -1,33 +1,18 @@
 // The cues of timed elements: div and p, and unknown elements around them.
 ghost use Rattle.std.specs.Prelude.{◌≡◌};
-ghost use Rattle.meaning.specs.Cues.{later};
 ghost use Rattle.styling.specs.Posts.{HasRows, OfRows};
 ghost use Rattle.cues.specs.Steps.{five, following, Closes, AsksChild, ContainerPost, DivPost, ElementPost, AsksCues, CuesPost};
 
-use crate::lines::{Line, Lining};
-use intervals::Moment;
+use crate::lines::Line;
 use styling::WsMode;
 use times::TimingCtx;
-use tree::{ELEMENT, NODE_CELLS};
-
-// The later of two times.
-fn later(a: i64, b: i64) -> i64
-    ensures { result ≡ later a b }
-{
-    if a < b {
-        return b;
-    }
-    a
-}
+use tree::{ELEMENT, NODE_CELLS, Refusal};
 
 // What the next child counts from: in a seq container the end of this one.
 fn following(seq: bool, begin: i64, end: i64) -> i64
     ensures { result ≡ following seq begin end }
 {
-    if seq {
-        return end;
-    }
-    begin
+    if seq { end } else { begin }
 }
 
 // A div whose children gave this line: its dur is evaluated after them.
@@ -38,19 +23,12 @@ fn close_div(
     ctx: TimingCtx,
     start: i64,
     inner: Line,
-) -> Lining
+) -> Result<Line, Refusal>
     requires { HasRows attrs.now strings.now e.first e.many }
     ensures { OfRows attrs.now strings.now e.first e.many (λ l. Closes ctx e.place start inner l result) }
 {
-    match intervals::lasting_to(attrs, strings, e, ctx, start, inner.end) {
-        Moment::Refused(r) => Lining::Refused(r),
-        Moment::Is(end) => Lining::Is(Line {
-            cues: inner.cues,
-            rows: inner.rows,
-            extras: inner.extras,
-            end,
-        }),
-    }
+    let end = intervals::lasting_to(attrs, strings, e, ctx, start, inner.end)?;
+    Ok(Line { end, ..inner })
 }
 
 // The container in row k, div or body, which begins at `begin`.
@@ -69,7 +47,7 @@ pub fn collect_container(
     ctx: TimingCtx,
     ws: WsMode,
     line: Line,
-) -> Lining
+) -> Result<Line, Refusal>
     requires { AsksChild nodes.now attrs.now strings.now k line
         (five cues.old times.old segments.old extras.old texts.old) }
     ensures { ContainerPost nodes.now attrs.now strings.now k begin ctx ws line
@@ -114,7 +92,7 @@ fn collect_div(
     ctx: TimingCtx,
     ws: WsMode,
     line: Line,
-) -> Lining
+) -> Result<Line, Refusal>
     requires { AsksChild nodes.now attrs.now strings.now k line
         (five cues.old times.old segments.old extras.old texts.old) }
     ensures { DivPost nodes.now attrs.now strings.now k reference ctx ws line
@@ -122,15 +100,11 @@ fn collect_div(
         (five cues.new times.new segments.new extras.new texts.new) result }
 {
     let e = xml::element_at(nodes, k);
-    match intervals::start_of(attrs, strings, e, ctx, reference) {
-        Moment::Refused(r) => Lining::Refused(r),
-        Moment::Is(start) => match collect_container(
-            nodes, attrs, strings, cues, times, segments, extras, texts, k, start, ctx, ws, line,
-        ) {
-            Lining::Refused(r) => Lining::Refused(r),
-            Lining::Is(inner) => close_div(attrs, strings, e, ctx, start, inner),
-        },
-    }
+    let start = intervals::start_of(attrs, strings, e, ctx, reference)?;
+    let inner = collect_container(
+        nodes, attrs, strings, cues, times, segments, extras, texts, k, start, ctx, ws, line,
+    )?;
+    close_div(attrs, strings, e, ctx, start, inner)
 }
 
 // The element in row k, which counts from `reference`. An unknown one is a container that begins there, of the kind around it.
@@ -150,7 +124,7 @@ fn collect_element(
     ctx: TimingCtx,
     ws: WsMode,
     line: Line,
-) -> Lining
+) -> Result<Line, Refusal>
     requires { AsksChild nodes.now attrs.now strings.now k line
         (five cues.old times.old segments.old extras.old texts.old) }
     ensures { ElementPost nodes.now attrs.now strings.now k seq reference ctx ws line
@@ -208,7 +182,7 @@ pub fn collect_cues(
     ctx: TimingCtx,
     ws: WsMode,
     line: Line,
-) -> Lining
+) -> Result<Line, Refusal>
     requires { AsksCues nodes.now attrs.now strings.now from end line
         (five cues.old times.old segments.old extras.old texts.old) }
     ensures { CuesPost nodes.now attrs.now strings.now from end seq begin ctx ws line
@@ -225,25 +199,13 @@ pub fn collect_cues(
             k = next;
             continue;
         }
-        match collect_element(
+        s = collect_element(
             nodes, attrs, strings, cues, times, segments, extras, texts, k, seq, reference, ctx,
             ws, s,
-        ) {
-            Lining::Refused(r) => {
-                return Lining::Refused(r);
-            }
-            Lining::Is(t) => {
-                reference = following(seq, begin, t.end);
-                latest = later(latest, t.end);
-                s = t;
-            }
-        }
+        )?;
+        reference = following(seq, begin, s.end);
+        latest = latest.max(s.end);
         k = next;
     }
-    Lining::Is(Line {
-        cues: s.cues,
-        rows: s.rows,
-        extras: s.extras,
-        end: latest,
-    })
+    Ok(Line { end: latest, ..s })
 }

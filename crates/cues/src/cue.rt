@@ -2,14 +2,11 @@
 ghost use Rattle.styling.specs.Posts.{OfRows};
 ghost use Rattle.cues.specs.Steps.{AsksSegments, SegmentsPost, AsksCue, CueOutcome, five, AsksChild, ParagraphPost};
 
-use crate::lines::{Line, Lining};
-use crate::paragraph::Styled;
-use content::Collecting;
-use intervals::{Interval, Timed};
-use records::Added;
+use crate::lines::Line;
+use intervals::Interval;
 use styling::WsMode;
 use times::TimingCtx;
-use track::{Cue, Rows};
+use track::{Cue, Rows, Span};
 use tree::Refusal;
 
 // The segments of the p whose element is e, in row k, from row `rows` on.
@@ -25,12 +22,12 @@ fn collect_segments(
     ctx: TimingCtx,
     ws: WsMode,
     rows: usize,
-) -> Styled
+) -> Result<usize, Refusal>
     requires { AsksSegments nodes.now attrs.now strings.now k e rows segments.old texts.old }
     ensures { SegmentsPost nodes.now attrs.now strings.now k e start ctx ws rows
         segments.old texts.old segments.new texts.new result }
 {
-    match content::collect_segments_timed(
+    let run = content::collect_segments_timed(
         nodes,
         attrs,
         strings,
@@ -42,12 +39,8 @@ fn collect_segments(
         ctx,
         ws,
         rows,
-    ) {
-        Collecting::Refused(r) => Styled::Refused(r),
-        Collecting::Is(run) => crate::paragraph::style_paragraph(
-            attrs, strings, segments, e, rows, run.rows,
-        ),
-    }
+    )?;
+    crate::paragraph::style_paragraph(attrs, strings, segments, e, rows, run.rows)
 }
 
 // The cue of the p in its row, with its extras: its segments stand up to row `rows`.
@@ -62,7 +55,7 @@ fn add_paragraph(
     ws: WsMode,
     line: Line,
     rows: usize,
-) -> Lining
+) -> Result<Line, Refusal>
     requires { AsksCue attrs.now strings.now e line rows cues.old times.old extras.old }
     ensures { OfRows attrs.now strings.now e.first e.many (λ l.
         CueOutcome e when ws line rows cues.old cues.new times.old times.new
@@ -79,15 +72,14 @@ fn add_paragraph(
     let count = kept.count;
     let style = crate::paragraph::value_of(attrs, strings, e, b"style");
     let region = crate::paragraph::value_of(attrs, strings, e, b"region");
-    let style_span = style.span;
-    let region_span = region.span;
+    let nowhere = Span { place: 0, len: 0 };
     let row = Cue {
         start: when.start,
         end: when.end,
-        has_style: style.has,
-        style: style_span,
-        has_region: region.has,
-        region: region_span,
+        has_style: style.is_some(),
+        style: style.unwrap_or(nowhere),
+        has_region: region.is_some(),
+        region: region.unwrap_or(nowhere),
         preserve: crate::paragraph::is_preserve(ws),
         segments: Rows {
             first: line.rows,
@@ -95,18 +87,16 @@ fn add_paragraph(
         },
         extras: kept,
     };
-    match records::add_cue(cues, times, line.cues, row) {
-        Added::Full => Lining::Refused(Refusal {
-            number: 13,
-            place: e.place,
-        }),
-        Added::Next(n) => Lining::Is(Line {
-            cues: n,
-            rows,
-            extras: line.extras + count,
-            end: when.end,
-        }),
-    }
+    let n = records::add_cue(cues, times, line.cues, row).ok_or(Refusal {
+        number: 13,
+        place: e.place,
+    })?;
+    Ok(Line {
+        cues: n,
+        rows,
+        extras: line.extras + count,
+        end: when.end,
+    })
 }
 
 // The p in row k, which counts from `reference`.
@@ -124,7 +114,7 @@ pub fn collect_paragraph(
     ctx: TimingCtx,
     ws: WsMode,
     line: Line,
-) -> Lining
+) -> Result<Line, Refusal>
     requires { AsksChild nodes.now attrs.now strings.now k line
         (five cues.old times.old segments.old extras.old texts.old) }
     ensures { ParagraphPost nodes.now attrs.now strings.now k reference ctx ws line
@@ -132,18 +122,12 @@ pub fn collect_paragraph(
         (five cues.new times.new segments.new extras.new texts.new) result }
 {
     let e = xml::element_at(nodes, k);
-    match intervals::interval_of(attrs, strings, e, ctx, reference) {
-        Timed::Refused(r) => Lining::Refused(r),
-        Timed::Is(when) => {
-            let inside = styling::resolve_ws(attrs, strings, e.first, e.many, ws);
-            match collect_segments(
-                nodes, attrs, strings, segments, texts, k, e, when.start, ctx, inside, line.rows,
-            ) {
-                Styled::Refused(r) => Lining::Refused(r),
-                Styled::Is(rows) => add_paragraph(
-                    attrs, strings, cues, times, extras, e, when, inside, line, rows,
-                ),
-            }
-        }
-    }
+    let when = intervals::interval_of(attrs, strings, e, ctx, reference)?;
+    let inside = styling::resolve_ws(attrs, strings, e.first, e.many, ws);
+    let rows = collect_segments(
+        nodes, attrs, strings, segments, texts, k, e, when.start, ctx, inside, line.rows,
+    )?;
+    add_paragraph(
+        attrs, strings, cues, times, extras, e, when, inside, line, rows,
+    )
 }

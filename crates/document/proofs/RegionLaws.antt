@@ -1,11 +1,11 @@
 -- Regions as they are written. Assumes nothing.
 --     region_is, region_puts       one, and of what the program has read
 --     layout-none, layout-some     their part of the head
+use Rattle.std.specs.Prelude.{Option}
 use Prim.Native.Nat.{ℕ, zero, suc}
 use mathlib.Core.Path.{◌≡◌, refl, ap, ◌∙◌}
 use mathlib.Core.Bool.{true}
 use mathlib.Core.List.{List, [], ◌++◌, append_assoc}
-use Rattle.scan.specs.declared.table.Written.{Written}
 use Rattle.entities.specs.Escape.{escaped}
 use Rattle.names.specs.declared.tables.Listed.TheVariants.{RegionAttr}
 use Rattle.track.specs.declared.values.Region.{Region}
@@ -35,7 +35,7 @@ module _ (T : Tables) (i : ℕ) where
       ∙ append_assoc (opening x) (kept x) (ascii "/>")
 
   pub region_puts :
-      (x : Region) → x ≡ region_at T.regions i → (s r : Written) (o o' : List ℕ) → Puts (opening x ++ (kept x ++ ascii "/>")) s o o' r
+      (x : Region) → x ≡ region_at T.regions i → (s r : Option ℕ) (o o' : List ℕ) → Puts (opening x ++ (kept x ++ ascii "/>")) s o o' r
       → Puts (region_text (region_in T i)) s o o' r
   region_puts x e s r o o' p = rw region_is (rw e at p)
 

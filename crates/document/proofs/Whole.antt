@@ -1,10 +1,10 @@
 -- The whole text. Assumes nothing.
 --     whole_is      what the program writes one after the other is the track's text
 --     whole-puts    the same of places
+use Rattle.std.specs.Prelude.{Option}
 use Prim.Native.Nat.{ℕ, zero, suc, ◌+◌}
 use mathlib.Core.Path.{◌≡◌, refl, sym, ap, ap₂, ◌∙◌}
 use mathlib.Core.List.{List, ◌++◌, append_assoc}
-use Rattle.scan.specs.declared.table.Written.{Written}
 use Rattle.track.specs.Track.{Bytes}
 use Rattle.track.specs.Tables.{Tables, rows_from, style_count, region_count, cue_count}
 use Rattle.track.specs.Meaning.{style_in, region_in, cue_in, track_at}
@@ -67,7 +67,7 @@ module _ (T : Tables) where
       ∙ ap (λ (w : Bytes). declaration ++ (root ++ (head ++ rest w))) (ap (lines cue_text) (cues-in T) ∙ cues_are (cue_count T.head))))
 
   pub whole-puts :
-      (s r : Written) (o o' : List ℕ)
+      (s r : Option ℕ) (o o' : List ℕ)
       → Puts (declaration ++ (root ++ (head ++ rest (lines cue_text (rows_from (cue_in C) (cue_count T.head) 0))))) s o o' r
       → Puts (written_of (track_at T)) s o o' r
   whole-puts s r o o' p = rw whole_is p

@@ -1,5 +1,5 @@
 -- Steps of the program that writes named styles: nothing here need be believed. z are the strings.
-use Rattle.std.specs.Prelude.{ℕ, ◌+◌, ◌*◌, ◌≤◌, ◌<◌, ◌≡◌, true, cond, List, [], ◌++◌, length, Float}
+use Rattle.std.specs.Prelude.{Option, Some, None, ℕ, ◌+◌, ◌*◌, ◌≤◌, ◌<◌, ◌≡◌, true, cond, List, [], ◌++◌, length, Float}
 use Rattle.scan.specs.Part.{string_at}
 use Rattle.entities.specs.Escape.{escaped}
 use Rattle.colors.specs.Written.{rgba_text}
@@ -10,7 +10,6 @@ use Rattle.track.specs.declared.values.Look.{Look}
 use Rattle.track.specs.Track.{Bytes}
 use Rattle.track.specs.Tables.{Tables, cell, style_at}
 use Rattle.track.specs.Meaning.{bytes_at, is_color}
-use Rattle.scan.specs.declared.table.Found.{Found}
 use Rattle.records.specs.Find.{Named}
 use Rattle.scan.specs.Text.{ascii}
 use Rattle.written.specs.Attributes.{size_text}
@@ -60,15 +59,15 @@ flags_text x =
     ++ align_text x.align))
 
 -- ---- what equal names share: of the row that is found the chain, cells 2 and 3, and the extras, cells 25 and 26
-unfoldable pub chain_text : List ℕ → List ℕ → Found → Bytes
+unfoldable pub chain_text : List ℕ → List ℕ → Option ℕ → Bytes
 unfolding escaped cell string_at
-chain_text t z Found.Nothing = []
-chain_text t z (Found.Row j) = quoted (ascii " style=\"") (escaped true (string_at z (cell 27 t j 2) (cell 27 t j 3)))
+chain_text t z None = []
+chain_text t z (Some j) = quoted (ascii " style=\"") (escaped true (string_at z (cell 27 t j 2) (cell 27 t j 3)))
 
-unfoldable pub kept_text : List ℕ → List ℕ → List ℕ → Found → Bytes
+unfoldable pub kept_text : List ℕ → List ℕ → List ℕ → Option ℕ → Bytes
 unfolding cell over extra_text
-kept_text t e z Found.Nothing = []
-kept_text t e z (Found.Row j) = over (extra_text StyleExtra e z) (cell 27 t j 26) (cell 27 t j 25)
+kept_text t e z None = []
+kept_text t e z (Some j) = over (extra_text StyleExtra e z) (cell 27 t j 26) (cell 27 t j 25)
 
 abbrev pub ChainsWithin : List ℕ → List ℕ → ℕ → Type 0
 ChainsWithin t z n = (j : ℕ) → j < n → cell 27 t j 2 + cell 27 t j 3 ≤ length z

@@ -1,16 +1,14 @@
 // The public call. All of `out` is cleared first, and again on a refusal.
-ghost use Rattle.std.specs.Prelude.{◌≡◌, length, replicate};
+ghost use Rattle.std.specs.Prelude.{Some, ◌≤◌, ◌≡◌, length, replicate};
 ghost use Rattle.track.specs.Tables.{tables};
 ghost use Rattle.track.specs.Meaning.{track_at};
 ghost use Rattle.written.specs.Written.{written_of};
-ghost use Rattle.writer.specs.Puts.{Room, Puts};
+ghost use Rattle.writer.specs.Puts.{Puts};
 ghost use Rattle.writer.specs.Calls.{Filled};
 ghost use Rattle.writer.specs.Promise.{whole_text, Promise};
 ghost use Rattle.document.specs.Roots.{WholeReady};
 
-use scan::Written;
-use track::Check;
-use writer::Answer;
+use tree::Refusal;
 
 // The whole text, from a place on.
 fn write_document(
@@ -26,33 +24,40 @@ fn write_document(
     strings: &[u8],
     texts: &[u8],
     out: &mut [u8],
-    at: Written,
-) -> Written
+    at: usize,
+) -> Option<usize>
     requires { WholeReady (tables head.now params.now styles.now regions.now cues.now times.now segments.now sizes.now extras.now
         strings.now texts.now)
-        × Room at out.old }
+        × (at ≤ length out.old) }
     ensures { Puts (written_of (track_at (tables head.now params.now styles.now regions.now cues.now
         times.now segments.now sizes.now extras.now strings.now texts.now)))
-        at out.old out.new result }
+        (Some at) out.old out.new result }
 {
-    let a = writer::put(out, at, b"<?xml version=\"1.0\" encoding=\"UTF-8\"?>\n");
-    let b = crate::root::write_root(head, params, styles, regions, cues, extras, strings, out, a);
+    let at = writer::put(
+        out,
+        Some(at),
+        b"<?xml version=\"1.0\" encoding=\"UTF-8\"?>\n",
+    )?;
+    let at = crate::root::write_root(
+        head, params, styles, regions, cues, extras, strings, out, at,
+    )?;
     let n = scan::get(head, 1);
     let m = scan::get(head, 2);
-    let c = crate::root::write_head(styles, sizes, regions, extras, strings, n, m, out, b);
-    let d = writer::put(out, c, b"  <body>\n    <div>\n");
-    let e = writer::write_cues(
+    let at = crate::root::write_head(styles, sizes, regions, extras, strings, n, m, out, at)?;
+    let at = writer::put(out, Some(at), b"  <body>\n    <div>\n")?;
+    let k = scan::get(head, 3);
+    let at = writer::write_cues(
         cues,
         times,
         segments,
         extras,
         strings,
         texts,
-        scan::get(head, 3),
+        k,
         out,
-        d,
-    );
-    writer::put(out, e, b"    </div>\n  </body>\n</tt>\n")
+        Some(at),
+    )?;
+    writer::put(out, Some(at), b"    </div>\n  </body>\n</tt>\n")
 }
 
 // The whole text, written into bytes that are clear.
@@ -69,16 +74,15 @@ fn fill(
     strings: &[u8],
     texts: &[u8],
     out: &mut [u8],
-) -> Answer
+) -> Result<usize, Refusal>
     requires { WholeReady (tables head.now params.now styles.now regions.now cues.now times.now segments.now sizes.now extras.now
         strings.now texts.now)
         × (out.old ≡ replicate (length out.old) 0) }
-    ensures { Filled (written_of (track_at (tables head.now params.now styles.now regions.now cues.entry.now times.now segments.now sizes.now extras.now
-        strings.now texts.entry.now)))
+    ensures { Filled (written_of (track_at (tables head.now params.now styles.now regions.now cues.entry.now times.now segments.now sizes.now
+        extras.now strings.now texts.entry.now)))
         (length out.old) result out.new }
 {
     let end = writer::limit(out.len());
-    let start = Written::At(0);
     match write_document(
         head,
         params,
@@ -92,10 +96,10 @@ fn fill(
         strings,
         texts,
         &mut out[..end],
-        start,
+        0,
     ) {
-        Written::At(n) => Answer::Bytes(n),
-        Written::Full => {
+        Some(n) => Ok(n),
+        None => {
             scan::clear_bytes(out);
             writer::refused(18)
         }
@@ -116,19 +120,16 @@ pub fn write(
     strings: &[u8],
     texts: &[u8],
     out: &mut [u8],
-) -> Answer
+) -> Result<usize, Refusal>
     ensures { Promise whole_text (tables head.now params.now styles.now regions.now cues.now
         times.now segments.now sizes.now extras.now strings.now texts.now)
         out.old result out.new }
 {
     scan::clear_bytes(out);
-    match track::check_track(
+    track::check_track(
         head, params, styles, regions, cues, times, segments, sizes, extras, strings, texts,
-    ) {
-        Check::Refused(r) => Answer::Refused(r),
-        Check::Track => fill(
-            head, params, styles, regions, cues, times, segments, sizes, extras, strings, texts,
-            out,
-        ),
-    }
+    )?;
+    fill(
+        head, params, styles, regions, cues, times, segments, sizes, extras, strings, texts, out,
+    )
 }

@@ -27,12 +27,9 @@ fn is_itts(list: Listed, extras: &[u32], strings: &[u8], i: usize) -> bool
     ensures { result ≡ itts_one list extras.now strings.now i }
 {
     let x = records::extra_at(extras, i);
-    if itts_from(list) <= x.number {
-        return true;
-    }
     let from = x.value.place;
     let len = x.value.len;
-    scan::find_seq(&strings[from..from + len], 0, b"itts:") < len
+    itts_from(list) <= x.number || scan::find_seq(&strings[from..from + len], 0, b"itts:") < len
 }
 
 // The extras in n rows from row `first` on.
@@ -40,13 +37,10 @@ fn holds_itts(list: Listed, extras: &[u32], strings: &[u8], first: usize, n: usi
     requires { ExtrasReady list extras.now strings.now first n }
     ensures { result ≡ itts_rows list extras.now strings.now first n }
 {
-    let end = first + n;
-    let mut i = first;
-    while i < end {
+    for i in first..first + n {
         if is_itts(list, extras, strings, i) {
             return true;
         }
-        i += 1;
     }
     false
 }
@@ -64,14 +58,12 @@ fn any_itts(
     requires { OwnersReady list cells.now extras.now strings.now width at n }
     ensures { result ≡ some_row (itts_row list cells.now extras.now strings.now width at) n 0 }
 {
-    let mut i = 0;
-    while i < n {
+    for i in 0..n {
         let first = scan::get(cells, i * width + at);
         let count = scan::get(cells, i * width + (at + 1));
         if holds_itts(list, extras, strings, first, count) {
             return true;
         }
-        i += 1;
     }
     false
 }
@@ -91,35 +83,24 @@ pub fn uses_itts(
     ensures { result ≡ itts_text head.now styles.now regions.now cues.now extras.now
         strings.now }
 {
-    if any_itts(
+    let n = scan::get(head, 1);
+    let m = scan::get(head, 2);
+    let k = scan::get(head, 3);
+    any_itts(
         Listed::StyleExtra,
         styles,
         extras,
         strings,
         STYLE_CELLS,
         25,
-        scan::get(head, 1),
-    ) {
-        return true;
-    }
-    if any_itts(
+        n,
+    ) || any_itts(
         Listed::RegionAttr,
         regions,
         extras,
         strings,
         REGION_CELLS,
         2,
-        scan::get(head, 2),
-    ) {
-        return true;
-    }
-    any_itts(
-        Listed::InlineExtra,
-        cues,
-        extras,
-        strings,
-        CUE_CELLS,
-        9,
-        scan::get(head, 3),
-    )
+        m,
+    ) || any_itts(Listed::InlineExtra, cues, extras, strings, CUE_CELLS, 9, k)
 }

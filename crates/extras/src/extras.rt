@@ -11,10 +11,10 @@ ghost use Rattle.styling.specs.Posts.{HasRows, OfRows, NameFits, name_at, FoundF
 ghost use Rattle.extras.specs.Kept.{wanted_by, extras_of, kept_in, kept_cells, kept_count, RoomFor, Collected, rows_from, Lists};
 ghost use Rattle.extras.specs.Kept.{RowFits, RowsFit, FirstRows, with_note, NumberFits, NumberBelow, past_number, NoneFrom, entry_extra};
 
-use names::{Listed, Number};
+use names::Listed;
 use track::{Extra, Rows, Span};
 use tree::ATTR_CELLS;
-use xml::Value;
+use xml::Attribute;
 
 // The number of `tts:textAlign` among the extras of a style.
 const TEXT_ALIGN: usize = 33;
@@ -24,10 +24,7 @@ fn style_keeps(i: usize, value: &[u8]) -> bool
     requires { i < length (names Listed.StyleExtra) }
     ensures { result ≡ extra_of_style (name_of Listed.StyleExtra i) value.now }
 {
-    if i != TEXT_ALIGN {
-        return true;
-    }
-    styling::is_trimmed(value, b"justify")
+    i != TEXT_ALIGN || styling::is_trimmed(value, b"justify")
 }
 
 // Is the list's i-th name kept with this value?
@@ -37,15 +34,15 @@ fn is_kept(list: Listed, i: usize, value: &[u8]) -> bool
 {
     match list {
         Listed::StyleExtra => style_keeps(i, value),
-        Listed::InlineExtra => true,
-        Listed::RegionAttr => true,
-        Listed::InlineModelled => true,
-        Listed::Imsc1Extension => true,
+        Listed::InlineExtra
+        | Listed::RegionAttr
+        | Listed::InlineModelled
+        | Listed::Imsc1Extension => true,
     }
 }
 
 // The number of attribute k in the list.
-fn number_at(attrs: &[u32], strings: &[u8], k: usize, list: Listed) -> Number
+fn number_at(attrs: &[u32], strings: &[u8], k: usize, list: Listed) -> Option<usize>
     requires { NameFits attrs.now strings.now k }
     ensures { result ≡ name_number list (name_at attrs.now strings.now k) }
 {
@@ -55,33 +52,25 @@ fn number_at(attrs: &[u32], strings: &[u8], k: usize, list: Listed) -> Number
 }
 
 // The entry of a number, unless it has one.
-fn note(rows: &mut [usize], number: Number, entry: usize)
+fn note(rows: &mut [usize], number: Option<usize>, entry: usize)
     requires { NumberFits rows.old number }
     ensures { rows.new ≡ with_note rows.old number entry }
 {
-    match number {
-        Number::At(i) => {
-            if rows[i] == 0 {
-                rows[i] = entry;
-            }
+    if let Some(i) = number {
+        if rows[i] == 0 {
+            rows[i] = entry;
         }
-        Number::Nothing => {}
     }
 }
 
 // The end of numbers, where it was `end` before this one.
-fn past(number: Number, end: usize) -> usize
+fn past(number: Option<usize>, end: usize) -> usize
     requires { NumberBelow 53 number }
     ensures { result ≡ past_number number end }
 {
     match number {
-        Number::At(i) => {
-            if i < end {
-                return end;
-            }
-            i + 1
-        }
-        Number::Nothing => end,
+        Some(i) => end.max(i + 1),
+        None => end,
     }
 }
 
@@ -103,42 +92,41 @@ fn first_rows(
 {
     let end = first + many;
     let mut last = 0;
-    let mut k = first;
-    while k < end {
+    for k in first..end {
         let number = number_at(attrs, strings, k, list);
         last = past(number, last);
         note(rows, number, k + 1);
-        k += 1;
     }
     last
 }
 
 // The attribute that an entry says, if the list's i-th name is kept with its value.
-fn kept_attr(attrs: &[u32], strings: &[u8], list: Listed, i: usize, entry: usize) -> Value
+fn kept_attr(
+    attrs: &[u32],
+    strings: &[u8],
+    list: Listed,
+    i: usize,
+    entry: usize,
+) -> Option<Attribute>
     requires { (i < length (names list)) × RowFits attrs.now strings.now entry }
     ensures found_fits { FoundFits strings.now result }
     ensures value { entry_extra attrs.now strings.now list i entry ≡ kept_in strings.now i result }
 {
     if entry == 0 {
-        return Value::Absent;
+        return None;
     }
     let h = xml::attr_at(attrs, entry - 1);
-    let start = h.place;
-    let end = start + h.len;
-    if is_kept(list, i, &strings[start..end]) {
-        return Value::At(h);
-    }
-    Value::Absent
+    is_kept(list, i, &strings[h.place..h.place + h.len]).then_some(h)
 }
 
 // It in row k, if there is one; how many rows that makes.
-fn keep(found: Value, i: usize, extras: &mut [u32], k: usize) -> usize
+fn keep(found: Option<Attribute>, i: usize, extras: &mut [u32], k: usize) -> usize
     requires { RoomFor extras.old k i found }
     ensures value { result ≡ kept_count found }
     ensures extras_after { extras.new ≡ sets extras.old (k * 3) (kept_cells i found) }
 {
     match found {
-        Value::At(h) => {
+        Some(h) => {
             let value = Span {
                 place: h.place,
                 len: h.len,
@@ -146,7 +134,7 @@ fn keep(found: Value, i: usize, extras: &mut [u32], k: usize) -> usize
             records::put_extra(extras, k, Extra { number: i, value });
             1
         }
-        Value::Absent => 0,
+        None => 0,
     }
 }
 
@@ -167,11 +155,9 @@ fn keep_all(
         → Collected (extras_of list l) at extras.old extras.new result }
 {
     let mut n = 0;
-    let mut i = 0;
-    while i < end {
+    for i in 0..end {
         let found = kept_attr(attrs, strings, list, i, rows[i]);
         n += keep(found, i, extras, at + n);
-        i += 1;
     }
     n
 }
@@ -179,13 +165,8 @@ fn keep_all(
 fn rows_from(at: usize, n: usize) -> Rows
     ensures { result ≡ rows_from at n }
 {
-    if n == 0 {
-        return Rows { first: 0, count: 0 };
-    }
-    Rows {
-        first: at,
-        count: n,
-    }
+    let first = if n == 0 { 0 } else { at };
+    Rows { first, count: n }
 }
 
 // The extras of a list, from row `at` on: there are no more of them than attributes.

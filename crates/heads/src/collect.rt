@@ -2,21 +2,13 @@
 ghost use Rattle.heads.specs.Steps.{in_all, in_styling, in_layout, in_head_of, listed_styles, styles_in, AsksStyles, StylesPost};
 ghost use Rattle.heads.specs.Steps.{listed_regions, regions_in, AsksRegions, RegionsPost, alone, inside_head, four, AsksHead, HeadPost};
 
-use crate::styles::Made;
 use tree::{NODE_CELLS, Refusal};
-use xml::Found;
 
 // Rows of a table, and rows of extras up to and with theirs.
 #[derive(Clone, Copy)]
 pub struct Count {
     pub rows: usize,
     pub extras: usize,
-}
-
-#[derive(Clone, Copy)]
-pub enum Counting {
-    Is(Count),
-    Refused(Refusal),
 }
 
 // The styles among the siblings in the rows from `from` up to `end`.
@@ -29,7 +21,7 @@ fn collect_styles(
     styles: &mut [u32],
     sizes: &mut [f32],
     extras: &mut [u32],
-) -> Counting
+) -> Result<Count, Refusal>
     requires { AsksStyles in_all nodes.now attrs.now strings.now from end styles.old sizes.old extras.old }
     ensures { StylesPost listed_styles in_all nodes.now attrs.now strings.now from end
         styles.old styles.new sizes.old sizes.new extras.old extras.new result }
@@ -40,28 +32,24 @@ fn collect_styles(
     while k < end {
         if xml::is_element(nodes, strings, k, b"style") {
             let e = xml::element_at(nodes, k);
-            match crate::styles::build_style(
+            let made = crate::styles::build_style(
                 attrs, strings, e.first, e.many, e.place, styles, sizes, n, extras, at,
-            ) {
-                Made::Row(m) => {
-                    n += 1;
-                    at += m;
-                }
-                Made::Skipped => {}
-                Made::Refused(r) => {
-                    return Counting::Refused(r);
-                }
+            )?;
+            if let Some(m) = made {
+                n += 1;
+                at += m;
             }
         }
         k = scan::get(nodes, k * NODE_CELLS + 1);
     }
-    Counting::Is(Count {
+    Ok(Count {
         rows: n,
         extras: at,
     })
 }
 
-// The regions among the siblings in the rows from `from` up to `end`, where `rows` extras stand.
+// The regions among the siblings in the rows from `from` up to `end`, where `rows` extras stand. (One function for both would take the step,
+// its tables and their clauses as parameters, which reads no plainer.)
 fn collect_regions(
     nodes: &[u32],
     attrs: &[u32],
@@ -71,7 +59,7 @@ fn collect_regions(
     regions: &mut [u32],
     extras: &mut [u32],
     rows: usize,
-) -> Counting
+) -> Result<Count, Refusal>
     requires { AsksRegions in_all nodes.now attrs.now strings.now from end rows regions.old extras.old }
     ensures { RegionsPost listed_regions in_all nodes.now attrs.now strings.now from end rows
         regions.old regions.new extras.old extras.new result }
@@ -82,22 +70,17 @@ fn collect_regions(
     while k < end {
         if xml::is_element(nodes, strings, k, b"region") {
             let e = xml::element_at(nodes, k);
-            match crate::regions::build_region(
+            let made = crate::regions::build_region(
                 attrs, strings, e.first, e.many, e.place, regions, n, extras, at,
-            ) {
-                Made::Row(m) => {
-                    n += 1;
-                    at += m;
-                }
-                Made::Skipped => {}
-                Made::Refused(r) => {
-                    return Counting::Refused(r);
-                }
+            )?;
+            if let Some(m) = made {
+                n += 1;
+                at += m;
             }
         }
         k = scan::get(nodes, k * NODE_CELLS + 1);
     }
-    Counting::Is(Count {
+    Ok(Count {
         rows: n,
         extras: at,
     })
@@ -113,18 +96,16 @@ fn find_styles(
     styles: &mut [u32],
     sizes: &mut [f32],
     extras: &mut [u32],
-) -> Counting
+) -> Result<Count, Refusal>
     requires { AsksStyles in_styling nodes.now attrs.now strings.now from end styles.old sizes.old extras.old }
     ensures { StylesPost styles_in in_styling nodes.now attrs.now strings.now from end
         styles.old styles.new sizes.old sizes.new extras.old extras.new result }
 {
-    match xml::find_element(nodes, strings, from, end, b"styling") {
-        Found::Nothing => Counting::Is(Count { rows: 0, extras: 0 }),
-        Found::Row(k) => {
-            let e = xml::element_at(nodes, k);
-            collect_styles(nodes, attrs, strings, k + 1, e.end, styles, sizes, extras)
-        }
-    }
+    let Some(k) = xml::find_element(nodes, strings, from, end, b"styling") else {
+        return Ok(Count { rows: 0, extras: 0 });
+    };
+    let e = xml::element_at(nodes, k);
+    collect_styles(nodes, attrs, strings, k + 1, e.end, styles, sizes, extras)
 }
 
 // The regions in the first layout among these siblings.
@@ -137,21 +118,19 @@ fn find_regions(
     regions: &mut [u32],
     extras: &mut [u32],
     rows: usize,
-) -> Counting
+) -> Result<Count, Refusal>
     requires { AsksRegions in_layout nodes.now attrs.now strings.now from end rows regions.old extras.old }
     ensures { RegionsPost regions_in in_layout nodes.now attrs.now strings.now from end rows
         regions.old regions.new extras.old extras.new result }
 {
-    match xml::find_element(nodes, strings, from, end, b"layout") {
-        Found::Nothing => Counting::Is(Count {
+    let Some(k) = xml::find_element(nodes, strings, from, end, b"layout") else {
+        return Ok(Count {
             rows: 0,
             extras: rows,
-        }),
-        Found::Row(k) => {
-            let e = xml::element_at(nodes, k);
-            collect_regions(nodes, attrs, strings, k + 1, e.end, regions, extras, rows)
-        }
-    }
+        });
+    };
+    let e = xml::element_at(nodes, k);
+    collect_regions(nodes, attrs, strings, k + 1, e.end, regions, extras, rows)
 }
 
 // How many styles and regions there are, and rows of their extras.
@@ -160,12 +139,6 @@ pub struct Heads {
     pub styles: usize,
     pub regions: usize,
     pub extras: usize,
-}
-
-#[derive(Clone, Copy)]
-pub enum Heading {
-    Is(Heads),
-    Refused(Refusal),
 }
 
 // Those of the head's content in the rows from `from` up to `end`.
@@ -179,25 +152,19 @@ fn collect_inside(
     regions: &mut [u32],
     sizes: &mut [f32],
     extras: &mut [u32],
-) -> Heading
+) -> Result<Heads, Refusal>
     requires { AsksHead nodes.now attrs.now strings.now from end (four styles.old regions.old sizes.old extras.old) }
     ensures { HeadPost alone in_all nodes.now attrs.now strings.now from end
         (four styles.old regions.old sizes.old extras.old)
         (four styles.new regions.new sizes.new extras.new) result }
 {
-    match find_styles(nodes, attrs, strings, from, end, styles, sizes, extras) {
-        Counting::Refused(r) => Heading::Refused(r),
-        Counting::Is(s) => match find_regions(
-            nodes, attrs, strings, from, end, regions, extras, s.extras,
-        ) {
-            Counting::Refused(r) => Heading::Refused(r),
-            Counting::Is(t) => Heading::Is(Heads {
-                styles: s.rows,
-                regions: t.rows,
-                extras: t.extras,
-            }),
-        },
-    }
+    let s = find_styles(nodes, attrs, strings, from, end, styles, sizes, extras)?;
+    let t = find_regions(nodes, attrs, strings, from, end, regions, extras, s.extras)?;
+    Ok(Heads {
+        styles: s.rows,
+        regions: t.rows,
+        extras: t.extras,
+    })
 }
 
 // The styles and regions of the first head among the siblings in the rows from `from` up to `end`.
@@ -211,31 +178,29 @@ pub fn collect_head(
     regions: &mut [u32],
     sizes: &mut [f32],
     extras: &mut [u32],
-) -> Heading
+) -> Result<Heads, Refusal>
     requires { AsksHead nodes.now attrs.now strings.now from end (four styles.old regions.old sizes.old extras.old) }
     ensures { HeadPost inside_head in_head_of nodes.now attrs.now strings.now from end
         (four styles.old regions.old sizes.old extras.old)
         (four styles.new regions.new sizes.new extras.new) result }
 {
-    match xml::find_element(nodes, strings, from, end, b"head") {
-        Found::Nothing => Heading::Is(Heads {
+    let Some(k) = xml::find_element(nodes, strings, from, end, b"head") else {
+        return Ok(Heads {
             styles: 0,
             regions: 0,
             extras: 0,
-        }),
-        Found::Row(k) => {
-            let e = xml::element_at(nodes, k);
-            collect_inside(
-                nodes,
-                attrs,
-                strings,
-                k + 1,
-                e.end,
-                styles,
-                regions,
-                sizes,
-                extras,
-            )
-        }
-    }
+        });
+    };
+    let e = xml::element_at(nodes, k);
+    collect_inside(
+        nodes,
+        attrs,
+        strings,
+        k + 1,
+        e.end,
+        styles,
+        regions,
+        sizes,
+        extras,
+    )
 }

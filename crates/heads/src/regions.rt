@@ -3,10 +3,8 @@ ghost use Rattle.std.specs.Prelude.{◌≡◌, ◌+◌, ◌*◌, ◌≤◌, ◌<
 ghost use Rattle.styling.specs.Posts.{HasRows, OfRows, span_in};
 ghost use Rattle.heads.specs.Rows.{region_with, Placed, RegionMade};
 
-use crate::styles::Made;
 use track::{REGIONS, Region, Span};
 use tree::Refusal;
-use xml::Value;
 
 // The region of this id in the n-th row, its extras from row `at` on; how many they are.
 fn add_named(
@@ -44,23 +42,21 @@ pub fn build_region(
     n: usize,
     extras: &mut [u32],
     at: usize,
-) -> Made
+) -> Result<Option<usize>, Refusal>
     requires { HasRows attrs.now strings.now first many × (length strings.now < 2 ^ 32) × (at + many < 2 ^ 32)
         × ((at + many) * 3 ≤ length extras.old) × (1024 ≤ length regions.old) }
     ensures { OfRows attrs.now strings.now first many (λ l.
         RegionMade l place n at regions.old regions.new extras.old extras.new result) }
 {
-    match params::id_of(attrs, strings, first, many) {
-        Value::At(h) => {
-            if REGIONS <= n {
-                return Made::Refused(Refusal { number: 13, place });
-            }
-            let id = Span {
-                place: h.place,
-                len: h.len,
-            };
-            Made::Row(add_named(attrs, strings, first, many, id, regions, n, extras, at))
-        }
-        Value::Absent => Made::Skipped,
+    let Some(h) = params::id_of(attrs, strings, first, many) else {
+        return Ok(None);
+    };
+    if REGIONS <= n {
+        return Err(Refusal { number: 13, place });
     }
+    let id = Span {
+        place: h.place,
+        len: h.len,
+    };
+    Ok(Some(add_named(attrs, strings, first, many, id, regions, n, extras, at)))
 }

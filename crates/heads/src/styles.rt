@@ -3,27 +3,18 @@ ghost use Rattle.std.specs.Prelude.{◌≡◌, ◌+◌, ◌*◌, ◌≤◌, ◌<
 ghost use Rattle.styling.specs.Posts.{HasRows, OfRows, span_in, look_in_of};
 ghost use Rattle.heads.specs.Rows.{emptied, style_of_look, Styled, StyleMade, NamedMade};
 
-use styling::LookSaid;
 use track::{Look, STYLES, Span, Style};
 use tree::Refusal;
-use xml::Value;
-
-// A row more, with so many extras; no id, and so nothing; or a number.
-#[derive(Clone, Copy)]
-pub enum Made {
-    Row(usize),
-    Skipped,
-    Refused(Refusal),
-}
 
 // What is absent has place 0.
 fn or_none(c: Span) -> Span
     ensures { result ≡ emptied c }
 {
     if c.len == 0 {
-        return Span { place: 0, len: 0 };
+        Span { place: 0, len: 0 }
+    } else {
+        c
     }
-    c
 }
 
 // The style of this name and look in the n-th row, its extras from row `at` on; how many they are.
@@ -74,7 +65,7 @@ fn named(
     n: usize,
     extras: &mut [u32],
     at: usize,
-) -> Made
+) -> Result<Option<usize>, Refusal>
     requires { HasRows attrs.now strings.now first many × (length strings.now < 2 ^ 32) × (at + many < 2 ^ 32)
         × ((at + many) * 3 ≤ length extras.old) × (6912 ≤ length styles.old) × (256 ≤ length sizes.old)
         × (name.place + name.len ≤ length strings.now) }
@@ -82,17 +73,13 @@ fn named(
         NamedMade (span_in strings.now name) l place n at
         styles.old styles.new sizes.old sizes.new extras.old extras.new result) }
 {
-    match styling::apply_tts_attrs(attrs, strings, first, many) {
-        LookSaid::Is(look) => {
-            if STYLES <= n {
-                return Made::Refused(Refusal { number: 13, place });
-            }
-            Made::Row(add_named(
-                attrs, strings, first, many, name, look, styles, sizes, n, extras, at,
-            ))
-        }
-        LookSaid::Refused(r) => Made::Refused(r),
+    let look = styling::apply_tts_attrs(attrs, strings, first, many)?;
+    if STYLES <= n {
+        return Err(Refusal { number: 13, place });
     }
+    Ok(Some(add_named(
+        attrs, strings, first, many, name, look, styles, sizes, n, extras, at,
+    )))
 }
 
 // The style of the element at a place, as the n-th, its extras from row `at` on. Without an id it is skipped and not evaluated.
@@ -107,23 +94,21 @@ pub fn build_style(
     n: usize,
     extras: &mut [u32],
     at: usize,
-) -> Made
+) -> Result<Option<usize>, Refusal>
     requires { HasRows attrs.now strings.now first many × (length strings.now < 2 ^ 32) × (at + many < 2 ^ 32)
         × ((at + many) * 3 ≤ length extras.old) × (6912 ≤ length styles.old) × (256 ≤ length sizes.old) }
     ensures { OfRows attrs.now strings.now first many (λ l.
         StyleMade l place n at
         styles.old styles.new sizes.old sizes.new extras.old extras.new result) }
 {
-    match params::id_of(attrs, strings, first, many) {
-        Value::At(h) => {
-            let name = Span {
-                place: h.place,
-                len: h.len,
-            };
-            named(
-                attrs, strings, first, many, place, name, styles, sizes, n, extras, at,
-            )
-        }
-        Value::Absent => Made::Skipped,
-    }
+    let Some(h) = params::id_of(attrs, strings, first, many) else {
+        return Ok(None);
+    };
+    let name = Span {
+        place: h.place,
+        len: h.len,
+    };
+    named(
+        attrs, strings, first, many, place, name, styles, sizes, n, extras, at,
+    )
 }

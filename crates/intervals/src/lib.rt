@@ -4,69 +4,47 @@ ghost use Rattle.std.specs.Prelude.{◌≡◌};
 ghost use Rattle.meaning.specs.Kinds.{with_places};
 ghost use Rattle.meaning.specs.Timing.{time_of, sum, end_of};
 ghost use Rattle.styling.specs.Posts.{HasRows, OfRows};
-ghost use Rattle.intervals.specs.Steps.{moment_said, time_given, Zeroed, AllZeroed, giving_said, timed_said, begin_from, start_from, end_from};
-ghost use Rattle.intervals.specs.Steps.{interval_from, ended_from, begun_from, interval_of, single_from, single_of};
+ghost use Rattle.intervals.specs.Steps.{moment_said, time_given, giving_said, timed_said, begin_from, start_from, end_from};
+ghost use Rattle.intervals.specs.Steps.{interval_of, single_of};
 
-use styling::TimeSaid;
-use times::{Sum, TimingCtx};
+use times::TimingCtx;
 use tree::Refusal;
 
-#[derive(Clone, Copy)]
-pub enum Moment {
-    Is(i64),
-    Refused(Refusal),
-}
-
 // The sum, or 16 at the element.
-fn add(a: i64, b: i64, place: usize) -> Moment
+fn add(a: i64, b: i64, place: usize) -> Result<i64, Refusal>
     ensures { moment_said result ≡ sum place a b }
 {
-    match times::add(a, b) {
-        Sum::Is(t) => Moment::Is(t),
-        Sum::Overflow => Moment::Refused(Refusal { number: 16, place }),
-    }
-}
-
-// A time that may be absent.
-#[derive(Clone, Copy)]
-pub struct Given {
-    pub has: bool,
-    pub time: i64,
-}
-
-#[derive(Clone, Copy)]
-pub enum Giving {
-    Is(Given),
-    Refused(Refusal),
+    times::add(a, b).ok_or(Refusal { number: 16, place })
 }
 
 // What the attribute of this name says.
-fn time_given(attrs: &[u32], strings: &[u8], e: xml::Element, name: &[u8], ctx: TimingCtx) -> Giving
+fn time_given(
+    attrs: &[u32],
+    strings: &[u8],
+    e: xml::Element,
+    name: &[u8],
+    ctx: TimingCtx,
+) -> Result<Option<i64>, Refusal>
     requires { HasRows attrs.now strings.now e.first e.many }
-    ensures all_zeroed { AllZeroed result }
-    ensures of_rows { OfRows attrs.now strings.now e.first e.many (λ l.
+    ensures { OfRows attrs.now strings.now e.first e.many (λ l.
         giving_said result ≡ time_of with_places ctx e.place name.now l) }
 {
-    match styling::time_attr(attrs, strings, e.first, e.many, name, ctx, e.place) {
-        TimeSaid::Is(time) => Giving::Is(Given { has: true, time }),
-        TimeSaid::Nothing => Giving::Is(Given {
-            has: false,
-            time: 0,
-        }),
-        TimeSaid::Refused(r) => Giving::Refused(r),
-    }
+    styling::time_attr(attrs, strings, e.first, e.many, name, ctx, e.place)
 }
 
 // When an element begins by itself: its begin, or 0.
-pub fn begin_of(attrs: &[u32], strings: &[u8], e: xml::Element, ctx: TimingCtx) -> Moment
+pub fn begin_of(
+    attrs: &[u32],
+    strings: &[u8],
+    e: xml::Element,
+    ctx: TimingCtx,
+) -> Result<i64, Refusal>
     requires { HasRows attrs.now strings.now e.first e.many }
     ensures { OfRows attrs.now strings.now e.first e.many (λ l.
         moment_said result ≡ begin_from ctx e.place l) }
 {
-    match time_given(attrs, strings, e, b"begin", ctx) {
-        Giving::Refused(r) => Moment::Refused(r),
-        Giving::Is(b) => Moment::Is(b.time),
-    }
+    let begin = time_given(attrs, strings, e, b"begin", ctx)?;
+    Ok(begin.unwrap_or(0))
 }
 
 // When a container begins: its begin, counted from a reference.
@@ -76,15 +54,13 @@ pub fn start_of(
     e: xml::Element,
     ctx: TimingCtx,
     reference: i64,
-) -> Moment
+) -> Result<i64, Refusal>
     requires { HasRows attrs.now strings.now e.first e.many }
     ensures { OfRows attrs.now strings.now e.first e.many (λ l.
         moment_said result ≡ start_from ctx e.place reference l) }
 {
-    match time_given(attrs, strings, e, b"begin", ctx) {
-        Giving::Refused(r) => Moment::Refused(r),
-        Giving::Is(b) => add(reference, b.time, e.place),
-    }
+    let begin = time_given(attrs, strings, e, b"begin", ctx)?;
+    add(reference, begin.unwrap_or(0), e.place)
 }
 
 // When a container ends: as its dur says, or with its children.
@@ -95,19 +71,14 @@ pub fn lasting_to(
     ctx: TimingCtx,
     start: i64,
     children: i64,
-) -> Moment
+) -> Result<i64, Refusal>
     requires { HasRows attrs.now strings.now container.first container.many }
     ensures { OfRows attrs.now strings.now container.first container.many (λ l.
         moment_said result ≡ end_from ctx container.place start children l) }
 {
-    match time_given(attrs, strings, container, b"dur", ctx) {
-        Giving::Refused(r) => Moment::Refused(r),
-        Giving::Is(d) => {
-            if d.has {
-                return add(start, d.time, container.place);
-            }
-            Moment::Is(children)
-        }
+    match time_given(attrs, strings, container, b"dur", ctx)? {
+        Some(dur) => add(start, dur, container.place),
+        None => Ok(children),
     }
 }
 
@@ -118,74 +89,22 @@ pub struct Interval {
     pub end: i64,
 }
 
-#[derive(Clone, Copy)]
-pub enum Timed {
-    Is(Interval),
-    Refused(Refusal),
-}
-
 // Its end counts from the reference, its dur from its own start; end wins.
-fn end_of(start: i64, reference: i64, end: Given, dur: Given, place: usize) -> Moment
+fn end_of(
+    start: i64,
+    reference: i64,
+    end: Option<i64>,
+    dur: Option<i64>,
+    place: usize,
+) -> Result<i64, Refusal>
     ensures { moment_said result ≡ end_of place reference start (time_given end) (time_given dur) }
 {
-    if end.has {
-        return add(reference, end.time, place);
+    if let Some(end) = end {
+        return add(reference, end, place);
     }
-    if dur.has {
-        return add(start, dur.time, place);
-    }
-    Moment::Is(start)
-}
-
-fn from_parts(reference: i64, begin: Given, end: Given, dur: Given, place: usize) -> Timed
-    requires { Zeroed begin }
-    ensures { timed_said result ≡ interval_from place reference (time_given begin) (time_given end) (time_given dur) }
-{
-    match add(reference, begin.time, place) {
-        Moment::Refused(r) => Timed::Refused(r),
-        Moment::Is(start) => match end_of(start, reference, end, dur, place) {
-            Moment::Refused(r) => Timed::Refused(r),
-            Moment::Is(end) => Timed::Is(Interval { start, end }),
-        },
-    }
-}
-
-// With its begin and end known.
-fn ended(
-    attrs: &[u32],
-    strings: &[u8],
-    e: xml::Element,
-    ctx: TimingCtx,
-    reference: i64,
-    begin: Given,
-    end: Given,
-) -> Timed
-    requires { HasRows attrs.now strings.now e.first e.many × Zeroed begin }
-    ensures { OfRows attrs.now strings.now e.first e.many (λ l.
-        timed_said result ≡ ended_from ctx e.place reference (time_given begin) (time_given end) l) }
-{
-    match time_given(attrs, strings, e, b"dur", ctx) {
-        Giving::Refused(r) => Timed::Refused(r),
-        Giving::Is(dur) => from_parts(reference, begin, end, dur, e.place),
-    }
-}
-
-// With its begin known.
-fn begun(
-    attrs: &[u32],
-    strings: &[u8],
-    e: xml::Element,
-    ctx: TimingCtx,
-    reference: i64,
-    begin: Given,
-) -> Timed
-    requires { HasRows attrs.now strings.now e.first e.many × Zeroed begin }
-    ensures { OfRows attrs.now strings.now e.first e.many (λ l.
-        timed_said result ≡ begun_from ctx e.place reference (time_given begin) l) }
-{
-    match time_given(attrs, strings, e, b"end", ctx) {
-        Giving::Refused(r) => Timed::Refused(r),
-        Giving::Is(end) => ended(attrs, strings, e, ctx, reference, begin, end),
+    match dur {
+        Some(dur) => add(start, dur, place),
+        None => Ok(start),
     }
 }
 
@@ -196,53 +115,34 @@ pub fn interval_of(
     e: xml::Element,
     ctx: TimingCtx,
     reference: i64,
-) -> Timed
+) -> Result<Interval, Refusal>
     requires { HasRows attrs.now strings.now e.first e.many }
     ensures { OfRows attrs.now strings.now e.first e.many (λ l.
         timed_said result ≡ interval_of ctx e.place reference l) }
 {
-    match time_given(attrs, strings, e, b"begin", ctx) {
-        Giving::Refused(r) => Timed::Refused(r),
-        Giving::Is(begin) => begun(attrs, strings, e, ctx, reference, begin),
-    }
+    let begin = time_given(attrs, strings, e, b"begin", ctx)?;
+    let end = time_given(attrs, strings, e, b"end", ctx)?;
+    let dur = time_given(attrs, strings, e, b"dur", ctx)?;
+    let start = add(reference, begin.unwrap_or(0), e.place)?;
+    let end = end_of(start, reference, end, dur, e.place)?;
+    Ok(Interval { start, end })
 }
 
-// With its begin and end known, or no end: of a single cue, whose end is absolute.
-fn single_ended(
+// When a single cue begins and ends: its dur is evaluated only if its end is no time.
+pub fn single_interval(
     attrs: &[u32],
     strings: &[u8],
     e: xml::Element,
     ctx: TimingCtx,
-    start: i64,
-    end: Given,
-) -> Timed
-    requires { HasRows attrs.now strings.now e.first e.many }
-    ensures { OfRows attrs.now strings.now e.first e.many (λ l.
-        timed_said result ≡ single_from ctx e.place start (time_given end) l) }
-{
-    if end.has {
-        return Timed::Is(Interval {
-            start,
-            end: end.time,
-        });
-    }
-    match lasting_to(attrs, strings, e, ctx, start, start) {
-        Moment::Refused(r) => Timed::Refused(r),
-        Moment::Is(end) => Timed::Is(Interval { start, end }),
-    }
-}
-
-// When a single cue begins and ends: its dur is evaluated only if its end is no time.
-pub fn single_interval(attrs: &[u32], strings: &[u8], e: xml::Element, ctx: TimingCtx) -> Timed
+) -> Result<Interval, Refusal>
     requires { HasRows attrs.now strings.now e.first e.many }
     ensures { OfRows attrs.now strings.now e.first e.many (λ l.
         timed_said result ≡ single_of ctx e.place l) }
 {
-    match begin_of(attrs, strings, e, ctx) {
-        Moment::Refused(r) => Timed::Refused(r),
-        Moment::Is(start) => match time_given(attrs, strings, e, b"end", ctx) {
-            Giving::Refused(r) => Timed::Refused(r),
-            Giving::Is(end) => single_ended(attrs, strings, e, ctx, start, end),
-        },
+    let start = begin_of(attrs, strings, e, ctx)?;
+    if let Some(end) = time_given(attrs, strings, e, b"end", ctx)? {
+        return Ok(Interval { start, end });
     }
+    let end = lasting_to(attrs, strings, e, ctx, start, start)?;
+    Ok(Interval { start, end })
 }

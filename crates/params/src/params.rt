@@ -6,7 +6,6 @@ ghost use Rattle.styling.specs.Posts.{HasRows, OfRows, NameFits, name_at};
 ghost use Rattle.params.specs.Named.{is_param_name};
 ghost use Rattle.params.specs.Rows.{ValueFits, SpanIs, Adds, Collects};
 
-use records::Added;
 use track::{Param, Span};
 use tree::ATTR_CELLS;
 
@@ -36,13 +35,13 @@ fn name_at(attrs: &[u32], strings: &[u8], k: usize) -> Span
 }
 
 // Attribute k in the n-th row, if it is a parameter; or there are 64 already.
-fn add_at(attrs: &[u32], strings: &[u8], k: usize, params: &mut [u32], n: usize) -> Added
+fn add_at(attrs: &[u32], strings: &[u8], k: usize, params: &mut [u32], n: usize) -> Option<usize>
     requires { NameFits attrs.now strings.now k × ValueFits attrs.now strings.now k × (length strings.now < 2 ^ 32)
         × (256 ≤ length params.old) }
     ensures { Adds attrs.now strings.now k params.old params.new n result }
 {
     if !is_param_at(attrs, strings, k) {
-        return Added::Next(n);
+        return Some(n);
     }
     let name = name_at(attrs, strings, k);
     let h = xml::attr_at(attrs, k);
@@ -60,24 +59,15 @@ pub fn collect_params(
     first: usize,
     many: usize,
     params: &mut [u32],
-) -> Added
+) -> Option<usize>
     requires { HasRows attrs.now strings.now first many × (length strings.now < 2 ^ 32) × (256 ≤ length params.old) }
     ensures { OfRows attrs.now strings.now first many (λ l.
         Collects (params_of with_places l) params.old params.new result) }
 {
     let end = first + many;
     let mut n = 0;
-    let mut k = first;
-    while k < end {
-        match add_at(attrs, strings, k, params, n) {
-            Added::Next(m) => {
-                n = m;
-            }
-            Added::Full => {
-                return Added::Full;
-            }
-        }
-        k += 1;
+    for k in first..end {
+        n = add_at(attrs, strings, k, params, n)?;
     }
-    Added::Next(n)
+    Some(n)
 }

@@ -4,9 +4,9 @@ ghost use Rattle.styling.specs.Posts.{HasRows, OfRows, NameFits, name_at};
 ghost use Rattle.params.specs.Named.{is_param_name, sought_by, Meets};
 
 use tree::ATTR_CELLS;
-use xml::Value;
+use xml::Attribute;
 
-// The name whole, or a parameter's name without its prefix.
+// The name whole, or a parameter's name without its prefix. (Two tests alone: a function as a parameter reads no plainer.)
 #[derive(Clone, Copy)]
 pub enum Sought {
     Whole,
@@ -17,20 +17,13 @@ pub enum Sought {
 pub fn is_param(name: &[u8]) -> bool
     ensures { result ≡ is_param_name name.now }
 {
-    if scan::starts_with(name, 0, b"ttp:") {
-        return true;
-    }
-    scan::starts_with(name, 0, b"ittp:")
+    scan::starts_with(name, 0, b"ttp:") || scan::starts_with(name, 0, b"ittp:")
 }
 
 fn is_param_named(found: &[u8], name: &[u8]) -> bool
     ensures { result ≡ sought_by Sought.Param name.now found.now }
 {
-    if !is_param(found) {
-        return false;
-    }
-    let at = scan::strip_ns(found);
-    scan::same(&found[at..], name)
+    is_param(found) && scan::same(&found[scan::strip_ns(found)..], name)
 }
 
 fn is_sought(found: &[u8], sought: Sought, name: &[u8]) -> bool
@@ -60,18 +53,16 @@ pub fn seek(
     many: usize,
     sought: Sought,
     name: &[u8],
-) -> Value
+) -> Option<Attribute>
     requires { HasRows attrs.now strings.now first many }
     ensures { OfRows attrs.now strings.now first many (λ l.
         Meets strings.now (sought_by sought name.now) l result) }
 {
     let end = first + many;
-    let mut k = first;
-    while k < end {
+    for k in first..end {
         if is_row(attrs, strings, k, sought, name) {
-            return Value::At(xml::attr_at(attrs, k));
+            return Some(xml::attr_at(attrs, k));
         }
-        k += 1;
     }
-    Value::Absent
+    None
 }

@@ -3,27 +3,26 @@ ghost use Rattle.std.specs.Prelude.{◌≡◌};
 ghost use Rattle.track.specs.Check.{refused_as_of};
 ghost use Rattle.queries.specs.Steps.{is_short, check_text, query_check};
 
-use track::Check;
 use tree::{BYTES, Refusal};
 
-fn refused(number: u32) -> Check
+fn refused(number: u32) -> Result<(), Refusal>
     ensures { result ≡ refused_as_of number }
 {
-    Check::Refused(Refusal { number, place: 0 })
+    Err(Refusal { number, place: 0 })
 }
 
 // Is it number 1?
-fn is_short(check: Check) -> bool
+fn is_short(check: Result<(), Refusal>) -> bool
     ensures { result ≡ is_short check }
 {
     match check {
-        Check::Refused(r) => r.number == 1,
-        Check::Track => false,
+        Err(r) => r.number == 1,
+        Ok(()) => false,
     }
 }
 
 // A query's text, where the check of the track answers this: 1 comes before 2 and 3, and these before 17.
-fn check_text(text: &[u8], check: Check) -> Check
+fn check_text(text: &[u8], check: Result<(), Refusal>) -> Result<(), Refusal>
     ensures { result ≡ check_text text.now check }
 {
     if is_short(check) {
@@ -52,7 +51,7 @@ pub fn check_query(
     extras: &[u32],
     strings: &[u8],
     texts: &[u8],
-) -> Check
+) -> Result<(), Refusal>
     ensures { result ≡ query_check text.now (record {
       head = head.entry.now;
       params = params.now;

@@ -4,8 +4,8 @@ ghost use Rattle.scan.specs.Bytes.{run_length_of};
 ghost use Rattle.styles.specs.Own.{size_byte, align_in};
 ghost use Rattle.queries.specs.Steps.{HasExtras, value_at, bytes_in, value_in_of, says, ColorPost, SizePost, own_look, OwnPost};
 
-use colors::{Color, Rgba};
-use decimals::{Decimal, Size};
+use colors::{ColorError, Rgba};
+use decimals::{DecimalError, Size};
 use scan::Class;
 use track::{Align, EXTRA_CELLS, Look, Span};
 
@@ -24,7 +24,7 @@ const FONT_WEIGHT: usize = 22;
 
 const TEXT_ALIGN: usize = 39;
 
-// An attribute's value; without one its part is empty.
+// An attribute's value; without one its part is empty. A flag and not an `Option`: no value reads as one of no bytes.
 #[derive(Clone, Copy)]
 pub struct Value {
     pub has: bool,
@@ -38,12 +38,6 @@ pub struct Paint {
     pub color: Rgba,
 }
 
-#[derive(Clone, Copy)]
-pub enum ColorRead {
-    Is(Paint),
-    Cut,
-}
-
 // A size; without one it is zero. Beyond is number 14.
 #[derive(Clone, Copy)]
 pub struct Measure {
@@ -51,34 +45,18 @@ pub struct Measure {
     pub size: Size,
 }
 
-#[derive(Clone, Copy)]
-pub enum SizeRead {
-    Is(Measure),
-    Beyond,
-}
-
-// What is said; or number 14 or 15.
-#[derive(Clone, Copy)]
-pub enum OwnRead {
-    Is(Look),
-    Refused(u32),
-}
-
 // The value of the first of so many rows of extras that has this number.
 pub fn value_of(extras: &[u32], first: usize, many: usize, number: usize) -> Value
     requires { (first + many) * 3 ≤ length extras.now }
     ensures { result ≡ value_at extras.now number many first }
 {
-    let end = first + many;
-    let mut i = first;
-    while i < end {
+    for i in first..first + many {
         if scan::get(extras, i * EXTRA_CELLS) == number {
             return Value {
                 has: true,
                 span: track::span_at(extras, i * EXTRA_CELLS + 1),
             };
         }
-        i += 1;
     }
     Value {
         has: false,
@@ -86,21 +64,21 @@ pub fn value_of(extras: &[u32], first: usize, many: usize, number: usize) -> Val
     }
 }
 
-fn color_in(value: &[u8]) -> ColorRead
+fn color_in(value: &[u8]) -> Option<Paint>
     ensures { ColorPost value.now result }
 {
     match colors::parse_ttml_color_rgba(value) {
-        Color::Is(color) => ColorRead::Is(Paint { has: true, color }),
-        Color::Nothing => {
+        Ok(color) => Some(Paint { has: true, color }),
+        Err(ColorError::Invalid) => {
             let color = Rgba {
                 r: 0,
                 g: 0,
                 b: 0,
                 a: 0,
             };
-            ColorRead::Is(Paint { has: false, color })
+            Some(Paint { has: false, color })
         }
-        Color::Cut => ColorRead::Cut,
+        Err(ColorError::Cut) => None,
     }
 }
 
@@ -114,35 +92,33 @@ fn is_size_byte(b: u8) -> bool
 fn leading_end(value: &[u8]) -> usize
     ensures { (result ≤ length value.now) × (result ≡ run_length_of size_byte value.now) }
 {
-    let mut i = 0;
-    while i < value.len() {
+    for i in 0..value.len() {
         if !is_size_byte(value[i]) {
             return i;
         }
-        i += 1;
     }
-    i
+    value.len()
 }
 
-fn size_in(value: &[u8]) -> SizeRead
+fn size_in(value: &[u8]) -> Option<Measure>
     ensures { SizePost value.now result }
 {
     let end = leading_end(value);
     match decimals::read_decimal(&value[..end], 6, 10) {
-        Decimal::Is(d) => SizeRead::Is(Measure {
+        Ok(d) => Some(Measure {
             has: true,
             size: decimals::size_of(d),
         }),
-        Decimal::Nothing => {
+        Err(DecimalError::Invalid) => {
             let size = Size {
                 value: 0.0,
                 negative: false,
                 digits: 0,
                 scale: 0,
             };
-            SizeRead::Is(Measure { has: false, size })
+            Some(Measure { has: false, size })
         }
-        Decimal::Beyond => SizeRead::Beyond,
+        Err(DecimalError::Beyond) => None,
     }
 }
 
@@ -179,7 +155,13 @@ fn is_said(
     scan::eq_ignore_ascii_case(&strings[from..to], word)
 }
 
-fn color_of(extras: &[u32], strings: &[u8], first: usize, many: usize, number: usize) -> ColorRead
+fn color_of(
+    extras: &[u32],
+    strings: &[u8],
+    first: usize,
+    many: usize,
+    number: usize,
+) -> Option<Paint>
     requires { HasExtras extras.now strings.now first many }
     ensures { ColorPost (bytes_in extras.now strings.now number many first) result }
 {
@@ -190,7 +172,7 @@ fn color_of(extras: &[u32], strings: &[u8], first: usize, many: usize, number: u
     color_in(&strings[from..to])
 }
 
-fn size_of(extras: &[u32], strings: &[u8], first: usize, many: usize) -> SizeRead
+fn size_of(extras: &[u32], strings: &[u8], first: usize, many: usize) -> Option<Measure>
     requires { HasExtras extras.now strings.now first many }
     ensures { SizePost (bytes_in extras.now strings.now 19 many first) result }
 {
@@ -215,23 +197,19 @@ fn own_look(
     ensures { result ≡ own_look extras.now strings.now first many color back size }
 {
     let family = value_of(extras, first, many, FONT_FAMILY);
-    let span = family.span;
-    let paint = color.color;
-    let under = back.color;
-    let measure = size.size;
     let align = align_of(extras, strings, first, many);
     let bold = is_said(extras, strings, first, many, FONT_WEIGHT, b"bold");
     let italic = is_said(extras, strings, first, many, FONT_STYLE, b"italic");
     let oblique = is_said(extras, strings, first, many, FONT_STYLE, b"oblique");
     Look {
         has_color: color.has,
-        color: paint,
+        color: color.color,
         has_back: back.has,
-        back: under,
+        back: back.color,
         has_family: family.has,
-        family: span,
+        family: family.span,
         has_size: size.has,
-        size: measure,
+        size: size.size,
         bold,
         italic: italic || oblique,
         underline: false,
@@ -241,20 +219,18 @@ fn own_look(
 }
 
 // Colour, background and size in this order: the first that is refused is the answer.
-pub fn own_values(extras: &[u32], strings: &[u8], first: usize, many: usize) -> OwnRead
+pub fn own_values(extras: &[u32], strings: &[u8], first: usize, many: usize) -> Result<Look, u32>
     requires { HasExtras extras.now strings.now first many }
     ensures { OwnPost extras.now strings.now first many result }
 {
-    match color_of(extras, strings, first, many, COLOR) {
-        ColorRead::Cut => OwnRead::Refused(15),
-        ColorRead::Is(color) => match color_of(extras, strings, first, many, BACKGROUND_COLOR) {
-            ColorRead::Cut => OwnRead::Refused(15),
-            ColorRead::Is(back) => match size_of(extras, strings, first, many) {
-                SizeRead::Beyond => OwnRead::Refused(14),
-                SizeRead::Is(size) => OwnRead::Is(own_look(
-                    extras, strings, first, many, color, back, size,
-                )),
-            },
-        },
-    }
+    let Some(color) = color_of(extras, strings, first, many, COLOR) else {
+        return Err(15);
+    };
+    let Some(back) = color_of(extras, strings, first, many, BACKGROUND_COLOR) else {
+        return Err(15);
+    };
+    let Some(size) = size_of(extras, strings, first, many) else {
+        return Err(14);
+    };
+    Ok(own_look(extras, strings, first, many, color, back, size))
 }

@@ -2,8 +2,6 @@
 ghost use Rattle.queries.specs.Steps.{SpanIn, HasRegions, blank_part, RegionPost, CueRegionPost};
 ghost use Rattle.std.specs.Prelude.{◌≡◌};
 
-use crate::own::OwnRead;
-use records::Found;
 use track::{Look, Span};
 
 // A region's own look, and the place of its chain among the strings. Without a region, or a chain, they are blank.
@@ -13,48 +11,40 @@ pub struct Part {
     pub chain: Span,
 }
 
-// Or number 14 or 15.
-#[derive(Clone, Copy)]
-pub enum PartRead {
-    Is(Part),
-    Refused(u32),
-}
-
 // The number of `style` in REGION_ATTR_ORDER.
 const STYLE: usize = 50;
 
 fn blank_part() -> Part
     ensures { result ≡ blank_part }
 {
-    let look = styles::blank();
     Part {
-        look,
+        look: styles::blank(),
         chain: Span { place: 0, len: 0 },
     }
 }
 
 // The part of n regions' first of this id.
-pub fn region_part(regions: &[u32], extras: &[u32], strings: &[u8], n: usize, id: &[u8]) -> PartRead
+pub fn region_part(
+    regions: &[u32],
+    extras: &[u32],
+    strings: &[u8],
+    n: usize,
+    id: &[u8],
+) -> Result<Part, u32>
     requires { HasRegions regions.now extras.now strings.now n }
     ensures { RegionPost regions.now extras.now strings.now n id.now result }
 {
-    match records::find_region(regions, strings, n, id) {
-        Found::Nothing => PartRead::Is(blank_part()),
-        Found::Row(i) => {
-            let region = records::region_at(regions, i);
-            let rows = region.extras;
-            let first = rows.first;
-            let many = rows.count;
-            match crate::own::own_values(extras, strings, first, many) {
-                OwnRead::Refused(number) => PartRead::Refused(number),
-                OwnRead::Is(look) => {
-                    let value = crate::own::value_of(extras, first, many, STYLE);
-                    let chain = value.span;
-                    PartRead::Is(Part { look, chain })
-                }
-            }
-        }
-    }
+    let Some(i) = records::find_region(regions, strings, n, id) else {
+        return Ok(blank_part());
+    };
+    let region = records::region_at(regions, i);
+    let rows = region.extras;
+    let look = crate::own::own_values(extras, strings, rows.first, rows.count)?;
+    let value = crate::own::value_of(extras, rows.first, rows.count, STYLE);
+    Ok(Part {
+        look,
+        chain: value.span,
+    })
 }
 
 // The same of a cue's region, where it has one.
@@ -65,12 +55,12 @@ pub fn cue_part(
     n: usize,
     has: bool,
     id: Span,
-) -> PartRead
+) -> Result<Part, u32>
     requires { HasRegions regions.now extras.now strings.now n × SpanIn strings.now id }
     ensures { CueRegionPost regions.now extras.now strings.now n has id result }
 {
     if !has {
-        return PartRead::Is(blank_part());
+        return Ok(blank_part());
     }
     let from = id.place;
     let to = from + id.len;

@@ -4,7 +4,6 @@ ghost use Rattle.blank.specs.Steps.{rest};
 ghost use Rattle.whole.specs.Steps.{Asks, Post};
 ghost use Rattle.reader.specs.Steps.{meant_by, AsksTree, TreePost};
 
-use promised::Answer;
 use tree::Refusal;
 
 // The track of the first tt, or the cue of the first p.
@@ -31,7 +30,7 @@ fn read_nodes(
     texts: &mut [u8],
     n: usize,
     wanted: Wanted,
-) -> Answer
+) -> Result<(), Refusal>
     requires { Asks nodes.now attrs.now strings.now n (rest head.old params.old styles.old regions.old cues.old
         times.old segments.old sizes.old extras.old texts.old) }
     ensures { Post (meant_by wanted) nodes.now attrs.now strings.now n
@@ -70,7 +69,7 @@ fn read_tree(
     m: usize,
     len: usize,
     wanted: Wanted,
-) -> Answer
+) -> Result<(), Refusal>
     requires { AsksTree nodes.old attrs.old strings.old n m len (rest head.old params.old styles.old regions.old cues.old
         times.old segments.old sizes.old extras.old texts.old) }
     ensures { TreePost (meant_by wanted) n len
@@ -86,10 +85,10 @@ fn read_tree(
         nodes, attrs, used, head, params, styles, regions, cues, times, segments, sizes, extras,
         texts, n, wanted,
     ) {
-        Answer::Track => Answer::Track,
-        Answer::Refused(r) => {
+        Ok(()) => Ok(()),
+        Err(r) => {
             blank::drop_tree(nodes, attrs, strings, n, m, len);
-            Answer::Refused(r)
+            Err(r)
         }
     }
 }
@@ -111,7 +110,7 @@ pub fn read_text(
     strings: &mut [u8],
     texts: &mut [u8],
     wanted: Wanted,
-) -> Answer
+) -> Result<(), Refusal>
     ensures { Promise (meant_by wanted) text.now
         (tables nodes.old attrs.old head.old params.old styles.old regions.old
         cues.old times.old segments.old sizes.old extras.old strings.old
@@ -124,31 +123,29 @@ pub fn read_text(
         head, params, styles, regions, cues, times, segments, sizes, extras, texts,
     ) {
         blank::clear_tree(nodes, attrs, strings);
-        return Answer::Refused(Refusal {
+        return Err(Refusal {
             number: 1,
             place: 0,
         });
     }
-    match xml::parse_xml(text, nodes, attrs, strings) {
-        tree::Answer::Refused(r) => Answer::Refused(r),
-        tree::Answer::Tree { nodes: n, attrs: m } => read_tree(
-            nodes,
-            attrs,
-            head,
-            params,
-            styles,
-            regions,
-            cues,
-            times,
-            segments,
-            sizes,
-            extras,
-            strings,
-            texts,
-            n,
-            m,
-            text.len(),
-            wanted,
-        ),
-    }
+    let tree = xml::parse_xml(text, nodes, attrs, strings)?;
+    read_tree(
+        nodes,
+        attrs,
+        head,
+        params,
+        styles,
+        regions,
+        cues,
+        times,
+        segments,
+        sizes,
+        extras,
+        strings,
+        texts,
+        tree.nodes,
+        tree.attrs,
+        text.len(),
+        wanted,
+    )
 }

@@ -1,5 +1,6 @@
 // A query asked.
 use queries::Resolved;
+use tree::Refusal;
 
 // The index of a cue: 2 bytes.
 fn index(text: &[u8]) -> usize {
@@ -22,7 +23,7 @@ fn ask(
     strings: &[u8],
     texts: &[u8],
     ids: &mut [u32],
-) -> Resolved {
+) -> Result<Resolved, Refusal> {
     match kind {
         b'V' => queries::resolve_referenced_style(
             text, head, params, styles, regions, cues, times, segments, sizes, extras, strings,

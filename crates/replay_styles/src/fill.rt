@@ -29,14 +29,12 @@ pub fn fill(
 // The numbers of a line, which single blanks divide.
 fn put_numbers(line: &[u8], cells: &mut [u32]) {
     let mut pos = 2;
-    let mut at = 0;
-    while pos < line.len() {
-        if cells.len() <= at {
+    for cell in cells {
+        if line.len() <= pos {
             return;
         }
         let end = scan::find_byte(line, pos, b' ');
-        cells[at] = crate::fields::number(&line[pos..end]);
-        at += 1;
+        *cell = crate::fields::number(&line[pos..end]);
         pos = end + 1;
     }
 }
@@ -52,8 +50,8 @@ fn put_size(line: &[u8], sizes: &mut [f32]) {
     }
     let cell = crate::fields::number(&line[2..gap]) as usize;
     let bits = crate::fields::number(&line[gap + 1..]);
-    if cell < sizes.len() {
-        sizes[cell] = float(bits);
+    if let Some(size) = sizes.get_mut(cell) {
+        *size = float(bits);
     }
 }
 
@@ -66,7 +64,7 @@ fn float(bits: u32) -> f32 {
 }
 
 fn put_bytes(line: &[u8], bytes: &mut [u8]) {
-    if 2 <= line.len() {
-        replaying::unhex(&line[2..], bytes);
+    if let [_, _, hex @ ..] = line {
+        replaying::unhex(hex, bytes);
     }
 }

@@ -1,22 +1,11 @@
 // `check_track` asked.
 ghost use Rattle.std.specs.Prelude.{◌+◌, ◌≤◌, ◌<◌, ◌^◌};
 
-use track::Check;
+use crate::tables::{Bytes, Cells, Sizes, Times};
+use tree::Refusal;
 
 // What `check_track` answers where the table with the letter `short` is lent one cell short.
-pub fn ask(short: u8, cells: &[u32], times: &[i64], sizes: &[f32], bytes: &[u8]) -> u32 {
-    if cells.len() < 153610 {
-        return 1;
-    }
-    if times.len() < 4096 {
-        return 1;
-    }
-    if sizes.len() < 256 {
-        return 1;
-    }
-    if bytes.len() < 131072 {
-        return 1;
-    }
+pub fn ask(short: u8, cells: &Cells, times: &Times, sizes: &Sizes, bytes: &Bytes) -> u32 {
     let h = end(short, b'h', 10);
     let p = end(short, b'p', 266);
     let s = end(short, b's', 7178);
@@ -48,15 +37,12 @@ fn end(short: u8, own: u8, n: usize) -> usize
     requires { 0 < n }
     ensures { (n ≤ result + 1) × (result ≤ n) }
 {
-    if short == own {
-        return n - 1;
-    }
-    n
+    if short == own { n - 1 } else { n }
 }
 
-fn number_of(c: Check) -> u32 {
+fn number_of(c: Result<(), Refusal>) -> u32 {
     match c {
-        Check::Track => 0,
-        Check::Refused(r) => r.number,
+        Ok(()) => 0,
+        Err(r) => r.number,
     }
 }

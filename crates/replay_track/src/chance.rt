@@ -49,19 +49,12 @@ fn used_cell(table: u8, n: u32) -> u32 {
 // Small values more often than large ones; sizes and bytes have few.
 fn pick(table: u8, n: u32) -> u32 {
     let m = n / 4;
-    if table == b'f' {
-        return m % 18;
-    }
-    if table == b'z' {
-        return m % 256;
-    }
-    if table == b'y' {
-        return m % 256;
-    }
-    match n % 4 {
-        0 => m % 3,
-        1 => m % 20,
-        2 => m % 300,
+    match (table, n % 4) {
+        (b'f', _) => m % 18,
+        (b'z' | b'y', _) => m % 256,
+        (_, 0) => m % 3,
+        (_, 1) => m % 20,
+        (_, 2) => m % 300,
         _ => m,
     }
 }
@@ -75,10 +68,8 @@ pub fn by_chance(
     bytes: &mut Bytes,
 ) {
     let mut state = SEED;
-    let mut left = count;
-    while 0 < left {
+    for _ in 0..count {
         state = one_by_chance(state, cells, times, sizes, bytes);
-        left -= 1;
     }
 }
 

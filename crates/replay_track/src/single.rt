@@ -38,13 +38,9 @@ fn exchange_byte(cells: &mut [u8], at: usize, v: Value) -> Value {
     let old = cells[at];
     cells[at] = (v.cell % 256) as u8;
     Value {
-        cell: wide(old),
+        cell: u32::from(old),
         size: 0.0,
     }
-}
-
-fn wide(b: u8) -> u32 {
-    b as u32
 }
 
 fn exchange_size(cells: &mut [f32], at: usize, v: Value) -> Value {

@@ -44,30 +44,9 @@ pub fn place(table: u8, cell: u32) -> usize {
     start(table) + cell as usize
 }
 
-pub fn put(cells: &mut [u32], start: usize, i: usize, v: u32) {
-    if start < cells.len() {
-        if i < cells.len() - start {
-            cells[start + i] = v;
-        }
-    }
-}
-
-pub fn put_byte(cells: &mut [u8], start: usize, i: usize, v: u8) {
-    if start < cells.len() {
-        if i < cells.len() - start {
-            cells[start + i] = v;
-        }
-    }
-}
-
-pub fn put_time(cells: &mut [i64], at: usize, v: i64) {
-    if at < cells.len() {
-        cells[at] = v;
-    }
-}
-
-pub fn put_size(cells: &mut [f32], at: usize, v: f32) {
-    if at < cells.len() {
-        cells[at] = v;
+// A cell set, if there is such a cell.
+pub fn put<T: Copy>(cells: &mut [T], start: usize, i: usize, v: T) {
+    if start < cells.len() && i < cells.len() - start {
+        cells[start + i] = v;
     }
 }

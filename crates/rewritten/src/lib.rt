@@ -4,11 +4,11 @@ ghost use Rattle.track.specs.Tables as track;
 ghost use Rattle.promised.specs.Promise.{tables};
 ghost use Rattle.rewritten.specs.Recaption.{ThenWritten, Recaptioned};
 
-use writer::Answer;
+use tree::Refusal;
 
 // After the text was read: its track written to `out`; or the reader's number and place, and nothing is written.
 fn write_read(
-    read: promised::Answer,
+    read: Result<(), Refusal>,
     head: &[u32],
     params: &[u32],
     styles: &[u32],
@@ -21,18 +21,18 @@ fn write_read(
     strings: &[u8],
     texts: &[u8],
     out: &mut [u8],
-) -> Answer
+) -> Result<usize, Refusal>
     ensures { ThenWritten read
         (track.tables head.now params.now styles.now regions.now cues.now times.now
         segments.now sizes.now extras.now strings.now texts.now)
         out.old result out.new }
 {
     match read {
-        promised::Answer::Refused(r) => {
+        Err(r) => {
             scan::clear_bytes(out);
-            Answer::Refused(r)
+            Err(r)
         }
-        promised::Answer::Track => document::write(
+        Ok(()) => document::write(
             head, params, styles, regions, cues, times, segments, sizes, extras, strings, texts,
             out,
         ),
@@ -56,7 +56,7 @@ pub fn recaption(
     strings: &mut [u8],
     texts: &mut [u8],
     out: &mut [u8],
-) -> Answer
+) -> Result<usize, Refusal>
     ensures { Recaptioned text.now
         (tables nodes.old attrs.old head.old params.old styles.old regions.old
         cues.old times.old segments.old sizes.old extras.old strings.old

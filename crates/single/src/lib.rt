@@ -7,15 +7,12 @@ ghost use Rattle.meaning.specs.Meaning.{timing, cue_in};
 ghost use Rattle.styling.specs.Posts.{OfRows};
 ghost use Rattle.single.specs.Steps.{cue_rest, CueAsks, CuePost, ElementAsks, ElementPost, timed_cue, AloneAsks, Alone};
 
-use content::Collecting;
-use intervals::{Interval, Timed};
-use promised::Answer;
+use intervals::Interval;
 use records::Head;
 use styling::WsMode;
 use times::TimingCtx;
 use track::{Cue, Rows, Span};
 use tree::Refusal;
-use xml::Found;
 
 fn no_rates() -> TimingCtx
     ensures { result ≡ timing none none }
@@ -45,15 +42,14 @@ fn put_alone(
         times.old times.new) }
 {
     let style = cues::value_of(attrs, strings, e, b"style");
-    let span = style.span;
-    let none = Span { place: 0, len: 0 };
+    let nowhere = Span { place: 0, len: 0 };
     let row = Cue {
         start: when.start,
         end: when.end,
-        has_style: style.has,
-        style: span,
+        has_style: style.is_some(),
+        style: style.unwrap_or(nowhere),
         has_region: false,
-        region: none,
+        region: nowhere,
         preserve: false,
         segments: Rows {
             first: 0,
@@ -72,7 +68,7 @@ fn put_alone(
             cues: 1,
             segments: rows,
             has_lang: false,
-            lang: none,
+            lang: nowhere,
             strings: used,
             texts: used,
         },
@@ -91,7 +87,7 @@ fn read_timed(
     texts: &mut [u8],
     k: usize,
     when: Interval,
-) -> Answer
+) -> Result<(), Refusal>
     requires { ElementAsks nodes.now attrs.now strings.now k (cue_rest head.old cues.old times.old segments.old texts.old) }
     ensures { ElementPost (timed_cue when) nodes.now attrs.now strings.now k
         (cue_rest head.old cues.old times.old segments.old texts.old)
@@ -99,7 +95,7 @@ fn read_timed(
 {
     let e = xml::element_at(nodes, k);
     let ws = styling::resolve_ws(attrs, strings, e.first, e.many, WsMode::Collapse);
-    match content::collect_segments_timed(
+    let run = match content::collect_segments_timed(
         nodes,
         attrs,
         strings,
@@ -112,16 +108,15 @@ fn read_timed(
         ws,
         0,
     ) {
-        Collecting::Refused(r) => {
+        Ok(run) => run,
+        Err(r) => {
             scan::clear(segments);
             scan::clear_bytes(texts);
-            Answer::Refused(r)
+            return Err(r);
         }
-        Collecting::Is(run) => {
-            put_alone(attrs, strings, head, cues, times, e, when, run.rows);
-            Answer::Track
-        }
-    }
+    };
+    put_alone(attrs, strings, head, cues, times, e, when, run.rows);
+    Ok(())
 }
 
 // The p in row k.
@@ -135,18 +130,17 @@ fn read_p(
     segments: &mut [u32],
     texts: &mut [u8],
     k: usize,
-) -> Answer
+) -> Result<(), Refusal>
     requires { ElementAsks nodes.now attrs.now strings.now k (cue_rest head.old cues.old times.old segments.old texts.old) }
     ensures { ElementPost (cue_in with_places) nodes.now attrs.now strings.now k
         (cue_rest head.old cues.old times.old segments.old texts.old)
         (cue_rest head.new cues.new times.new segments.new texts.new) result }
 {
-    match intervals::single_interval(attrs, strings, xml::element_at(nodes, k), no_rates()) {
-        Timed::Refused(r) => Answer::Refused(r),
-        Timed::Is(when) => read_timed(
-            nodes, attrs, strings, head, cues, times, segments, texts, k, when,
-        ),
-    }
+    let e = xml::element_at(nodes, k);
+    let when = intervals::single_interval(attrs, strings, e, no_rates())?;
+    read_timed(
+        nodes, attrs, strings, head, cues, times, segments, texts, k, when,
+    )
 }
 
 // The cue of the first p among the n rows of the tree.
@@ -160,17 +154,17 @@ pub fn read_cue(
     segments: &mut [u32],
     texts: &mut [u8],
     n: usize,
-) -> Answer
+) -> Result<(), Refusal>
     requires { CueAsks nodes.now attrs.now strings.now n (cue_rest head.old cues.old times.old segments.old texts.old) }
     ensures { CuePost nodes.now attrs.now strings.now n
         (cue_rest head.old cues.old times.old segments.old texts.old)
         (cue_rest head.new cues.new times.new segments.new texts.new) result }
 {
-    match xml::find_element(nodes, strings, 0, n, b"p") {
-        Found::Nothing => Answer::Refused(Refusal {
+    let Some(k) = xml::find_element(nodes, strings, 0, n, b"p") else {
+        return Err(Refusal {
             number: 12,
             place: 0,
-        }),
-        Found::Row(k) => read_p(nodes, attrs, strings, head, cues, times, segments, texts, k),
-    }
+        });
+    };
+    read_p(nodes, attrs, strings, head, cues, times, segments, texts, k)
 }

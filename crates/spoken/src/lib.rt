@@ -7,10 +7,8 @@ ghost use Rattle.writer.specs.Calls.{Filled};
 ghost use Rattle.spoken.specs.Promise.{tables, LongEnough, HasCue, PlainText};
 ghost use Rattle.spoken.specs.Steps.{Decides};
 
-use scan::Written;
 use track::{CUE_CELLS, CUES, HEAD_CELLS, SEGMENT_CELLS, SEGMENTS};
-use tree::BYTES;
-use writer::Answer;
+use tree::{BYTES, Refusal};
 
 const CUE_TABLE: usize = CUES * CUE_CELLS;
 
@@ -20,19 +18,10 @@ const SEGMENT_TABLE: usize = SEGMENTS * SEGMENT_CELLS;
 fn are_long(head: &[u32], cues: &[u32], segments: &[u32], texts: &[u8]) -> bool
     ensures { Decides (LongEnough (tables head.now cues.now segments.now texts.now)) result }
 {
-    if head.len() < HEAD_CELLS {
-        return false;
-    }
-    if cues.len() < CUE_TABLE {
-        return false;
-    }
-    if segments.len() < SEGMENT_TABLE {
-        return false;
-    }
-    if texts.len() < BYTES {
-        return false;
-    }
-    true
+    HEAD_CELLS <= head.len()
+        && CUE_TABLE <= cues.len()
+        && SEGMENT_TABLE <= segments.len()
+        && BYTES <= texts.len()
 }
 
 // Is the cue there, with its rows and their texts?
@@ -40,37 +29,34 @@ fn has_cue(head: &[u32], cues: &[u32], segments: &[u32], index: usize) -> bool
     requires { (10 ≤ length head.now) × (22528 ≤ length cues.now) × (98304 ≤ length segments.now) }
     ensures { (y : List ℕ) → Decides (HasCue (tables head.now cues.now segments.now y) index) result }
 {
-    if scan::get(head, 3) <= index {
-        return false;
-    }
-    if CUES <= index {
+    if scan::get(head, 3) <= index || CUES <= index {
         return false;
     }
     let row = index * CUE_CELLS;
     let first = scan::get(cues, row + 7);
     let n = scan::get(cues, row + 8);
-    if SEGMENTS < first {
+    if SEGMENTS < first || SEGMENTS - first < n {
         return false;
     }
-    if SEGMENTS - first < n {
-        return false;
-    }
-    if !walk::rows_within(segments, first, n) {
-        return false;
-    }
-    true
+    walk::rows_within(segments, first, n)
 }
 
 // The text of n rows, written into bytes that are clear.
-fn fill(segments: &[u32], texts: &[u8], first: usize, n: usize, out: &mut [u8]) -> Answer
+fn fill(
+    segments: &[u32],
+    texts: &[u8],
+    first: usize,
+    n: usize,
+    out: &mut [u8],
+) -> Result<usize, Refusal>
     requires { ((first + n) * 6 ≤ length segments.now) × (all_rows (row_within_of segments.now) n first ≡ true) × (65536 ≤ length texts.now)
         × (out.old ≡ replicate (length out.old) 0) }
     ensures { Filled (rows_text texts.now segments.now n first) (length out.old) result out.new }
 {
     let end = writer::limit(out.len());
     match walk::plain_text(segments, texts, first, n, &mut out[..end], 0) {
-        Written::At(k) => Answer::Bytes(k),
-        Written::Full => {
+        Some(k) => Ok(k),
+        None => {
             scan::clear_bytes(out);
             writer::refused(18)
         }
@@ -85,7 +71,7 @@ pub fn plain_text(
     texts: &[u8],
     index: usize,
     out: &mut [u8],
-) -> Answer
+) -> Result<usize, Refusal>
     ensures { PlainText (tables head.now cues.now segments.now texts.now) index out.old result
         out.new }
 {

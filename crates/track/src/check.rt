@@ -11,37 +11,19 @@ use crate::limits::{
 };
 use tree::{BYTES, Refusal};
 
-// What is said of a handed track: it is one; or a number of document 01's list, 1 or 17, with place 0.
-#[derive(Clone, Copy)]
-pub enum Check {
-    Track,
-    Refused(Refusal),
-}
-
 // The counts of the head.
+#[tactic(auto, unfolding(crate::specs::Meaning::within_limits))]
 fn within_limits(head: &[u32]) -> bool
     requires { 10 ≤ length head.now }
     ensures { result ≡ within_limits head.now }
 {
-    if PARAMS < scan::get(head, 0) {
-        return false;
-    }
-    if STYLES < scan::get(head, 1) {
-        return false;
-    }
-    if REGIONS < scan::get(head, 2) {
-        return false;
-    }
-    if CUES < scan::get(head, 3) {
-        return false;
-    }
-    if SEGMENTS < scan::get(head, 4) {
-        return false;
-    }
-    if BYTES < scan::get(head, 8) {
-        return false;
-    }
-    scan::get(head, 9) <= BYTES
+    scan::get(head, 0) <= PARAMS
+        && scan::get(head, 1) <= STYLES
+        && scan::get(head, 2) <= REGIONS
+        && scan::get(head, 3) <= CUES
+        && scan::get(head, 4) <= SEGMENTS
+        && scan::get(head, 8) <= BYTES
+        && scan::get(head, 9) <= BYTES
 }
 
 // Are the bytes UTF-8?
@@ -51,13 +33,14 @@ fn is_utf8(bytes: &[u8]) -> bool
     utf8::utf8_end(bytes) == bytes.len()
 }
 
-fn refused(number: u32) -> Check
+fn refused(number: u32) -> Result<(), Refusal>
     ensures { result ≡ refused_as_of number }
 {
-    Check::Refused(Refusal { number, place: 0 })
+    Err(Refusal { number, place: 0 })
 }
 
 // Are the tables of rows as long as they must be? Each argument is a length.
+#[tactic(auto, unfolding(crate::specs::Steps::rows_full))]
 fn rows_full(
     head: usize,
     params: usize,
@@ -69,59 +52,37 @@ fn rows_full(
 ) -> bool
     ensures { result ≡ rows_full head params styles regions cues segments extras }
 {
-    if head < HEAD_CELLS {
-        return false;
-    }
-    if params < PARAMS * PARAM_CELLS {
-        return false;
-    }
-    if styles < STYLES * STYLE_CELLS {
-        return false;
-    }
-    if regions < REGIONS * REGION_CELLS {
-        return false;
-    }
-    if cues < CUES * CUE_CELLS {
-        return false;
-    }
-    if segments < SEGMENTS * SEGMENT_CELLS {
-        return false;
-    }
-    EXTRAS * EXTRA_CELLS <= extras
+    HEAD_CELLS <= head
+        && PARAMS * PARAM_CELLS <= params
+        && STYLES * STYLE_CELLS <= styles
+        && REGIONS * REGION_CELLS <= regions
+        && CUES * CUE_CELLS <= cues
+        && SEGMENTS * SEGMENT_CELLS <= segments
+        && EXTRAS * EXTRA_CELLS <= extras
 }
 
 // The same of the other tables.
+#[tactic(auto, unfolding(crate::specs::Steps::rest_full))]
 fn rest_full(times: usize, sizes: usize, strings: usize, texts: usize) -> bool
     ensures { result ≡ rest_full times sizes strings texts }
 {
-    if times < CUES * 2 {
-        return false;
-    }
-    if sizes < STYLES {
-        return false;
-    }
-    if strings < BYTES {
-        return false;
-    }
-    BYTES <= texts
+    CUES * 2 <= times && STYLES <= sizes && BYTES <= strings && BYTES <= texts
 }
 
 // The used bytes are UTF-8, and xml:lang is among them.
+#[tactic(auto, unfolding(crate::specs::Meaning::bytes_mean))]
 fn bytes_mean(head: &[u32], strings: &[u8], texts: &[u8]) -> bool
     requires { 10 ≤ length head.now }
     ensures { result ≡ bytes_mean head.now strings.now texts.now }
 {
-    if !is_utf8(strings) {
-        return false;
-    }
-    if !is_utf8(texts) {
-        return false;
-    }
-    let place = scan::get(head, 6);
-    crate::strings::is_optional(strings, scan::get(head, 5), place, scan::get(head, 7))
+    let lang = scan::get(head, 6);
+    is_utf8(strings)
+        && is_utf8(texts)
+        && crate::strings::is_optional(strings, scan::get(head, 5), lang, scan::get(head, 7))
 }
 
 // The rows of parameters, styles and regions mean such.
+#[tactic(auto, unfolding(crate::specs::Meaning::rows_mean))]
 fn rows_mean(
     head: &[u32],
     params: &[u32],
@@ -136,13 +97,9 @@ fn rows_mean(
     ensures { result ≡ rows_mean head.now params.now styles.now regions.now sizes.now
         extras.now strings.now }
 {
-    if !crate::params::are_params(params, strings, scan::get(head, 0)) {
-        return false;
-    }
-    if !crate::styles::are_styles(styles, sizes, extras, strings, scan::get(head, 1)) {
-        return false;
-    }
-    crate::styles::are_regions(regions, extras, strings, scan::get(head, 2))
+    crate::params::are_params(params, strings, scan::get(head, 0))
+        && crate::styles::are_styles(styles, sizes, extras, strings, scan::get(head, 1))
+        && crate::styles::are_regions(regions, extras, strings, scan::get(head, 2))
 }
 
 // Is what the tables hold a track? In time that is linear in what they use.
@@ -158,7 +115,7 @@ pub fn check_track(
     extras: &[u32],
     strings: &[u8],
     texts: &[u8],
-) -> Check
+) -> Result<(), Refusal>
     ensures { Checked (tables head.now params.now styles.now regions.now cues.now
         times.now segments.now sizes.now extras.now strings.now
         texts.now) result }
@@ -171,43 +128,22 @@ pub fn check_track(
         cues.len(),
         segments.len(),
         extras.len(),
-    ) {
-        return refused(1);
-    }
-    if !rest_full(times.len(), sizes.len(), strings.len(), texts.len()) {
+    ) || !rest_full(times.len(), sizes.len(), strings.len(), texts.len())
+    {
         return refused(1);
     }
     if !within_limits(head) {
         return refused(17);
     }
-    let used = scan::get(head, 8);
-    let shown = scan::get(head, 9);
-    if !bytes_mean(head, &strings[..used], &texts[..shown]) {
-        return refused(17);
-    }
-    if !rows_mean(
-        head,
-        params,
-        styles,
-        regions,
-        sizes,
-        extras,
-        &strings[..used],
-    ) {
-        return refused(17);
-    }
+    let used = &strings[..scan::get(head, 8)];
+    let shown = &texts[..scan::get(head, 9)];
     let n = scan::get(head, 3);
     let most = scan::get(head, 4);
-    if !crate::cues::are_cues(
-        cues,
-        extras,
-        segments,
-        &strings[..used],
-        &texts[..shown],
-        most,
-        n,
-    ) {
+    if !bytes_mean(head, used, shown)
+        || !rows_mean(head, params, styles, regions, sizes, extras, used)
+        || !crate::cues::are_cues(cues, extras, segments, used, shown, most, n)
+    {
         return refused(17);
     }
-    Check::Track
+    Ok(())
 }

@@ -15,7 +15,7 @@ mod styles;
 mod values;
 
 pub use alignment::parse_text_align;
-pub use check::{Check, check_track};
+pub use check::check_track;
 pub use limits::{
     BOLD, BREAK, COLOR, CUE_CELLS, CUES, EXTRA_CELLS, EXTRAS, FONT, HEAD_CELLS, ITALIC, NESTED,
     PARAM_CELLS, PARAMS, REGION_CELLS, REGIONS, SEGMENT_CELLS, SEGMENTS, STRIKE, STYLE_CELLS,

@@ -6,7 +6,7 @@ ghost use Rattle.track.specs.Meaning.{are_three, is_font, is_segment, are_segmen
 use crate::limits::{
     BOLD, BREAK, COLOR, FONT, ITALIC, SEGMENT_CELLS, STRIKE, TEXT, TIMESTAMP, UNDERLINE,
 };
-use crate::strings::Span;
+use crate::strings::{Span, is_optional, is_span};
 use decimals::Size;
 
 #[derive(Clone, Copy)]
@@ -40,22 +40,17 @@ pub enum Segment {
 }
 
 // Is the font in row i one?
+#[tactic(auto, unfolding(crate::specs::Meaning::is_font, crate::specs::Tables::cell))]
 fn is_font(segments: &[u32], strings: &[u8], i: usize) -> bool
     requires { i * 6 + 6 ≤ length segments.now }
     ensures { (y : List ℕ) → result ≡ is_font segments.now strings.now y i }
 {
     let at = i * SEGMENT_CELLS;
     let marks = segments[at + 4];
+    let family = (marks % 2) as usize;
     let place = scan::get(segments, at + 2);
-    if !crate::strings::is_optional(
-        strings,
-        (marks % 2) as usize,
-        place,
-        scan::get(segments, at + 3),
-    ) {
-        return false;
-    }
-    crate::marks::is_marked(marks, segments[at + 5])
+    is_optional(strings, family, place, scan::get(segments, at + 3))
+        && crate::marks::is_marked(marks, segments[at + 5])
 }
 
 // Is row i a segment, whatever stands inside it?
@@ -68,7 +63,7 @@ fn is_segment(segments: &[u32], strings: &[u8], texts: &[u8], i: usize) -> bool
         TEXT => {
             let place = scan::get(segments, at + 2);
             let len = scan::get(segments, at + 3);
-            segments[at + 1] == 1 && crate::strings::is_span(texts, place, len)
+            segments[at + 1] == 1 && is_span(texts, place, len)
         }
         BREAK | TIMESTAMP => segments[at + 1] == 1,
         BOLD..=STRIKE => true,

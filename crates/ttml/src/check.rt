@@ -4,7 +4,6 @@ ghost use Rattle.track.specs.Check.{Checked};
 ghost use Rattle.told.specs.Told.{Tells, check_told};
 
 use told::told;
-use track::Check;
 
 // Is it a track?
 pub fn pg_check_track(
@@ -27,7 +26,7 @@ pub fn pg_check_track(
     match track::check_track(
         head, params, styles, regions, cues, times, segments, sizes, extras, strings, texts,
     ) {
-        Check::Track => told(0, 0),
-        Check::Refused(r) => told(r.number, r.place),
+        Ok(()) => told(0, 0),
+        Err(r) => told(r.number, r.place),
     }
 }

@@ -6,14 +6,14 @@ ghost use Rattle.spoken.specs.Promise as spoken;
 ghost use Rattle.told.specs.Told.{Tells, written_told};
 
 use told::told;
-use writer::Answer;
+use tree::Refusal;
 
-fn tell(answer: Answer) -> u64
+fn tell(answer: Result<usize, Refusal>) -> u64
     ensures { result ≡ written_told answer }
 {
     match answer {
-        Answer::Bytes(n) => told(0, n),
-        Answer::Refused(r) => told(r.number, r.place),
+        Ok(n) => told(0, n),
+        Err(r) => told(r.number, r.place),
     }
 }
 

@@ -4,6 +4,5 @@ mod find;
 mod read;
 mod strings;
 
-pub use find::{Attribute, Element, Value, attr, attr_at, element_at, find_element, is_element};
+pub use find::{Attribute, Element, attr, attr_at, element_at, find_element, is_element};
 pub use read::parse_xml;
-pub use scan::Found;

@@ -17,20 +17,20 @@ slice_bounds-append-end c =
     c.requires.1 in
     omega (arith, h, c.requires.2)
 
-pub returns-then-kind-eq-TEXT : goal.returns-then-kind-eq-TEXT
+pub returns-in-1 : goal.returns-in-1
 unfolding string_at
-returns-then-kind-eq-TEXT c =
+returns-in-1 c =
     rw (
       own-text c.args.texts.now c.args.segments.now c.args.i (omega arith),
       sym c.get-start.ensures,
       sym c.get.ensures,
     ) c.append.ensures
 
-pub returns-then-kind-eq-BREAK : goal.returns-then-kind-eq-BREAK
-returns-then-kind-eq-BREAK c =
-    rw (own-break c.args.texts.now c.args.segments.now c.args.i (omega arith)) c.append-then-kind-eq-BREAK.ensures
+pub returns-in-2 : goal.returns-in-2
+returns-in-2 c =
+    rw (own-break c.args.texts.now c.args.segments.now c.args.i (omega arith)) c.append-in-2.ensures
 
-pub returns : goal.returns
-returns c =
+pub returns-in_default : goal.returns-in_default
+returns-in_default c =
     rw (own-none c.args.texts.now c.args.segments.now c.args.i (λ e. omega arith) (λ e. omega arith))
     (record { next = omega arith; within = c.requires.3; laid = refl })

@@ -12,7 +12,7 @@ put_head-requires c =
         omega (arith, c.requires.few_regions),
         omega (arith, c.requires.few_cues),
         omega (arith, c.requires.few_rows),
-        (omega (arith, w, c.requires.short), omega (arith, w, c.requires.short)),
+        rw c.unwrap_or.ensures (omega (arith, w, c.requires.short), omega (arith, w, c.requires.short)),
         omega (arith, c.requires.short),
         omega (arith, c.requires.short),
       ),
@@ -22,4 +22,4 @@ pub returns : goal.returns
 returns c =
     λ l o.
     let v = c.lang_of-lang.ensures l o in
-    record { in_head = rw (v.has, v.span) at c.put_head.ensures }
+    record { in_head = rw (c.is_some.ensures, c.unwrap_or.ensures, v.has, v.span) at c.put_head.ensures }

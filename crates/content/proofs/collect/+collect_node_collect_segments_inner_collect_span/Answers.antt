@@ -6,6 +6,7 @@ use mir.Syntax.{w64}
 use mir.Facts.{to_z-of_z}
 use mir.ValLaws as laws
 use borrow.Author.Rules.{rules}
+use Rattle.scan.proofs.Handed.{handed_on}
 use Rattle.content.proofs.Reading.{element-kind, element-end, text-came, break-came, unknown-came, span-refused, span-inside, span-came, node_row, node_end, text-asks, break-asks, node-attrs, own-asks, post_more, along_start, along_asks, along_next, along_step, along_fail, along_done}
 use Rattle.content.proofs.collect.+collect_node_collect_segments_inner_collect_span.Goals as goal
 
@@ -113,19 +114,11 @@ collect_segments_inner-collect_node-requires t c =
     let falls : 3 * (row - c.loop-k.k) + 1 < t = omega (arith, all, low, e.0, e.1) in
     (falls, n)
 
-pub collect_segments_inner-shape_of-segments-in-Refused : goal.collect_segments_inner-shape_of-segments-in-Refused
-collect_segments_inner-shape_of-segments-in-Refused t c =
-    search (rules, c.loop-k.invariant.same_cells)
-
-pub collect_segments_inner-shape_of-texts-in-Refused : goal.collect_segments_inner-shape_of-texts-in-Refused
-collect_segments_inner-shape_of-texts-in-Refused t c =
-    search (rules, c.loop-k.invariant.same_texts)
-
-pub collect_segments_inner-returns-in-Refused : goal.collect_segments_inner-returns-in-Refused
-collect_segments_inner-returns-in-Refused t c =
-    rw (to_z-of_z c.ranges.base) at
-    (along_fail c.requires c.loop-k.invariant c.loop-k-test.true c.collect_node.new.segments c.collect_node.new.texts
-    (rw c.in-Refused.is at c.collect_node.ensures))
+pub collect_segments_inner-returns-in_err-s : goal.collect_segments_inner-returns-in_err-s
+collect_segments_inner-returns-in_err-s t c =
+    rw (handed_on _ c.from_residual.ensures)
+    (rw (to_z-of_z c.ranges.base) at
+    (along_fail c.requires c.loop-k.invariant c.loop-k-test.true c.collect_node.new.segments c.collect_node.new.texts c.in_err-s.ensures))
 
 pub collect_segments_inner-overflow_mul-k : goal.collect_segments_inner-overflow_mul-k
 collect_segments_inner-overflow_mul-k t c =
@@ -156,7 +149,7 @@ collect_segments_inner-loop-k-preserved t c =
     let c₂ : length c.collect_node.new.texts ≡ length c.loop-k.texts = search rules in
     rw c.get-k.ensures
     (along_step c.requires c.loop-k.invariant c.loop-k-test.true c.collect_node.new.segments c.collect_node.new.texts
-    (rw c.in-Is.is at c.collect_node.ensures) c₁ c₂)
+    c.in_ok-s.ensures c₁ c₂)
 
 pub collect_segments_inner-shape_of-segments : goal.collect_segments_inner-shape_of-segments
 collect_segments_inner-shape_of-segments t c =
@@ -197,7 +190,7 @@ pub collect_span-wrap_with_style-requires : goal.collect_span-wrap_with_style-re
 collect_span-wrap_with_style-requires t c =
     let kind = element-kind _ _ _ _ c.requires.a_span in
     let asks = own-asks c.element_at-e.result c.requires.node kind c.element_at-e.ensures in
-    let more = post_more c.in-Is-collect_segments_inner.inner asks (rw c.in-Is-collect_segments_inner.is at c.collect_segments_inner.ensures) in
+    let more = post_more c.in_ok-inner.inner asks c.in_ok-inner.ensures in
     let wide : 98304 ≤ length c.collect_segments_inner.new.segments = search (rules, c.requires.node.roomy.wide) in (
       node-attrs c.element_at-e.result c.requires.node kind c.element_at-e.ensures,
       more.0,
@@ -206,39 +199,38 @@ collect_span-wrap_with_style-requires t c =
       c.requires.node.roomy.small,
     )
 
-pub collect_span-returns-in-Refused : goal.collect_span-returns-in-Refused
-collect_span-returns-in-Refused t c =
-    λ first w end x j.
-    let b = rw (to_z-of_z c.ranges.base) at c.begin_of.ensures in
+pub collect_span-returns-in_err-begin : goal.collect_span-returns-in_err-begin
+collect_span-returns-in_err-begin t c =
+    rw (handed_on _ c.from_residual.ensures) (λ first w end x j.
     span-refused w c.args.nodes.now c.args.attrs.now c.args.strings.now c.args.base c.args.ctx c.args.ws c.args.k x.own end first x.hi c.args.run
     x.earlier
     x.before c.args.segments.now c.args.texts.now j c.element_at-e.result c.element_at-e.ensures
     c.requires.no_break
-    c.requires.a_span x.forest (x.holds, x.rows, x.placed, x.standing, x.flag) c.in-Refused.r (λ l o. sym
-    c.in-Refused.is ∙ b l o)
+    c.requires.a_span x.forest (x.holds, x.rows, x.placed, x.standing, x.flag) _
+    (rw (to_z-of_z c.ranges.base) at c.in_err-begin.ensures))
 
-pub collect_span-returns-in-Refused-collect_segments_inner : goal.collect_span-returns-in-Refused-collect_segments_inner
-collect_span-returns-in-Refused-collect_segments_inner t c =
-    λ first w end x j.
-    let time = laws.to_z-of_z w64 c.in-Is.b.time (record { sfits = omega arith }) in
-    let b = rw (to_z-of_z c.ranges.base) at c.begin_of.ensures in
+pub collect_span-returns-in_err-inner : goal.collect_span-returns-in_err-inner
+collect_span-returns-in_err-inner t c =
+    rw (handed_on _ c.from_residual-in_err-inner.ensures) (λ first w end x j.
+    let time = laws.to_z-of_z w64 c.unwrap_or-from.result (record { sfits = omega arith }) in
     span-inside w c.args.nodes.now c.args.attrs.now c.args.strings.now c.args.base c.args.ctx c.args.ws c.args.k x.own end first x.hi c.args.run x.earlier
     x.before c.args.segments.now c.args.texts.now j c.element_at-e.result
     c.element_at-e.ensures c.requires.no_break
-    c.requires.a_span c.in-Is.b (λ l o. sym c.in-Is.is ∙ b l o) c.resolve_ws-inside.result c.resolve_ws-inside.ensures
+    c.requires.a_span c.in_ok-begin.begin c.ranges.base (rw (to_z-of_z c.ranges.base) at c.in_ok-begin.ensures)
+    c.resolve_ws-inside.result c.resolve_ws-inside.ensures
     c.collect_segments_inner.new.segments c.collect_segments_inner.new.texts x.forest (x.holds, x.rows, x.placed, x.standing, x.flag)
-    c.in-Refused-collect_segments_inner.r
-    (rw (c.in-Refused-collect_segments_inner.is, time) at c.collect_segments_inner.ensures)
+    _
+    (rw (time, c.unwrap_or-from.ensures, to_z-of_z c.ranges.base) at c.in_err-inner.ensures))
 
-pub collect_span-returns-in-Is-collect_segments_inner : goal.collect_span-returns-in-Is-collect_segments_inner
-collect_span-returns-in-Is-collect_segments_inner t c =
+pub collect_span-returns : goal.collect_span-returns
+collect_span-returns t c =
     λ first w end x j.
-    let time = laws.to_z-of_z w64 c.in-Is.b.time (record { sfits = omega arith }) in
-    let b = rw (to_z-of_z c.ranges.base) at c.begin_of.ensures in
+    let time = laws.to_z-of_z w64 c.unwrap_or-from.result (record { sfits = omega arith }) in
     span-came w c.args.nodes.now c.args.attrs.now c.args.strings.now c.args.base c.args.ctx c.args.ws c.args.k x.own end first x.hi c.args.run x.earlier
     x.before c.args.segments.now c.args.texts.now j c.element_at-e.result
     c.element_at-e.ensures c.requires.no_break
-    c.requires.a_span c.in-Is.b (λ l o. sym c.in-Is.is ∙ b l o) c.resolve_ws-inside.result c.resolve_ws-inside.ensures
-    c.collect_segments_inner.new.segments c.collect_segments_inner.new.texts x.forest (x.holds, x.rows, x.placed, x.standing, x.flag) c.in-Is-collect_segments_inner.inner
-    (rw (c.in-Is-collect_segments_inner.is, time) at c.collect_segments_inner.ensures) c.wrap_with_style.new.segments c.wrap_with_style.result
-    (rw time at c.wrap_with_style.ensures)
+    c.requires.a_span c.in_ok-begin.begin c.ranges.base (rw (to_z-of_z c.ranges.base) at c.in_ok-begin.ensures)
+    c.resolve_ws-inside.result c.resolve_ws-inside.ensures
+    c.collect_segments_inner.new.segments c.collect_segments_inner.new.texts x.forest (x.holds, x.rows, x.placed, x.standing, x.flag) c.in_ok-inner.inner
+    (rw (time, c.unwrap_or-from.ensures, to_z-of_z c.ranges.base) at c.in_ok-inner.ensures) c.wrap_with_style.new.segments c.wrap_with_style.result
+    (rw (time, c.unwrap_or-from.ensures, to_z-of_z c.ranges.base, c.is_some.ensures) at c.wrap_with_style.ensures)

@@ -1,3 +1,4 @@
+use Rattle.std.specs.Prelude.{Ok}
 use Prim.Native.Nat.{◌+◌, ◌-◌, ◌*◌, ◌≤◌, ◌<◌}
 use mathlib.Core.Path.{◌≡◌, sym, ap, ◌∙◌}
 use native.Mathlib.Omega.{arith}
@@ -7,14 +8,14 @@ use mir.Val.{to_z, of_z}
 use mir.Facts.{to_z-of_z}
 use mir.ValLaws as laws
 use borrow.Author.Rules.{rules}
+use Rattle.scan.proofs.Handed.{handed_on}
 use Rattle.content.proofs.Reading.{element-end}
 use Rattle.meaning.specs.Cues.{later}
-use Rattle.intervals.specs.declared.Moment.{Moment}
 use Rattle.intervals.specs.Steps.{moment_said}
 use Rattle.cues.specs.Steps.{five, following}
 use Rattle.cues.proofs.Walking.{child-row, child-room, child-end, child-attrs, inner_asks, container_came, div_refused, div_inside, div_came}
 use Rattle.cues.proofs.Walking.{child-div, child-p, child-unknown, walked_start, walked_row, walked_next, walked_asks}
-use Rattle.cues.proofs.Walking.{walked_pass, walked_step, walked_fail, walked_done}
+use Rattle.cues.proofs.Walking.{max-later, walked_pass, walked_step, walked_fail, walked_done}
 use borrow.Author.Rules.{rules}
 use Rattle.cues.proofs.collect.+collect_container_collect_cues_collect_div_collect_element.Goals as goal
 
@@ -102,12 +103,13 @@ collect_cues-collect_element-requires t c =
     let falls : 4 * (next - c.loop-k.k) + 2 < t = omega (arith, all, low, e.0, e.1) in
     (falls, walked_asks c.requires c.loop-k.invariant c.loop-k-test.true c.if-nodes-k-ne-ELEMENT.false)
 
-pub collect_cues-returns-in-Refused : goal.collect_cues-returns-in-Refused
-collect_cues-returns-in-Refused t c =
-    rw (to_z-of_z c.ranges.begin) at
+pub collect_cues-returns-in_err-s : goal.collect_cues-returns-in_err-s
+collect_cues-returns-in_err-s t c =
+    rw (handed_on _ c.from_residual.ensures)
+    (rw (to_z-of_z c.ranges.begin) at
     (walked_fail c.requires c.loop-k.invariant c.loop-k-test.true c.if-nodes-k-ne-ELEMENT.false
     (five c.collect_element.new.cues c.collect_element.new.times c.collect_element.new.segments c.collect_element.new.extras c.collect_element.new.texts)
-    (rw c.in-Refused.is at c.collect_element.ensures))
+    c.in_err-s.ensures))
 
 pub collect_cues-loop-k-smaller : goal.collect_cues-loop-k-smaller
 collect_cues-loop-k-smaller t c =
@@ -121,10 +123,10 @@ collect_cues-loop-k-preserved t c =
     let c₃ : length c.collect_element.new.segments ≡ length c.loop-k.segments = search rules in
     let c₄ : length c.collect_element.new.extras ≡ length c.loop-k.extras = search rules in
     let c₅ : length c.collect_element.new.texts ≡ length c.loop-k.texts = search rules in
-    let at = laws.to_z-of_z w64 c.in-Is.t.end (record { sfits = omega arith }) in
-    let last : to_z w64 (of_z w64 c.later-latest.result) ≡ later (to_z w64 c.loop-k.latest-bits) c.in-Is.t.end = laws.to_z-of_z w64 c.later-latest.result (record { sfits = omega arith }) ∙
-    (rw at at c.later-latest.ensures) in
-    let next : to_z w64 (of_z w64 c.following-reference.result) ≡ following c.args.seq (to_z w64 (of_z w64 c.args.begin)) c.in-Is.t.end =
+    let at = laws.to_z-of_z w64 c.in_ok-s.s.end (record { sfits = omega arith }) in
+    let last : to_z w64 (of_z w64 c.max-latest.result) ≡ later (to_z w64 c.loop-k.latest-bits) c.in_ok-s.s.end = laws.to_z-of_z w64 c.max-latest.result (record { sfits = omega arith }) ∙
+    (rw at at (c.max-latest.ensures.value ∙ max-later (to_z w64 c.loop-k.latest-bits) (to_z w64 (of_z w64 c.in_ok-s.s.end)))) in
+    let next : to_z w64 (of_z w64 c.following-reference.result) ≡ following c.args.seq (to_z w64 (of_z w64 c.args.begin)) c.in_ok-s.s.end =
     laws.to_z-of_z w64 c.following-reference.result (record { sfits = omega arith }) ∙ (rw at at c.following-reference.ensures) in
     rw (
       c.get-next.ensures,
@@ -134,7 +136,7 @@ collect_cues-loop-k-preserved t c =
     (walked_step c.requires c.loop-k.invariant c.loop-k-test.true c.if-nodes-k-ne-ELEMENT.false
     (five c.collect_element.new.cues c.collect_element.new.times c.collect_element.new.segments c.collect_element.new.extras c.collect_element.new.texts)
     (record { cues = c₁; times = c₂; segments = c₃; extras = c₄; texts = c₅ })
-    (rw c.in-Is.is at c.collect_element.ensures))
+    c.in_ok-s.ensures)
 
 pub collect_cues-returns : goal.collect_cues-returns
 collect_cues-returns t c =
@@ -156,31 +158,31 @@ pub collect_div-close_div-requires : goal.collect_div-close_div-requires
 collect_div-close_div-requires t c =
     child-attrs c.requires.child c.element_at-e.result c.element_at-e.ensures
 
-pub collect_div-returns-in-Refused : goal.collect_div-returns-in-Refused
-collect_div-returns-in-Refused t c =
-    let h = rw (to_z-of_z c.ranges.reference) at c.start_of.ensures in
-    div_refused _ _ _ _ _ c.args.ws _ _
+pub collect_div-returns-in_err-start : goal.collect_div-returns-in_err-start
+collect_div-returns-in_err-start t c =
+    rw (handed_on _ c.from_residual.ensures)
+    (div_refused _ _ _ _ _ c.args.ws _ _
     (five c.args.cues.now c.args.times.now c.args.segments.now c.args.extras.now c.args.texts.now)
-    c.element_at-e.result c.element_at-e.ensures c.args.reference c.in-Refused.r (λ l o. rw c.in-Refused.is at (h l o))
+    c.element_at-e.result c.element_at-e.ensures c.args.reference _ (rw (to_z-of_z c.ranges.reference) at c.in_err-start.ensures))
 
-pub collect_div-returns-in-Refused-collect_container : goal.collect_div-returns-in-Refused-collect_container
-collect_div-returns-in-Refused-collect_container t c =
-    let h = rw (to_z-of_z c.ranges.reference) at c.start_of.ensures in
-    let said = ap (λ s. moment_said (Moment.Is s)) (laws.to_z-of_z w64 c.in-Is.start (record { sfits = omega arith })) in
-    div_inside _ _ _ _ _ c.args.ws _ _
+pub collect_div-returns-in_err-inner : goal.collect_div-returns-in_err-inner
+collect_div-returns-in_err-inner t c =
+    let h = rw (to_z-of_z c.ranges.reference) at c.in_ok-start.ensures in
+    let said = ap (λ s. moment_said (Ok s)) (laws.to_z-of_z w64 c.in_ok-start.start (record { sfits = omega arith })) in
+    rw (handed_on _ c.from_residual-in_err-inner.ensures)
+    (div_inside _ _ _ _ _ c.args.ws _ _
     (five c.collect_container.new.cues c.collect_container.new.times c.collect_container.new.segments c.collect_container.new.extras c.collect_container.new.texts)
-    c.element_at-e.result c.element_at-e.ensures c.args.reference (to_z w64 (of_z w64 c.in-Is.start)) (λ l o. said ∙ (rw c.in-Is.is at (h l o))) c.in-Refused-collect_container.r
-    (rw c.in-Refused-collect_container.is at c.collect_container.ensures)
+    c.element_at-e.result c.element_at-e.ensures c.args.reference (to_z w64 (of_z w64 c.in_ok-start.start)) (λ l o. said ∙ h l o) _
+    c.in_err-inner.ensures)
 
-pub collect_div-returns-in-Is-collect_container : goal.collect_div-returns-in-Is-collect_container
-collect_div-returns-in-Is-collect_container t c =
-    let h = rw (to_z-of_z c.ranges.reference) at c.start_of.ensures in
-    let said = ap (λ s. moment_said (Moment.Is s)) (laws.to_z-of_z w64 c.in-Is.start (record { sfits = omega arith })) in
+pub collect_div-returns : goal.collect_div-returns
+collect_div-returns t c =
+    let h = rw (to_z-of_z c.ranges.reference) at c.in_ok-start.ensures in
+    let said = ap (λ s. moment_said (Ok s)) (laws.to_z-of_z w64 c.in_ok-start.start (record { sfits = omega arith })) in
     div_came _ _ _ _ _ c.args.ws _ _
     (five c.collect_container.new.cues c.collect_container.new.times c.collect_container.new.segments c.collect_container.new.extras c.collect_container.new.texts)
-    c.element_at-e.result c.element_at-e.ensures c.args.reference (to_z w64 (of_z w64 c.in-Is.start)) (λ l o. said ∙ (rw c.in-Is.is at (h l o)))
-    c.in-Is-collect_container.inner
-    (rw c.in-Is-collect_container.is at c.collect_container.ensures) c.close_div.result c.close_div.ensures
+    c.element_at-e.result c.element_at-e.ensures c.args.reference (to_z w64 (of_z w64 c.in_ok-start.start)) (λ l o. said ∙ h l o)
+    c.in_ok-inner.inner c.in_ok-inner.ensures c.close_div.result c.close_div.ensures
 
 pub collect_element-is_element-requires : goal.collect_element-is_element-requires
 collect_element-is_element-requires t c =

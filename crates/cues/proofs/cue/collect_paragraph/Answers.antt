@@ -2,6 +2,7 @@ use native.Mathlib.Omega.{arith}
 use mir.ValLaws as laws
 use mir.Facts.{to_z-of_z}
 use mir.Syntax.{w64}
+use Rattle.scan.proofs.Handed.{handed_on}
 use Rattle.cues.specs.Steps.{five}
 use Rattle.cues.proofs.Cued.{p_row, p_attrs, p_segments, p_kept, p_after, no_times, no-segments, cued}
 use Rattle.cues.proofs.cue.collect_paragraph.Goals as goal
@@ -24,10 +25,10 @@ collect_segments-requires c =
 
 pub add_paragraph-requires : goal.add_paragraph-requires
 add_paragraph-requires c =
-    let from = laws.to_z-of_z w64 c.in-Is.when.start (record { sfits = omega arith }) in
-    let post = rw (c.in-Is-collect_segments.is, from) at c.collect_segments.ensures in
-    let more = p_after c.requires c.element_at-e.result c.element_at-e.ensures c.in-Is.when.start c.args.ctx c.resolve_ws-inside.result c.collect_segments.new.segments c.collect_segments.new.texts
-    c.in-Is-collect_segments.rows post in
+    let from = laws.to_z-of_z w64 c.in_ok-when.when.start (record { sfits = omega arith }) in
+    let post = rw from at c.in_ok-rows.ensures in
+    let more = p_after c.requires c.element_at-e.result c.element_at-e.ensures c.in_ok-when.when.start c.args.ctx c.resolve_ws-inside.result c.collect_segments.new.segments c.collect_segments.new.texts
+    c.in_ok-rows.rows post in
     record {
       attrs = p_attrs c.requires c.element_at-e.result c.element_at-e.ensures;
       small = c.requires.spacious.roomy.small;
@@ -39,27 +40,29 @@ add_paragraph-requires c =
       in_extras = c.requires.spacious.extras;
     }
 
-pub returns-in-Refused : goal.returns-in-Refused
-returns-in-Refused c =
+pub returns-in_err-when : goal.returns-in_err-when
+returns-in_err-when c =
     let here = five c.args.cues.now c.args.times.now c.args.segments.now c.args.extras.now c.args.texts.now in
-    no_times c.requires c.element_at-e.result c.element_at-e.ensures c.args.reference c.args.ctx c.args.ws here c.in-Refused.r
-    (λ l o. rw (c.in-Refused.is, to_z-of_z c.ranges.reference) at (c.interval_of.ensures l o))
+    rw (handed_on _ c.from_residual.ensures)
+    (no_times c.requires c.element_at-e.result c.element_at-e.ensures c.args.reference c.args.ctx c.args.ws here _
+    (rw (to_z-of_z c.ranges.reference) at c.in_err-when.ensures))
 
-pub returns-in-Refused-collect_segments : goal.returns-in-Refused-collect_segments
-returns-in-Refused-collect_segments c =
-    let from = laws.to_z-of_z w64 c.in-Is.when.start (record { sfits = omega arith }) in
+pub returns-in_err-rows : goal.returns-in_err-rows
+returns-in_err-rows c =
+    let from = laws.to_z-of_z w64 c.in_ok-when.when.start (record { sfits = omega arith }) in
     let left = five c.args.cues.now c.args.times.now c.collect_segments.new.segments c.args.extras.now c.collect_segments.new.texts in
-    no-segments c.requires c.element_at-e.result c.element_at-e.ensures c.args.reference c.args.ctx c.args.ws left c.in-Is.when
-    (λ l o. rw (c.in-Is.is, to_z-of_z c.ranges.reference) at (c.interval_of.ensures l o)) c.resolve_ws-inside.result
+    rw (handed_on _ c.from_residual-in_err-rows.ensures)
+    (no-segments c.requires c.element_at-e.result c.element_at-e.ensures c.args.reference c.args.ctx c.args.ws left c.in_ok-when.when
+    (rw (to_z-of_z c.ranges.reference) at c.in_ok-when.ensures) c.resolve_ws-inside.result
     c.resolve_ws-inside.ensures
-    c.in-Refused-collect_segments.r (rw (c.in-Refused-collect_segments.is, from) at c.collect_segments.ensures)
+    _ (rw from at c.in_err-rows.ensures))
 
-pub returns-in-Is-collect_segments : goal.returns-in-Is-collect_segments
-returns-in-Is-collect_segments c =
-    let from = laws.to_z-of_z w64 c.in-Is.when.start (record { sfits = omega arith }) in
+pub returns : goal.returns
+returns c =
+    let from = laws.to_z-of_z w64 c.in_ok-when.when.start (record { sfits = omega arith }) in
     let left = five c.add_paragraph.new.cues c.add_paragraph.new.times c.collect_segments.new.segments c.add_paragraph.new.extras c.collect_segments.new.texts in
-    cued c.requires c.element_at-e.result c.element_at-e.ensures c.args.reference c.args.ctx c.args.ws left c.in-Is.when
-    (λ l o. rw (c.in-Is.is, to_z-of_z c.ranges.reference) at (c.interval_of.ensures l o)) c.resolve_ws-inside.result
+    cued c.requires c.element_at-e.result c.element_at-e.ensures c.args.reference c.args.ctx c.args.ws left c.in_ok-when.when
+    (rw (to_z-of_z c.ranges.reference) at c.in_ok-when.ensures) c.resolve_ws-inside.result
     c.resolve_ws-inside.ensures
-    c.in-Is-collect_segments.rows (rw (c.in-Is-collect_segments.is, from) at c.collect_segments.ensures) c.add_paragraph.result
+    c.in_ok-rows.rows (rw from at c.in_ok-rows.ensures) c.add_paragraph.result
     c.add_paragraph.ensures

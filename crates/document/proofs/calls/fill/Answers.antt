@@ -9,15 +9,15 @@ slice_bounds-write_document-end-2 c =
     sym (length-take-le _ _ c.limit-end.ensures.within)
 
 -- src/calls.rt:65:1
-pub returns-in-At : goal.returns-in-At
-returns-in-At c =
+pub returns-in-Some : goal.returns-in-Some
+returns-in-Some c =
     fit_bytes _ _ _ c.requires.1 c.limit-end.ensures _ _
-    (rw c.in-At.is at c.write_document.ensures)
+    (rw c.in-Some.is at c.write_document.ensures)
 
 -- src/calls.rt:65:1
-pub returns-in-Full : goal.returns-in-Full
-returns-in-Full c =
-    let p = rw c.in-Full.is at
+pub returns-in-None : goal.returns-in-None
+returns-in-None c =
+    let p = rw c.in-None.is at
     c.write_document.ensures in
     fit_full _ _ _ c.requires.1
     c.limit-end.ensures _ _ _ c.refused.ensures p

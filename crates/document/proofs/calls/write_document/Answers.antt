@@ -1,52 +1,42 @@
-use Rattle.writer.proofs.Chaining.{puts_then}
+-- `write_document` meets its contract.
+use Rattle.writer.proofs.Chaining.{puts_stop, puts_then}
 use Rattle.document.proofs.Whole.{whole-puts}
 use borrow.Author.Rules.{rules}
 use Rattle.document.proofs.calls.write_document.Goals as goal
 
--- src/calls.rt:46:9
-pub write_head-c-requires : goal.write_head-c-requires
-write_head-c-requires c = (
-  rw c.get-n.ensures c.requires.0.styles,
-  rw
-      c.get-m.ensures c.requires.0.regions,
-  c.write_root-b.ensures.room,
-)
+pub write_head-requires : goal.write_head-requires
+write_head-requires c =
+    (rw c.get-n.ensures c.requires.0.styles, rw c.get-m.ensures c.requires.0.regions, c.in_ok-at-2.ensures.room)
 
--- src/calls.rt:57:9
-pub get-requires : goal.get-requires
-get-requires c =
+pub get-k-requires : goal.get-k-requires
+get-k-requires c =
     let h = c.requires.0.root.head in
     search (rules, h)
 
--- src/calls.rt:48:9
-pub write_cues-e-requires : goal.write_cues-e-requires
-write_cues-e-requires c = (
-  rw c.get.ensures c.requires.0.cues,
-  c.put-d.ensures.room,
-)
+pub write_cues-requires : goal.write_cues-requires
+write_cues-requires c =
+    (rw c.get-k.ensures c.requires.0.cues, c.in_ok-at-4.ensures.room)
 
--- src/calls.rt:15:1
-pub shape_of-out : goal.shape_of-out
-shape_of-out c =
-    let p = puts_then c.put-a.ensures
-    (puts_then c.write_root-b.ensures
-    (puts_then c.write_head-c.ensures (puts_then c.put-d.ensures
-    (puts_then c.write_cues-e.ensures c.put.ensures)))) in
-    let q = p.kept in
-    search (rules, q)
+pub returns-in_err-at : goal.returns-in_err-at
+returns-in_err-at c =
+    rw c.from_residual.ensures (whole-puts _ _ _ _ _ (puts_stop _ c.in_err-at.ensures))
 
--- src/calls.rt:15:1
+pub returns-in_err-at-2 : goal.returns-in_err-at-2
+returns-in_err-at-2 c =
+    rw c.from_residual-in_err-at-2.ensures (whole-puts _ _ _ _ _ (puts_then c.in_ok-at.ensures (puts_stop _ c.in_err-at-2.ensures)))
+
+pub returns-in_err-at-3 : goal.returns-in_err-at-3
+returns-in_err-at-3 c =
+    rw c.from_residual-in_err-at-3.ensures (whole-puts _ _ _ _ _ (puts_then c.in_ok-at.ensures (puts_then c.in_ok-at-2.ensures (puts_stop _ (rw (c.get-n.ensures, c.get-m.ensures) at c.in_err-at-3.ensures)))))
+
+pub returns-in_err-at-4 : goal.returns-in_err-at-4
+returns-in_err-at-4 c =
+    rw c.from_residual-in_err-at-4.ensures (whole-puts _ _ _ _ _ (puts_then c.in_ok-at.ensures (puts_then c.in_ok-at-2.ensures (puts_then (rw (c.get-n.ensures, c.get-m.ensures) at c.in_ok-at-3.ensures) (puts_stop _ c.in_err-at-4.ensures)))))
+
+pub returns-in_err-at-5 : goal.returns-in_err-at-5
+returns-in_err-at-5 c =
+    rw c.from_residual-in_err-at-5.ensures (whole-puts _ _ _ _ _ (puts_then c.in_ok-at.ensures (puts_then c.in_ok-at-2.ensures (puts_then (rw (c.get-n.ensures, c.get-m.ensures) at c.in_ok-at-3.ensures) (puts_then c.in_ok-at-4.ensures (puts_stop _ (rw c.get-k.ensures at c.in_err-at-5.ensures)))))))
+
 pub returns : goal.returns
 returns c =
-    let h = rw (
-      c.get-n.ensures,
-      c.get-m.ensures,
-    ) at
-    c.write_head-c.ensures in
-    let l = rw c.get.ensures at
-    c.write_cues-e.ensures in
-    whole-puts _ _ _ _ _
-    (puts_then c.put-a.ensures
-    (puts_then c.write_root-b.ensures
-    (puts_then h (puts_then c.put-d.ensures
-    (puts_then l c.put.ensures)))))
+    whole-puts _ _ _ _ _ (puts_then c.in_ok-at.ensures (puts_then c.in_ok-at-2.ensures (puts_then (rw (c.get-n.ensures, c.get-m.ensures) at c.in_ok-at-3.ensures) (puts_then c.in_ok-at-4.ensures (puts_then (rw c.get-k.ensures at c.in_ok-at-5.ensures) c.put-3.ensures)))))

@@ -1,37 +1,41 @@
-use Rattle.writer.proofs.Chaining.{puts_then}
 use native.Mathlib.Omega.{arith}
-use Rattle.writer.proofs.Rowing.{rowed_start, rowed_step, rowed_done, rowed_full}
-use Rattle.writer.proofs.Rowing.{lines-over}
+use Rattle.writer.proofs.Chaining.{puts_stop, puts_then}
+use Rattle.writer.proofs.Rowing.{rowed_start, rowed_step, rowed_stop, rowed_done, lines-over}
 use Rattle.document.proofs.regions.write_regions.Goals as goal
 
 pub loop-i-init : goal.loop-i-init
 loop-i-init c =
     rowed_start _ _ _ _ _ c.requires.1
 
-pub returns-then-is_full : goal.returns-then-is_full
-returns-then-is_full c =
-    rw (lines-over _ _ c.args.n 0)
-    (rowed_full _ _ _ _ _ _ _ _ c.loop-i.invariant (c.is_full.ensures c.if-is_full.true))
-
-pub put-a-requires : goal.put-a-requires
-put-a-requires c =
+pub put-requires : goal.put-requires
+put-requires c =
     c.loop-i.invariant.puts.room
 
-pub write_region-b-requires : goal.write_region-b-requires
-write_region-b-requires c = (
-  c.requires.0 c.loop-i.i
-      c.loop-i-test.true,
-  c.put-a.ensures.room,
-)
+pub write_region-requires : goal.write_region-requires
+write_region-requires c =
+    (c.requires.0 c.loop-i.i c.loop-i-test.true, c.in_ok-at.ensures.room)
+
+pub returns-in_err-at : goal.returns-in_err-at
+returns-in_err-at c =
+    rw (c.from_residual.ensures, lines-over _ _ c.args.n 0)
+    (rowed_stop _ _ _ _ _ _ _ _ c.loop-i.invariant (omega (arith, c.loop-i-test.true)) _ (puts_stop _ c.in_err-at.ensures))
+
+pub returns-in_err-at-2 : goal.returns-in_err-at-2
+returns-in_err-at-2 c =
+    rw (c.from_residual-in_err-at-2.ensures, lines-over _ _ c.args.n 0)
+    (rowed_stop _ _ _ _ _ _ _ _ c.loop-i.invariant (omega (arith, c.loop-i-test.true)) _
+    (puts_then c.in_ok-at.ensures (puts_stop _ c.in_err-at-2.ensures)))
+
+pub returns-in_err-at-3 : goal.returns-in_err-at-3
+returns-in_err-at-3 c =
+    rw (c.from_residual-in_err-at-3.ensures, lines-over _ _ c.args.n 0)
+    (rowed_stop _ _ _ _ _ _ _ _ c.loop-i.invariant (omega (arith, c.loop-i-test.true)) _
+    (puts_then c.in_ok-at.ensures (puts_then c.in_ok-at-2.ensures c.in_err-at-3.ensures)))
 
 pub loop-i-preserved : goal.loop-i-preserved
 loop-i-preserved c =
-    rowed_step _ _ _ _ _ _ _ _ c.loop-i.invariant (omega (
-      arith,
-      c.loop-i-test.true,
-    )) _ _
-    (puts_then c.put-a.ensures
-    (puts_then c.write_region-b.ensures c.put-to.ensures))
+    rowed_step _ _ _ _ _ _ _ _ c.loop-i.invariant (omega (arith, c.loop-i-test.true)) _ _
+    (puts_then c.in_ok-at.ensures (puts_then c.in_ok-at-2.ensures c.in_ok-at-3.ensures))
 
 pub returns : goal.returns
 returns c =

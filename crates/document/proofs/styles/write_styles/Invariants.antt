@@ -1,4 +1,4 @@
-use Prim.Native.Nat.{ℕ, ◌-◌}
+use Rattle.std.specs.Prelude.{Some, ℕ}
 use Rattle.track.specs.Tables.{rows_from}
 use Rattle.track.specs.Meaning.{style_in}
 use Rattle.written.specs.Written.{style_text}
@@ -9,7 +9,4 @@ use Rattle.document.proofs.styles.write_styles.Given as goal
 
 abbrev pub invariant-loop-i : goal.invariant-loop-i
 invariant-loop-i l = let T = style_tables l.styles l.sizes l.extras l.strings in
-    Rowed (line_of (λ (j : ℕ). style_text (rows_from (style_in T) l.n 0) (style_in T j))) 0 l.n l.initial.to l.initial.out l.i l.to l.out
-
-abbrev pub decreases-loop-i : goal.decreases-loop-i
-decreases-loop-i l = l.n - l.i
+    Rowed (line_of (λ (j : ℕ). style_text (rows_from (style_in T) l.n 0) (style_in T j))) 0 l.n (Some l.initial.at) l.initial.out l.i (Some l.at) l.out

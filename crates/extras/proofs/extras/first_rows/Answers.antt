@@ -33,10 +33,6 @@ note-requires c =
     number_fits c.args.list (name_at c.args.attrs.now c.args.strings.now c.loop-k.k) c.loop-k.rows (omega
     (arith, c.loop-k.invariant.0, c.requires.1)) c.number_at-number.result c.number_at-number.ensures
 
-pub overflow_add-k-in-loop-k : goal.overflow_add-k-in-loop-k
-overflow_add-k-in-loop-k c =
-    omega (arith, (row_fits c.requires.0 (λ l y. (c.loop-k.invariant.2 l y).rest) c.loop-k-test.true).0)
-
 pub loop-k-preserved : goal.loop-k-preserved
 loop-k-preserved c =
     let own = c.requires.0 in

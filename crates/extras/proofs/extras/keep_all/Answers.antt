@@ -10,7 +10,7 @@ use Rattle.extras.proofs.extras.keep_all.Goals as goal
 
 pub loop-i-init : goal.loop-i-init
 loop-i-init c =
-    (refl, (λ l w. kept_start _ _ _ _), omega arith)
+    (refl, λ l w. kept_start _ _ _ _)
 
 pub offset_bounds-rows-i : goal.offset_bounds-rows-i
 offset_bounds-rows-i c =
@@ -64,7 +64,6 @@ loop-i-preserved c =
       λ l w. kept_on (c.loop-i.invariant.1 l w) here c.args.strings.now c.kept_attr-found.result c.kept_attr-found.ensures.found_fits
           (entry-extra c.args.attrs.now c.args.strings.now c.args.rows.now c.args.list l c.loop-i.i w here
           c.kept_attr-found.ensures.value) _ c.keep-n.ensures.value _ c.keep-n.ensures.extras_after,
-      omega (arith, c.loop-i-test.true),
     )
 
 pub shape_of-extras : goal.shape_of-extras
@@ -75,4 +74,4 @@ pub returns : goal.returns
 returns c =
     let none = c.requires.2 in
     λ l w. kept_all (c.loop-i.invariant.1 l w) c.args.attrs.now c.args.strings.now c.args.rows.now w
-    (omega (arith, none.0, c.loop-i.invariant.2)) (λ j g. none.1 j (omega (arith, c.loop-i-test.false)))
+    (omega (arith, none.0)) (λ j g. none.1 j (omega (arith, c.loop-i-test.false)))

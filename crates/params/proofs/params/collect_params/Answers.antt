@@ -25,23 +25,14 @@ add_at-requires c =
       omega (arith, c.loop-k.invariant.0, c.requires.2),
     )
 
-pub shape_of-params-in-Full : goal.shape_of-params-in-Full
-shape_of-params-in-Full c =
-    let a = rw c.in-Full.is at c.add_at.ensures in
-    ap length a.1 ∙ c.loop-k.invariant.0
-
-pub returns-in-Full : goal.returns-in-Full
-returns-in-Full c =
-    let a = rw c.in-Full.is at c.add_at.ensures in
-    λ l y. listing_full (c.loop-k.invariant.2 l y) c.loop-k-test.true a.0 c.loop-k.invariant.1 _ a.1 a.2
-
-pub overflow_add-k : goal.overflow_add-k
-overflow_add-k c =
-    omega (arith, (row_fits c.requires.0 (λ l y. (c.loop-k.invariant.2 l y).rest) c.loop-k-test.true).0)
+pub returns-in_err-n : goal.returns-in_err-n
+returns-in_err-n c =
+    let a = c.in_err-n.ensures in
+    rw c.from_residual.ensures (λ l y. listing_full (c.loop-k.invariant.2 l y) c.loop-k-test.true a.0 c.loop-k.invariant.1 _ a.1 a.2)
 
 pub loop-k-preserved : goal.loop-k-preserved
 loop-k-preserved c =
-    let a = rw c.in-Next.is at c.add_at.ensures in
+    let a = c.in_ok-n.ensures in
     let row = placed_params (params_at c.args.attrs.now c.args.strings.now c.loop-k.k) in (
       ap length a.2 ∙ (length-sets c.loop-k.params (c.loop-k.n * 4) row ∙ c.loop-k.invariant.0),
       a.1 c.loop-k.invariant.1,

@@ -26,10 +26,6 @@ returns-then-is_row c =
     λ l y. sought_here (sought_by c.args.sought c.args.name.now) (c.loop-k.invariant l y) c.loop-k-test.true _ c.attr_at.ensures
     (sym c.is_row.ensures ∙ c.if-is_row.true)
 
-pub overflow_add-k : goal.overflow_add-k
-overflow_add-k c =
-    omega (arith, (row_fits c.requires c.loop-k.invariant c.loop-k-test.true).0)
-
 pub loop-k-preserved : goal.loop-k-preserved
 loop-k-preserved c =
     λ l y. sought_next (sought_by c.args.sought c.args.name.now) (c.loop-k.invariant l y) c.loop-k-test.true

@@ -20,10 +20,6 @@ pub returns-then-is_shown : goal.returns-then-is_shown
 returns-then-is_shown c =
     λ l y. sym (asked_here (c.loop-k.invariant l y) c.loop-k-test.true (sym c.is_shown.ensures ∙ c.if-is_shown.true))
 
-pub overflow_add-k : goal.overflow_add-k
-overflow_add-k c =
-    omega (arith, (row_fits c.requires c.loop-k.invariant c.loop-k-test.true).0)
-
 pub loop-k-preserved : goal.loop-k-preserved
 loop-k-preserved c =
     λ l y. asked-next (c.loop-k.invariant l y) c.loop-k-test.true (sym c.is_shown.ensures ∙ c.if-is_shown.false)

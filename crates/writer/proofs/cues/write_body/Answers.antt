@@ -1,10 +1,19 @@
 -- `write_body` meets its contract.
+use Rattle.writer.proofs.Chaining.{puts_stop, puts_then}
 use Rattle.writer.specs.Cues.{body_text}
-use Rattle.writer.proofs.Chaining.{puts_then}
 use Rattle.writer.proofs.cues.write_body.Goals as goal
+
+pub returns-in_err-at : goal.returns-in_err-at
+unfolding body_text
+returns-in_err-at c =
+    rw c.from_residual.ensures (puts_stop _ c.in_err-at.ensures)
+
+pub returns-in_err-at-2 : goal.returns-in_err-at-2
+unfolding body_text
+returns-in_err-at-2 c =
+    rw c.from_residual-in_err-at-2.ensures (puts_then c.in_ok-at.ensures (puts_stop _ c.in_err-at-2.ensures))
 
 pub returns : goal.returns
 unfolding body_text
 returns c =
-    puts_then c.put-a.ensures
-    (puts_then c.write_segments-b.ensures c.put.ensures)
+    puts_then c.in_ok-at.ensures (puts_then c.in_ok-at-2.ensures c.put-2.ensures)

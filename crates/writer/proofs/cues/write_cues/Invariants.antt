@@ -1,5 +1,5 @@
 -- `write_cues` meets its contract.
-use Prim.Native.Nat.{ℕ, ◌-◌}
+use Rattle.std.specs.Prelude.{Some, ℕ}
 use Rattle.writer.proofs.Rowing.{Rowed}
 use Rattle.writer.specs.Rows.{line_of}
 use Rattle.track.specs.Meaning.{cue_in}
@@ -9,7 +9,4 @@ use Rattle.writer.proofs.cues.write_cues.Given as goal
 
 abbrev pub invariant-loop-i : goal.invariant-loop-i
 invariant-loop-i l = Rowed
-    (line_of (λ (j : ℕ). cue_text (cue_in (cue_tables l.cues l.times l.segments l.extras l.strings l.texts) j))) 0 l.n l.initial.to l.initial.out l.i l.to l.out
-
-abbrev pub decreases-loop-i : goal.decreases-loop-i
-decreases-loop-i l = l.n - l.i
+    (line_of (λ (j : ℕ). cue_text (cue_in (cue_tables l.cues l.times l.segments l.extras l.strings l.texts) j))) 0 l.n (Some l.initial.at) l.initial.out l.i (Some l.at) l.out

@@ -1,5 +1,5 @@
 -- `rgba_attr` meets its contract.
-use Rattle.writer.proofs.Chaining.{puts_none, puts_then}
+use Rattle.writer.proofs.Chaining.{puts_whole, puts_none, puts_stop, puts_then}
 use borrow.Author.Tests.{not-true, not-false}
 use Rattle.writer.proofs.pieces.rgba_attr.Goals as goal
 
@@ -7,7 +7,14 @@ pub returns-then-not-has : goal.returns-then-not-has
 returns-then-not-has c =
     rw (not-true c.args.has c.if-not-has.true-raw) (puts_none _ _ c.requires)
 
+pub returns-in_err-at : goal.returns-in_err-at
+returns-in_err-at c =
+    rw c.from_residual.ensures (rw (not-false c.args.has c.if-not-has.false-raw) (puts_stop _ c.in_err-at.ensures))
+
+pub returns-in_err-at-2 : goal.returns-in_err-at-2
+returns-in_err-at-2 c =
+    rw c.from_residual-in_err-at-2.ensures (rw (not-false c.args.has c.if-not-has.false-raw) (puts_then c.in_ok-at.ensures (puts_stop _ (puts_whole _ _ _ _ _ c.in_ok-at.ensures.room c.in_err-at-2.ensures))))
+
 pub returns : goal.returns
 returns c =
-    rw (not-false c.args.has c.if-not-has.false-raw) (puts_then c.put-a.ensures
-    (puts_then c.put_rgba-b.ensures c.put.ensures))
+    rw (not-false c.args.has c.if-not-has.false-raw) (puts_then c.in_ok-at.ensures (puts_then (puts_whole _ _ _ _ _ c.in_ok-at.ensures.room c.in_ok-at-2.ensures) c.put-2.ensures))

@@ -1,6 +1,6 @@
 -- `write_segments` and `write_one_segment` meet their contracts. The measure is twice the room, and which of the two writes. The loop over
 -- siblings is `Spanning`. Assumes nothing.
-use Prim.Native.Nat.{◌+◌, ◌-◌, ◌*◌}
+use Rattle.std.specs.Prelude.{Some, ◌+◌, ◌-◌, ◌*◌}
 use Rattle.writer.proofs.Spanning.{Spanning}
 use Rattle.writer.proofs.segments.+write_one_segment_write_segments.Given as goal
 
@@ -12,7 +12,7 @@ decreases-write_segments l = 2 * l.room + 1
 
 abbrev pub invariant-write_segments-loop-i : goal.invariant-write_segments-loop-i
 invariant-write_segments-loop-i l =
-    Spanning l.segments l.strings l.texts l.from l.n l.room l.initial.to l.initial.out l.i l.to l.out l.inside
+    Spanning l.segments l.strings l.texts l.from l.n l.room (Some l.initial.at) l.initial.out l.i (Some l.at) l.out l.inside
 
 abbrev pub decreases-write_segments-loop-i : goal.decreases-write_segments-loop-i
 decreases-write_segments-loop-i l =

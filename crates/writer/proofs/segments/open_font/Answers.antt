@@ -1,10 +1,24 @@
 -- `open_font` meets its contract.
+use Rattle.writer.proofs.Chaining.{puts_stop, puts_then}
 use Rattle.writer.specs.Spans.{font_text}
-use Rattle.writer.proofs.Chaining.{puts_then}
 use Rattle.writer.proofs.segments.open_font.Goals as goal
+
+pub returns-in_err-at : goal.returns-in_err-at
+unfolding font_text
+returns-in_err-at c =
+    rw c.from_residual.ensures (puts_stop _ c.in_err-at.ensures)
+
+pub returns-in_err-at-2 : goal.returns-in_err-at-2
+unfolding font_text
+returns-in_err-at-2 c =
+    rw c.from_residual-in_err-at-2.ensures (puts_then c.in_ok-at.ensures (puts_stop _ c.in_err-at-2.ensures))
+
+pub returns-in_err-at-3 : goal.returns-in_err-at-3
+unfolding font_text
+returns-in_err-at-3 c =
+    rw c.from_residual-in_err-at-3.ensures (puts_then c.in_ok-at.ensures (puts_then c.in_ok-at-2.ensures (puts_stop _ c.in_err-at-3.ensures)))
 
 pub returns : goal.returns
 unfolding font_text
 returns c =
-    puts_then c.put-a.ensures (puts_then c.optional_attr-b.ensures (puts_then c.size_attr-c.ensures
-    c.put.ensures))
+    puts_then c.in_ok-at.ensures (puts_then c.in_ok-at-2.ensures (puts_then c.in_ok-at-3.ensures c.put-2.ensures))

@@ -1,7 +1,7 @@
 -- `open_segment` meets its contract.
 use Rattle.scan.specs.Part.{string_at}
 use Rattle.writer.specs.Spans.{open_text}
-use Rattle.writer.proofs.Chaining.{puts_none, puts_then}
+use Rattle.writer.proofs.Chaining.{puts_at, puts_none, puts_stop, puts_then}
 use Prim.Native.Nat.{◌+◌, ◌≤◌}
 use native.Mathlib.Omega.{arith}
 use lib.ListN.{length}
@@ -14,8 +14,8 @@ overflow_add-end c =
     c.in-Text.is at c.requires.1 in
     search (rules, h)
 
-pub slice_bounds-put_text-end : goal.slice_bounds-put_text-end
-slice_bounds-put_text-end c =
+pub slice_bounds-escape_text-end : goal.slice_bounds-escape_text-end
+slice_bounds-escape_text-end c =
     let h : c.in-Text.x.place + c.in-Text.x.len ≤ length c.args.texts.now = rw c.in-Text.is at c.requires.1 in
     omega (arith, h)
 
@@ -26,7 +26,7 @@ open_font-requires c =
 pub returns-in-Text : goal.returns-in-Text
 unfolding open_text string_at
 returns-in-Text c =
-    rw c.in-Text.is c.put_text.ensures
+    rw c.in-Text.is (puts_at _ _ _ _ _ c.escape_text.ensures)
 
 pub returns-in-Break : goal.returns-in-Break
 unfolding open_text
@@ -58,10 +58,15 @@ unfolding open_text
 returns-in-Strike c =
     rw c.in-Strike.is c.put-in-Strike.ensures
 
-pub returns-in-Color : goal.returns-in-Color
+pub returns-in_err-at-in-Color : goal.returns-in_err-at-in-Color
 unfolding open_text
-returns-in-Color c =
-    rw c.in-Color.is (puts_then c.rgb_attr-a.ensures c.put-in-Color.ensures)
+returns-in_err-at-in-Color c =
+    rw (c.in-Color.is, c.from_residual.ensures) (puts_stop _ c.in_err-at-in-Color.ensures)
+
+pub returns-in_ok-at-in-Color : goal.returns-in_ok-at-in-Color
+unfolding open_text
+returns-in_ok-at-in-Color c =
+    rw c.in-Color.is (puts_then c.in_ok-at-in-Color.ensures c.put-in-Color.ensures)
 
 pub returns-in-Font : goal.returns-in-Font
 unfolding open_text

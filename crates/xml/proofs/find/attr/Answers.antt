@@ -24,10 +24,6 @@ returns-then-is_attr c =
     let e = sym c.is_attr.ensures ∙ c.if-is_attr.true in
     λ l y. rw c.attr_at.ensures (value-here c.args.name.now (c.loop-k.invariant l y) c.loop-k-test.true e)
 
-pub overflow_add-k : goal.overflow_add-k
-overflow_add-k c =
-    omega (arith, (row_fits c.requires c.loop-k.invariant c.loop-k-test.true).0)
-
 pub loop-k-preserved : goal.loop-k-preserved
 loop-k-preserved c =
     let e = sym c.is_attr.ensures ∙ c.if-is_attr.false in
