@@ -9,7 +9,7 @@
 --     content_asks, content_no, content_ready, content_left               the content of a p
 use Rattle.std.specs.Prelude as rust
 use Rattle.std.specs.Prelude.{Some, None, Result, Ok, Err}
-use Rattle.std.specs.Option.{ok_or, unwrap_or}
+use Rattle.std.specs.Option.{unwrap_or}
 use Rattle.std.specs.Option as has
 use Prim.Native.Nat.{ℕ, suc, ◌+◌, ◌-◌, ◌*◌, ◌≤◌, ◌<◌}
 use mathlib.Core.Path.{◌≡◌, refl, sym, ap, ◌∙◌, subst}
@@ -61,7 +61,7 @@ use Rattle.inline.specs.Wraps.{stamped_if}
 use Rattle.inline.proofs.Spanning.{stamped-if}
 use Rattle.inline.proofs.TrimStands.{rows-ready}
 use Rattle.content.specs.declared.collect.Run.{Run}
-use Rattle.content.specs.Steps.{Roomy, Frame, Standing, Given, node_place, TextGiven, BreakGiven, SpanGiven, moment_said, beginning, begin_from}
+use Rattle.content.specs.Steps.{Roomy, Frame, Standing, Given, node_place, TextGiven, BreakGiven, SpanGiven, beginning, begin_from}
 use Rattle.content.specs.Steps.{Entry, meant, behind, Came, Outcome, AsksNode, NodePost, Asks, Post, Content, AsksContent, ContentPost, Ends}
 use Rattle.content.proofs.Giving.{ended-standing}
 use Rattle.content.proofs.Standings.{rows-together, standing-count, own_frame, standing-own, standing-join}
@@ -143,11 +143,6 @@ sum-none place base f = ap (sum_answer place) (ap checked (plus-none base) ∙ c
     plus-none : (z : ℤ) → z +ℤ pos 0 ≡ z
     plus-none (pos n) = rw (add-zero n)
     plus-none (negsuc n) = rw (le-leb 1 (suc n) (omega arith)) (ap negsuc (omega arith))
-
--- the sum, or 16
-pub said_or : (x : rust.Option ℤ) (place : ℕ) → moment_said (ok_or x (record { number = 16; place = place })) ≡ sum_answer place x
-said_or (Some z) place = refl
-said_or None place = refl
 
 summed : (b : rust.Option ℤ) (base : ℤ) (a : Answer ℤ) → Ok b ≡ beginning a → (a ≡ is (unwrap_or b base)) × (has.is_some b ≡ true)
 summed b base (is t) e =

@@ -110,11 +110,6 @@ SpanGiven (is ws) place first n flag stamp time s y s' r =
     (hi : ℕ) → Given place first n hi hi flag (λ c. stamped_if stamp time (span_of ws c)) s y s' y r
 SpanGiven (refused i p) place first n flag stamp time s y s' r = r ≡ Err (record { number = i; place = p })
 
--- a sum of times
-abbrev pub moment_said : Result ℤ Refusal → Answer ℤ
-moment_said (Ok z) = is z
-moment_said (Err r) = refused r.number r.place
-
 -- when a span begins, if its begin is a time
 abbrev pub beginning : Answer ℤ → Result (rust.Option ℤ) Refusal
 beginning (is z) = Ok (Some z)

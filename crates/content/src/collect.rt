@@ -3,19 +3,20 @@ ghost use Rattle.std.specs.Prelude.{◌≡◌, List, ℕ, ◌+◌, ◌-◌, ◌*
 ghost use Rattle.scan.specs.Part.{string_at};
 ghost use Rattle.meaning.specs.Kinds.{with_places};
 ghost use Rattle.meaning.specs.Words.{ascii};
-ghost use Rattle.meaning.specs.Timing.{sum, time_of};
+ghost use Rattle.meaning.specs.Timing.{time_of};
 ghost use Rattle.meaning.specs.Styling.{wrappers_of};
-ghost use Rattle.styling.specs.Posts.{HasRows, OfRows, wrappers_in};
+ghost use Rattle.styling.specs.Posts.{Of, wrappers_in};
 ghost use Rattle.inline.specs.Trims.{Ready};
 ghost use Rattle.inline.specs.Wraps.{wrappers_from};
 ghost use Rattle.content.specs.Steps.{Wide, Roomy, added_in, node_place, Writes, TextGiven, Ends, BreakGiven, wrappers_by, SpanGiven};
-ghost use Rattle.content.specs.Steps.{moment_said, begin_from, AsksNode, NodePost, AsksSpan, SpanPost, Asks, Post, AsksContent, ContentPost};
+ghost use Rattle.content.specs.Steps.{begin_from, AsksNode, NodePost, AsksSpan, SpanPost, Asks, Post, AsksContent, ContentPost};
 
 use inline::{Collapsed, Wrappers};
 use styling::WsMode;
 use times::TimingCtx;
 use track::Span;
 use tree::{ELEMENT, NODE_CELLS, Refusal, SECTION};
+use xml::{Attributes, Tree};
 
 // How many rows of segments there are, and whether what follows stands at a boundary.
 #[derive(Clone, Copy)]
@@ -68,22 +69,21 @@ fn write_text(
 
 // A text or a section: what is left of it is one row, unless that is nothing.
 fn collect_text(
-    nodes: &[u32],
-    strings: &[u8],
+    tree: &Tree<'_>,
     segments: &mut [u32],
     texts: &mut [u8],
     k: usize,
     ws: WsMode,
     run: Run,
 ) -> Result<Run, Refusal>
-    requires { Roomy strings.now segments.old texts.old × (run.rows ≤ 16384) × (k * 6 + 6 ≤ length nodes.now)
-        × (get_or nodes.now (k * 6 + 2) 0 + get_or nodes.now (k * 6 + 3) 0 ≤ length strings.now) }
-    ensures { TextGiven nodes.now strings.now k ws run
+    requires { Roomy tree.now.strings.now segments.old texts.old × (run.rows ≤ 16384) × (k * 6 + 6 ≤ length tree.now.nodes.now)
+        × (get_or tree.now.nodes.now (k * 6 + 2) 0 + get_or tree.now.nodes.now (k * 6 + 3) 0 ≤ length tree.now.strings.now) }
+    ensures { TextGiven tree.now.nodes.now tree.now.strings.now k ws run
         segments.old texts.old segments.new texts.new result }
 {
-    let place = scan::get(nodes, k * NODE_CELLS + 2);
-    let len = scan::get(nodes, k * NODE_CELLS + 3);
-    let c = write_text(strings, texts, place, len, ws, run.boundary);
+    let place = scan::get(tree.nodes, k * NODE_CELLS + 2);
+    let len = scan::get(tree.nodes, k * NODE_CELLS + 3);
+    let c = write_text(tree.strings, texts, place, len, ws, run.boundary);
     if c.len == 0 {
         return Ok(Run {
             rows: run.rows,
@@ -92,7 +92,7 @@ fn collect_text(
     }
     let text = Span { place, len: c.len };
     let a = records::add_text(segments, run.rows, text);
-    added(a, c.boundary, node_place(nodes, k))
+    added(a, c.boundary, node_place(tree.nodes, k))
 }
 
 // In collapse mode the segments in the rows from `first` up to `end` lose a space at their end.
@@ -144,47 +144,36 @@ pub fn around(w: styling::Wrappers) -> Wrappers
 
 // A span whose content stands in the rows from `first` on: its timestamp and its wrappers before them.
 fn wrap_with_style(
-    attrs: &[u32],
-    strings: &[u8],
+    attrs: &Attributes<'_>,
     segments: &mut [u32],
-    e: xml::Element,
+    place: usize,
     first: usize,
     inner: Run,
     stamp: bool,
     time: i64,
 ) -> Result<Run, Refusal>
-    requires { HasRows attrs.now strings.now e.first e.many × (first ≤ inner.rows) × (inner.rows ≤ 16384)
-        × Wide segments.old × (length strings.now < 2 ^ 32) }
-    ensures { OfRows attrs.now strings.now e.first e.many (λ l. (y : List ℕ)
-        → SpanGiven (wrappers_of with_places l) e.place first inner.rows inner.boundary stamp time
+    requires { (first ≤ inner.rows) × (inner.rows ≤ 16384) × Wide segments.old × (length attrs.now.strings.now < 2 ^ 32) }
+    ensures { Of attrs.now (λ l. (y : List ℕ)
+        → SpanGiven (wrappers_of with_places l) place first inner.rows inner.boundary stamp time
         segments.old y segments.new result) }
 {
-    let w = styling::wrappers_of(attrs, strings, e.first, e.many)?;
+    let w = styling::wrappers_of(attrs)?;
     let a = inline::put_span(segments, first, inner.rows, stamp, time, around(w));
-    added(a, inner.boundary, e.place)
-}
-
-// The sum, or 16 at the element.
-fn counted(base: i64, begin: i64, place: usize) -> Result<i64, Refusal>
-    ensures { moment_said result ≡ sum place base begin }
-{
-    times::add(base, begin).ok_or(Refusal { number: 16, place })
+    added(a, inner.boundary, place)
 }
 
 // When a span begins: its own begin, if that is a time, counted from `base`.
 fn begin_of(
-    attrs: &[u32],
-    strings: &[u8],
-    e: xml::Element,
+    attrs: &Attributes<'_>,
+    place: usize,
     base: i64,
     ctx: TimingCtx,
 ) -> Result<Option<i64>, Refusal>
-    requires { HasRows attrs.now strings.now e.first e.many }
-    ensures { OfRows attrs.now strings.now e.first e.many (λ l.
-        result ≡ begin_from e.place base (time_of with_places ctx e.place (ascii "begin") l)) }
+    ensures { Of attrs.now (λ l.
+        result ≡ begin_from place base (time_of with_places ctx place (ascii "begin") l)) }
 {
-    match styling::time_attr(attrs, strings, e.first, e.many, b"begin", ctx, e.place)? {
-        Some(begin) => Ok(Some(counted(base, begin, e.place)?)),
+    match styling::time_attr(attrs, b"begin", ctx, place)? {
+        Some(begin) => Ok(Some(styling::add_times(base, begin, place)?)),
         None => Ok(None),
     }
 }
@@ -192,9 +181,7 @@ fn begin_of(
 // Node k, and what stands inside it. `first` is the first row that its earlier siblings gave.
 #[cycle(collect_node_collect_segments_inner_collect_span)]
 fn collect_node(
-    nodes: &[u32],
-    attrs: &[u32],
-    strings: &[u8],
+    tree: &Tree<'_>,
     segments: &mut [u32],
     texts: &mut [u8],
     k: usize,
@@ -204,43 +191,27 @@ fn collect_node(
     first: usize,
     run: Run,
 ) -> Result<Run, Refusal>
-    requires { AsksNode nodes.now attrs.now strings.now k first run segments.old texts.old }
-    ensures { NodePost nodes.now attrs.now strings.now k first run base ctx ws
+    requires { AsksNode tree.now.nodes.now tree.now.attrs.now tree.now.strings.now k first run segments.old texts.old }
+    ensures { NodePost tree.now.nodes.now tree.now.attrs.now tree.now.strings.now k first run base ctx ws
         segments.old texts.old segments.new texts.new result }
 {
-    if nodes[k * NODE_CELLS] != ELEMENT {
-        return collect_text(nodes, strings, segments, texts, k, ws, run);
+    if tree.nodes[k * NODE_CELLS] != ELEMENT {
+        return collect_text(tree, segments, texts, k, ws, run);
     }
-    let e = xml::element_at(nodes, k);
-    if xml::is_element(nodes, strings, k, b"br") {
+    let e = xml::element_at(tree.nodes, k);
+    if xml::is_element(tree.nodes, tree.strings, k, b"br") {
         return collect_break(segments, texts, e.place, ws, first, run.rows);
     }
-    if xml::is_element(nodes, strings, k, b"span") {
-        return collect_span(
-            nodes, attrs, strings, segments, texts, k, base, ctx, ws, run,
-        );
+    if xml::is_element(tree.nodes, tree.strings, k, b"span") {
+        return collect_span(tree, segments, texts, k, base, ctx, ws, run);
     }
-    collect_segments_inner(
-        nodes,
-        attrs,
-        strings,
-        segments,
-        texts,
-        k + 1,
-        e.end,
-        base,
-        ctx,
-        ws,
-        run,
-    )
+    collect_segments_inner(tree, segments, texts, k + 1, e.end, base, ctx, ws, run)
 }
 
 // A span in row k.
 #[cycle(collect_node_collect_segments_inner_collect_span)]
 fn collect_span(
-    nodes: &[u32],
-    attrs: &[u32],
-    strings: &[u8],
+    tree: &Tree<'_>,
     segments: &mut [u32],
     texts: &mut [u8],
     k: usize,
@@ -249,18 +220,17 @@ fn collect_span(
     ws: WsMode,
     run: Run,
 ) -> Result<Run, Refusal>
-    requires { AsksSpan nodes.now attrs.now strings.now k run segments.old texts.old }
-    ensures { SpanPost nodes.now attrs.now strings.now k run base ctx ws
+    requires { AsksSpan tree.now.nodes.now tree.now.attrs.now tree.now.strings.now k run segments.old texts.old }
+    ensures { SpanPost tree.now.nodes.now tree.now.attrs.now tree.now.strings.now k run base ctx ws
         segments.old texts.old segments.new texts.new result }
 {
-    let e = xml::element_at(nodes, k);
-    let begin = begin_of(attrs, strings, e, base, ctx)?;
+    let e = xml::element_at(tree.nodes, k);
+    let attrs = tree.attributes(e);
+    let begin = begin_of(&attrs, e.place, base, ctx)?;
     let from = begin.unwrap_or(base);
-    let inside = styling::resolve_ws(attrs, strings, e.first, e.many, ws);
+    let inside = styling::resolve_ws(&attrs, ws);
     let inner = collect_segments_inner(
-        nodes,
-        attrs,
-        strings,
+        tree,
         segments,
         texts,
         k + 1,
@@ -271,10 +241,9 @@ fn collect_span(
         run,
     )?;
     wrap_with_style(
-        attrs,
-        strings,
+        &attrs,
         segments,
-        e,
+        e.place,
         run.rows,
         inner,
         begin.is_some(),
@@ -285,9 +254,7 @@ fn collect_span(
 // The siblings in the rows from `from` up to `end`: a list of their own.
 #[cycle(collect_node_collect_segments_inner_collect_span)]
 pub fn collect_segments_inner(
-    nodes: &[u32],
-    attrs: &[u32],
-    strings: &[u8],
+    tree: &Tree<'_>,
     segments: &mut [u32],
     texts: &mut [u8],
     from: usize,
@@ -297,27 +264,23 @@ pub fn collect_segments_inner(
     ws: WsMode,
     run: Run,
 ) -> Result<Run, Refusal>
-    requires { Asks nodes.now attrs.now strings.now from end run segments.old texts.old }
-    ensures { Post nodes.now attrs.now strings.now from end run base ctx ws
+    requires { Asks tree.now.nodes.now tree.now.attrs.now tree.now.strings.now from end run segments.old texts.old }
+    ensures { Post tree.now.nodes.now tree.now.attrs.now tree.now.strings.now from end run base ctx ws
         segments.old texts.old segments.new texts.new result }
 {
     let first = run.rows;
     let mut s = run;
     let mut k = from;
     while k < end {
-        s = collect_node(
-            nodes, attrs, strings, segments, texts, k, base, ctx, ws, first, s,
-        )?;
-        k = scan::get(nodes, k * NODE_CELLS + 1);
+        s = collect_node(tree, segments, texts, k, base, ctx, ws, first, s)?;
+        k = scan::get(tree.nodes, k * NODE_CELLS + 1);
     }
     Ok(s)
 }
 
 // The content of a p or of a single cue, from row `rows` on: in collapse mode without a space at its end.
 pub fn collect_segments_timed(
-    nodes: &[u32],
-    attrs: &[u32],
-    strings: &[u8],
+    tree: &Tree<'_>,
     segments: &mut [u32],
     texts: &mut [u8],
     from: usize,
@@ -327,17 +290,15 @@ pub fn collect_segments_timed(
     ws: WsMode,
     rows: usize,
 ) -> Result<Run, Refusal>
-    requires { AsksContent nodes.now attrs.now strings.now from end rows segments.old texts.old }
-    ensures { ContentPost nodes.now attrs.now strings.now from end rows base ctx ws
+    requires { AsksContent tree.now.nodes.now tree.now.attrs.now tree.now.strings.now from end rows segments.old texts.old }
+    ensures { ContentPost tree.now.nodes.now tree.now.attrs.now tree.now.strings.now from end rows base ctx ws
         segments.old texts.old segments.new texts.new result }
 {
     let run = Run {
         rows,
         boundary: true,
     };
-    let s = collect_segments_inner(
-        nodes, attrs, strings, segments, texts, from, end, base, ctx, ws, run,
-    )?;
+    let s = collect_segments_inner(tree, segments, texts, from, end, base, ctx, ws, run)?;
     end_siblings(segments, texts, ws, rows, s.rows);
     Ok(s)
 }

@@ -194,7 +194,7 @@ full_of {q} {q'} a e n =
     cc
 
 -- the row as `add_paragraph` makes it is the p's
-module _ (e : Element) (when : Interval) (ws : WsMode) (line : Line) (rows : ℕ) (l : List (Attr Placed)) where
+module _ (place many : ℕ) (when : Interval) (ws : WsMode) (line : Line) (rows : ℕ) (l : List (Attr Placed)) where
   abbrev made : (style region : Option Span) (preserve : Bool) (kept : Rows) → declared.Cue
   made style region preserve kept = record {
     start = when.start;
@@ -210,10 +210,10 @@ module _ (e : Element) (when : Interval) (ws : WsMode) (line : Line) (rows : ℕ
 
   pub cue_added : {z x x' : List ℕ} (style region : Option Span) (preserve : Bool) (kept : Rows) (c c' : List ℕ) (m m' : List ℤ) (n : ℕ)
       → PartIs z (ascii "style") l style → PartIs z (ascii "region") l region → preserve ≡ is_preserve (space_in ws)
-      → Lists (inline_extras with_places l) line.extras x x' kept → kept.count ≤ e.many
+      → Lists (inline_extras with_places l) line.extras x x' kept → kept.count ≤ many
       → AddPost 2048 11 (cue_cells (made style region preserve kept)) c c' line.cues (Some n)
       → TimesPost (line.cues * 2) when.start when.end m m' (Some n)
-      → CueAdded e when ws line rows c c' m m' x x' l
+      → CueAdded place many when ws line rows c c' m m' x x' l
       (record { cues = n; rows = rows; extras = line.extras + kept.count; end = when.end })
   cue_added style region preserve kept c c' m m' n s r p k few g h =
       let row : made style region preserve kept ≡ cue_row when ws line rows l = rw (s.has, s.span, r.has, r.span, p, k.rows) in
@@ -337,7 +337,7 @@ module _ {t u z : List ℕ} {k : ℕ} {line : Line} {T : CueTables} (a : AsksChi
           abbrev the_cue : Cue Placed
           the_cue = cue_with when mode (l x) it.segments
 
-          next : {r : Line} → CueAdded e when mode line n T.cues T'.cues T.times T'.times T.extras T'.extras (l x) r
+          next : {r : Line} → CueAdded e.place e.many when mode line n T.cues T'.cues T.times T'.times T.extras T'.extras (l x) r
               → Next x.standing the_cue n it.hi T'
           next d = record {
             few = d.few;
@@ -352,7 +352,7 @@ module _ {t u z : List ℕ} {k : ℕ} {line : Line} {T : CueTables} (a : AsksChi
 
         pub cued : (r : Result Line Refusal)
             → OfRows u z e.first e.many
-            (λ l. CueOutcome e when mode line n T.cues T'.cues T.times T'.times T.extras T'.extras l r)
+            (λ l. CueOutcome e.place e.many when mode line n T.cues T'.cues T.times T'.times T.extras T'.extras l r)
             → ParagraphPost t u z k reference ctx ws line T T' r
         cued (Ok r) h b limit x =
             let d = h x.attrs (owned x) in

@@ -46,10 +46,10 @@ use Rattle.meaning.specs.Cues.{a_div, a_p, unknown, timed_of, div_of, cues_in, l
 use Rattle.meaning.specs.Cues as meaning
 use Rattle.meaning.specs.Meaning.{body_of}
 use Rattle.styling.specs.declared.space.WsMode.{WsMode}
-use Rattle.styling.specs.Posts.{HasRows, OfRows, space_in}
+use Rattle.styling.specs.Posts.{HasRows, OfRows, moment_said, space_in}
 use Rattle.content.proofs.Reading.{bind_is, bind_no, no_size, row-end}
 use Rattle.cues.specs.declared.lines.Line.{Line}
-use Rattle.intervals.specs.Steps.{moment_said, begin_from, start_from, end_from}
+use Rattle.intervals.specs.Steps.{begin_from, start_from, end_from}
 use Rattle.cues.specs.Steps.{CueTables, Spacious, Base, Lined, Child, Children, AsksChild, AsksCues}
 use Rattle.cues.specs.Steps.{Came, Outcome, ParagraphPost, within, ContainerPost, div_in, DivPost, Closes, child_in, ElementPost}
 use Rattle.cues.specs.Steps.{following, CuesPost, no_line, Bodies, AsksBody, BodyOutcome, BodyPost}

@@ -202,22 +202,21 @@ cue_row when ws line rows l = record {
 }
 
 -- there is room for it and for its extras
-pub record AsksCue (u z : List ℕ) (e : Element) (line : Line) (rows : ℕ) (cues : List ℕ) (times : List ℤ) (extras : List ℕ) : Type 0 where
-  pub attrs : HasRows u z e.first e.many
+pub record AsksCue (z : List ℕ) (many : ℕ) (line : Line) (rows : ℕ) (cues : List ℕ) (times : List ℤ) (extras : List ℕ) : Type 0 where
   pub small : length z < 2 ^ 32
   pub after : line.rows ≤ rows
   pub few : rows ≤ 16384
-  pub kept : line.extras + e.many ≤ 8192
+  pub kept : line.extras + many ≤ 8192
   pub in-cues : 22528 ≤ length cues
   pub in_times : 4096 ≤ length times
   pub in_extras : 24576 ≤ length extras
 
 -- the tables of cues, times and extras, with its cue and its extras; or there are 2,048 cues already
-module _ (e : Element) (when : Interval) (ws : WsMode) (line : Line) (rows : ℕ) (c c' : List ℕ) (m m' : List ℤ) (x x' : List ℕ)
+module _ (place many : ℕ) (when : Interval) (ws : WsMode) (line : Line) (rows : ℕ) (c c' : List ℕ) (m m' : List ℤ) (x x' : List ℕ)
     (l : List (Attr Placed)) where
   pub record CueAdded (r : Line) : Type 0 where
     pub few : line.cues < 2048
-    pub kept : length (inline_extras with_places l) ≤ e.many
+    pub kept : length (inline_extras with_places l) ≤ many
     pub is : r ≡ record {
       cues = line.cues + 1;
       rows = rows;
@@ -230,7 +229,7 @@ module _ (e : Element) (when : Interval) (ws : WsMode) (line : Line) (rows : ℕ
 
   abbrev pub CueOutcome : Result Line Refusal → Type 0
   CueOutcome (Ok r) = CueAdded r
-  CueOutcome (Err q) = (2048 ≤ line.cues) × (q ≡ record { number = 13; place = e.place })
+  CueOutcome (Err q) = (2048 ≤ line.cues) × (q ≡ record { number = 13; place = place })
 
 -- ---- timed elements
 

@@ -5,7 +5,7 @@ ghost use Rattle.times.specs.declared.offset.TimingCtx.{TimingCtx};
 ghost use Rattle.meaning.specs.Kinds.{with_places};
 ghost use Rattle.meaning.specs.Space.{is_preserve};
 ghost use Rattle.meaning.specs.Cues.{styled};
-ghost use Rattle.styling.specs.Posts.{HasRows, OfRows, space_in};
+ghost use Rattle.styling.specs.Posts.{Of, space_in};
 ghost use Rattle.content.specs.Steps.{Wide};
 ghost use Rattle.inline.specs.Wraps.{wrappers_from};
 ghost use Rattle.cues.specs.Steps.{TellsBare, Paragraphed, StyledGiven, dressing, PartIs};
@@ -14,6 +14,7 @@ use inline::Wrappers;
 use styling::WsMode;
 use track::{FONT, SEGMENT_CELLS, Span};
 use tree::Refusal;
+use xml::Attributes;
 
 // Are the rows from `first` up to `end` a font without family and size, and what it wraps?
 fn is_bare(segments: &[u32], first: usize, end: usize) -> bool
@@ -43,41 +44,34 @@ pub fn put_paragraph(segments: &mut [u32], first: usize, end: usize, w: Wrappers
 
 // The wrappers of a p around its rows.
 fn wrap_paragraph(
-    attrs: &[u32],
-    strings: &[u8],
+    attrs: &Attributes<'_>,
     segments: &mut [u32],
-    e: xml::Element,
+    place: usize,
     first: usize,
     end: usize,
 ) -> Result<usize, Refusal>
-    requires { HasRows attrs.now strings.now e.first e.many × (first ≤ end) × (end ≤ 16384)
-        × Wide segments.old × (length strings.now < 2 ^ 32) }
-    ensures { OfRows attrs.now strings.now e.first e.many (λ l.
-        StyledGiven (dressing e.place first l) first end segments.old segments.new result) }
+    requires { (first ≤ end) × (end ≤ 16384) × Wide segments.old × (length attrs.now.strings.now < 2 ^ 32) }
+    ensures { Of attrs.now (λ l.
+        StyledGiven (dressing place first l) first end segments.old segments.new result) }
 {
-    let w = styling::wrappers_of(attrs, strings, e.first, e.many)?;
-    put_paragraph(segments, first, end, content::around(w)).ok_or(Refusal {
-        number: 13,
-        place: e.place,
-    })
+    let w = styling::wrappers_of(attrs)?;
+    put_paragraph(segments, first, end, content::around(w)).ok_or(Refusal { number: 13, place })
 }
 
 // What a p's attributes put around the rows of its content, if it has one that segments show.
 pub fn style_paragraph(
-    attrs: &[u32],
-    strings: &[u8],
+    attrs: &Attributes<'_>,
     segments: &mut [u32],
-    e: xml::Element,
+    place: usize,
     first: usize,
     end: usize,
 ) -> Result<usize, Refusal>
-    requires { HasRows attrs.now strings.now e.first e.many × (first ≤ end) × (end ≤ 16384)
-        × Wide segments.old × (length strings.now < 2 ^ 32) }
-    ensures { OfRows attrs.now strings.now e.first e.many (λ l. (ctx : TimingCtx)
-        → StyledGiven (styled with_places ctx e.place first l) first end segments.old segments.new result) }
+    requires { (first ≤ end) × (end ≤ 16384) × Wide segments.old × (length attrs.now.strings.now < 2 ^ 32) }
+    ensures { Of attrs.now (λ l. (ctx : TimingCtx)
+        → StyledGiven (styled with_places ctx place first l) first end segments.old segments.new result) }
 {
-    if styling::p_has_modelled_inline_style(attrs, strings, e.first, e.many) {
-        return wrap_paragraph(attrs, strings, segments, e, first, end);
+    if styling::p_has_modelled_inline_style(attrs) {
+        return wrap_paragraph(attrs, segments, place, first, end);
     }
     Ok(end)
 }
@@ -89,12 +83,11 @@ pub fn is_preserve(ws: WsMode) -> bool
 }
 
 // The value of the first attribute of this name.
-pub fn value_of(attrs: &[u32], strings: &[u8], e: xml::Element, name: &[u8]) -> Option<Span>
-    requires { HasRows attrs.now strings.now e.first e.many }
-    ensures { OfRows attrs.now strings.now e.first e.many (λ l.
-        PartIs strings.now name.now l result) }
+pub fn value_of(attrs: &Attributes<'_>, name: &[u8]) -> Option<Span>
+    ensures { Of attrs.now (λ l.
+        PartIs attrs.now.strings.now name.now l result) }
 {
-    let h = styling::find(attrs, strings, e.first, e.many, name)?;
+    let h = styling::find(attrs, name)?;
     Some(Span {
         place: h.place,
         len: h.len,

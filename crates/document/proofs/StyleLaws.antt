@@ -1,8 +1,8 @@
 -- Named styles as they are written. Assumes nothing.
---     style_is, style_puts           one, and of what the program has read
+--     style_is, style_writes         one, and of what the program has read
 --     styling_none, styling_some     their part of the head
 --     row_within                     the row that is found
-use Rattle.std.specs.Prelude.{Option, Some, None}
+use Rattle.std.specs.Prelude.{Option, Some, None, ⊤}
 use Prim.Native.Nat.{ℕ, zero, suc, ◌+◌, ◌*◌, ◌≤◌, ◌<◌}
 use mathlib.Core.Path.{◌≡◌, refl, ap, ◌∙◌}
 use mathlib.Core.Bool.{Bool, true, false, cond, not}
@@ -10,7 +10,6 @@ use mathlib.Core.List.{List, [], ◌++◌, append-nil, append_assoc}
 use native.Mathlib.Omega.{arith}
 use lib.ListN.{length, get_or}
 use lib.Dec.{eqb}
-use lib.Ieee.{Float}
 use borrow.Author.Tests.{not-true}
 use Rattle.entities.specs.Escape.{escaped}
 use Rattle.colors.specs.declared.read.Rgba.{Rgba}
@@ -33,7 +32,8 @@ use Rattle.scan.specs.Text.{ascii}
 use Rattle.written.specs.Attributes.{attrs_text, optional, extra_attrs, size_text, align_attrs, style_attrs}
 use Rattle.written.specs.Written.{style_text, lines, styling_lines}
 use Rattle.written.proofs.Values.{rgba-itself, size-itself}
-use Rattle.writer.specs.Puts.{quoted, Puts}
+use Rattle.writer.specs.declared.buffer.Out.{Out}
+use Rattle.writer.specs.Puts.{quoted, Writes}
 use Rattle.writer.proofs.AttrLaws.{attrs-joined, attrs-last, attrs-one, attrs-given, attrs-optional, attrs-extras}
 use Rattle.document.specs.Styles.{look_text, align_text, flags_text, chain_text, kept_text, StylesReady}
 
@@ -143,9 +143,9 @@ module _ (T : Tables) (n i : ℕ) where
       (cond l.bold (ascii " tts:fontWeight=\"bold\"") []) (cond l.italic (ascii " tts:fontStyle=\"italic\"") [])
       (cond l.underline (ascii " tts:textDecoration=\"underline\"") []) (align_text l.align) (kept x) (ascii "/>")
 
-  pub style_puts : (x : Style) → x ≡ style_at T.styles T.sizes i → (s r : Option ℕ) (o o' : List ℕ) → Puts (whole x) s o o' r
-      → Puts (style_text all (style_in T i)) s o o' r
-  style_puts x e s r o o' p = rw style_is (rw e at p)
+  pub style_writes : (x : Style) → x ≡ style_at T.styles T.sizes i → (o o' : Out) (r : Option ⊤) → Writes (whole x) o o' r
+      → Writes (style_text all (style_in T i)) o o' r
+  style_writes x e o o' r p = rw style_is (rw e at p)
 
 -- ---- all of them
 pub styling_none : (f : ℕ → track.Style Bytes) (n : ℕ) → n ≡ 0 → styling_lines (rows_from f n 0) ≡ []
@@ -159,7 +159,7 @@ styling_some f zero h = absurd (h refl)
 styling_some f (suc n) h = refl
 
 -- a name stands within the strings
-pub name_within : (t : List ℕ) (f : List Float) (e z : List ℕ) (n : ℕ) → StylesReady t f e z n → (i : ℕ) → i < n
-    → (style_at t f i).name.place + (style_at t f i).name.len ≤ length z
+pub name_within : (T : Tables) (n : ℕ) → StylesReady T n → (i : ℕ) → i < n
+    → (style_at T.styles T.sizes i).name.place + (style_at T.styles T.sizes i).name.len ≤ length T.strings
 unfolding style_at cell
-name_within t f e z n r i h = let q : i * 27 + 0 ≡ i * 27 = omega arith in rw q (r.named.within i h)
+name_within T n r i h = let q : i * 27 + 0 ≡ i * 27 = omega arith in rw q (r.named.within i h)

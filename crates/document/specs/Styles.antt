@@ -16,22 +16,6 @@ use Rattle.written.specs.Attributes.{size_text}
 use Rattle.writer.specs.Puts.{quoted}
 use Rattle.writer.specs.Rows.{over, extra_text, ExtrasReady}
 
--- the tables that styles are made of
-abbrev pub style_tables : (styles : List ℕ) (sizes : List Float) (extras strings : List ℕ) → Tables
-style_tables s f e z = record {
-  head = [];
-  params = [];
-  styles = s;
-  regions = [];
-  cues = [];
-  times = [];
-  segments = [];
-  sizes = f;
-  extras = e;
-  strings = z;
-  texts = [];
-}
-
 -- ---- values, in the order in which they are written
 abbrev pub LookWithin : List ℕ → Look → Type 0
 LookWithin z x = (x.has_family ≡ true → x.family.place + x.family.len ≤ length z) × (x.has_size ≡ true → x.size.scale ≤ 10)
@@ -85,8 +69,8 @@ pub record StyleRow (t : List ℕ) (f : List Float) (z : List ℕ) (i : ℕ) : T
   pub look : LookWithin z (style_at t f i).look
 
 -- the first n rows can be written
-pub record StylesReady (t : List ℕ) (f : List Float) (e z : List ℕ) (n : ℕ) : Type 0 where
-  pub named : Named t z 27 n
-  pub chains : ChainsWithin t z n
-  pub kept : KeptReady t e z n
-  pub rows : (i : ℕ) → i < n → StyleRow t f z i
+pub record StylesReady (T : Tables) (n : ℕ) : Type 0 where
+  pub named : Named T.styles T.strings 27 n
+  pub chains : ChainsWithin T.styles T.strings n
+  pub kept : KeptReady T.styles T.extras T.strings n
+  pub rows : (i : ℕ) → i < n → StyleRow T.styles T.sizes T.strings i

@@ -3,11 +3,12 @@
 ghost use Rattle.std.specs.Prelude.{ℕ, ◌+◌, ◌*◌, ◌≤◌, ◌<◌, ◌≡◌, length};
 ghost use Rattle.writer.specs.Rows.{ExtrasReady};
 ghost use Rattle.names.specs.declared.tables.Listed.TheVariants.{StyleExtra, InlineExtra, RegionAttr};
+ghost use Rattle.track.specs.Handed.{lists};
 ghost use Rattle.track.specs.Tables.{style_count, region_count, cue_count};
 ghost use Rattle.document.specs.Roots.{some_row, itts_from, itts_one, itts_rows, itts_row, itts_text, OwnersReady};
 
 use names::Listed;
-use track::{CUE_CELLS, REGION_CELLS, STYLE_CELLS};
+use track::{CUE_CELLS, REGION_CELLS, STYLE_CELLS, Tables};
 
 fn itts_from(list: Listed) -> usize
     ensures { result ≡ itts_from list }
@@ -69,38 +70,39 @@ fn any_itts(
 }
 
 // Those of all styles, regions and cues.
-pub fn uses_itts(
-    head: &[u32],
-    styles: &[u32],
-    regions: &[u32],
-    cues: &[u32],
-    extras: &[u32],
-    strings: &[u8],
-) -> bool
-    requires { (10 ≤ length head.now) × OwnersReady StyleExtra styles.now extras.now strings.now 27 25 (style_count head.now)
-        × OwnersReady RegionAttr regions.now extras.now strings.now 4 2 (region_count head.now)
-        × OwnersReady InlineExtra cues.now extras.now strings.now 11 9 (cue_count head.now) }
-    ensures { result ≡ itts_text head.now styles.now regions.now cues.now extras.now
-        strings.now }
+pub fn uses_itts(t: &Tables<'_>) -> bool
+    requires { (10 ≤ length t.now.head.now)
+        × OwnersReady StyleExtra t.now.styles.now t.now.extras.now t.now.strings.now 27 25 (style_count t.now.head.now)
+        × OwnersReady RegionAttr t.now.regions.now t.now.extras.now t.now.strings.now 4 2 (region_count t.now.head.now)
+        × OwnersReady InlineExtra t.now.cues.now t.now.extras.now t.now.strings.now 11 9 (cue_count t.now.head.now) }
+    ensures { result ≡ itts_text (lists t.now) }
 {
-    let n = scan::get(head, 1);
-    let m = scan::get(head, 2);
-    let k = scan::get(head, 3);
+    let n = scan::get(t.head, 1);
+    let m = scan::get(t.head, 2);
+    let k = scan::get(t.head, 3);
     any_itts(
         Listed::StyleExtra,
-        styles,
-        extras,
-        strings,
+        t.styles,
+        t.extras,
+        t.strings,
         STYLE_CELLS,
         25,
         n,
     ) || any_itts(
         Listed::RegionAttr,
-        regions,
-        extras,
-        strings,
+        t.regions,
+        t.extras,
+        t.strings,
         REGION_CELLS,
         2,
         m,
-    ) || any_itts(Listed::InlineExtra, cues, extras, strings, CUE_CELLS, 9, k)
+    ) || any_itts(
+        Listed::InlineExtra,
+        t.cues,
+        t.extras,
+        t.strings,
+        CUE_CELLS,
+        9,
+        k,
+    )
 }

@@ -1,5 +1,6 @@
 -- The loops over styles and regions. Assumes nothing.
---     StylesAlong, styles_start, styles_row, styles_next, style_asks, styles_few    styles up to row k are read, and what is asked of the next
+--     StylesAlong, styles_start, styles_row, styles_next                            styles up to row k are read
+--     style_rows, style_asks, styles_few                                            what is asked of the next
 --     styles_passed, styles_skipped, styles_taken                                   one turn
 --     styles_refused, styles_done                                                   the answer
 --     RegionsAlong, regions_start, and so on                                        the same of regions
@@ -91,10 +92,11 @@ module _ {t u z : List ℕ} {from end : ℕ} {s₀ : List ℕ} {f₀ : List Floa
         style_room : at + v.many ≤ 8192
         style_room = omega (arith, along_room its_styles j w v row, a.room)
 
-        pub style_asks : HasRows u z v.first v.many × (length z < 2 ^ 32) × (at + v.many < 2 ^ 32) × ((at + v.many) * 3 ≤ length e)
-            × (6912 ≤ length s) × (256 ≤ length f)
+        pub style_rows : HasRows u z v.first v.many
+        style_rows = along_attrs its_styles j w v row
+
+        pub style_asks : (length z < 2 ^ 32) × (at + v.many < 2 ^ 32) × ((at + v.many) * 3 ≤ length e) × (6912 ≤ length s) × (256 ≤ length f)
         style_asks = (
-          along_attrs its_styles j w v row,
           a.small,
           omega (arith, style_room),
           omega (arith, style_room, a.long_extras, i.same_extras),
@@ -109,7 +111,7 @@ module _ {t u z : List ℕ} {from end : ℕ} {s₀ : List ℕ} {f₀ : List Floa
           style_turn_of : (L : Lengths) (r : Result (Option ℕ) Refusal) → StyleGives r
               → OfRows u z v.first v.many (λ l. Turn (ascii "style") (style_of with_places) extras_of_style 0 n at (λ d. StylesStand L e₀ d s f e)
               (λ d. StylesStand L e₀ d s' f' e') v.many v.place l r)
-          style_turn_of L r g l y = style_turn y L v.place n at e₀ s s' f f' e e' style_asks.4 style_asks.5 r (g l y)
+          style_turn_of L r g l y = style_turn y L v.place n at e₀ s s' f f' e e' style_asks.3 style_asks.4 r (g l y)
 
           module _ (p : length s' ≡ length s) (q : length f' ≡ length f) (o : length e' ≡ length e) where
             pub styles_skipped : StyleGives (Ok None) → StylesAt (get_or t (k * 6 + 1) 0) n at s' f' e'
@@ -185,10 +187,11 @@ module _ {t u z : List ℕ} {from end rows : ℕ} {s₀ e₀ : List ℕ} (a : As
         region_room : at + v.many ≤ 8192
         region_room = omega (arith, along_room its_regions j w v row, a.room)
 
-        pub region_asks : HasRows u z v.first v.many × (length z < 2 ^ 32) × (at + v.many < 2 ^ 32) × ((at + v.many) * 3 ≤ length e)
-            × (1024 ≤ length s)
+        pub region_rows : HasRows u z v.first v.many
+        region_rows = along_attrs its_regions j w v row
+
+        pub region_asks : (length z < 2 ^ 32) × (at + v.many < 2 ^ 32) × ((at + v.many) * 3 ≤ length e) × (1024 ≤ length s)
         region_asks = (
-          along_attrs its_regions j w v row,
           a.small,
           omega (arith, region_room),
           omega (arith, region_room, a.long_extras, i.same_extras),
@@ -202,7 +205,7 @@ module _ {t u z : List ℕ} {from end rows : ℕ} {s₀ e₀ : List ℕ} (a : As
           region_turn_of : (L : Lengths) (r : Result (Option ℕ) Refusal) → RegionGives r
               → OfRows u z v.first v.many (λ l. Turn (ascii "region") (region_of with_places) extras_of_region rows n at
               (λ d. RegionsStand L rows e₀ d s e) (λ d. RegionsStand L rows e₀ d s' e') v.many v.place l r)
-          region_turn_of L r g l y = region_turn y L v.place n at rows e₀ s s' e e' region_asks.4 r (g l y)
+          region_turn_of L r g l y = region_turn y L v.place n at rows e₀ s s' e e' region_asks.3 r (g l y)
 
           module _ (p : length s' ≡ length s) (o : length e' ≡ length e) where
             pub regions_skipped : RegionGives (Ok None) → RegionsAt (get_or t (k * 6 + 1) 0) n at s' e'

@@ -3,6 +3,7 @@ ghost use Rattle.heads.specs.Steps.{in_all, in_styling, in_layout, in_head_of, l
 ghost use Rattle.heads.specs.Steps.{listed_regions, regions_in, AsksRegions, RegionsPost, alone, inside_head, four, AsksHead, HeadPost};
 
 use tree::{NODE_CELLS, Refusal};
+use xml::Tree;
 
 // Rows of a table, and rows of extras up to and with theirs.
 #[derive(Clone, Copy)]
@@ -13,34 +14,31 @@ pub struct Count {
 
 // The styles among the siblings in the rows from `from` up to `end`.
 fn collect_styles(
-    nodes: &[u32],
-    attrs: &[u32],
-    strings: &[u8],
+    tree: &Tree<'_>,
     from: usize,
     end: usize,
     styles: &mut [u32],
     sizes: &mut [f32],
     extras: &mut [u32],
 ) -> Result<Count, Refusal>
-    requires { AsksStyles in_all nodes.now attrs.now strings.now from end styles.old sizes.old extras.old }
-    ensures { StylesPost listed_styles in_all nodes.now attrs.now strings.now from end
+    requires { AsksStyles in_all tree.now.nodes.now tree.now.attrs.now tree.now.strings.now from end styles.old sizes.old extras.old }
+    ensures { StylesPost listed_styles in_all tree.now.nodes.now tree.now.attrs.now tree.now.strings.now from end
         styles.old styles.new sizes.old sizes.new extras.old extras.new result }
 {
     let mut n = 0;
     let mut at = 0;
     let mut k = from;
     while k < end {
-        if xml::is_element(nodes, strings, k, b"style") {
-            let e = xml::element_at(nodes, k);
-            let made = crate::styles::build_style(
-                attrs, strings, e.first, e.many, e.place, styles, sizes, n, extras, at,
-            )?;
+        if xml::is_element(tree.nodes, tree.strings, k, b"style") {
+            let e = xml::element_at(tree.nodes, k);
+            let attrs = tree.attributes(e);
+            let made = crate::styles::build_style(&attrs, e.place, styles, sizes, n, extras, at)?;
             if let Some(m) = made {
                 n += 1;
                 at += m;
             }
         }
-        k = scan::get(nodes, k * NODE_CELLS + 1);
+        k = scan::get(tree.nodes, k * NODE_CELLS + 1);
     }
     Ok(Count {
         rows: n,
@@ -51,34 +49,31 @@ fn collect_styles(
 // The regions among the siblings in the rows from `from` up to `end`, where `rows` extras stand. (One function for both would take the step,
 // its tables and their clauses as parameters, which reads no plainer.)
 fn collect_regions(
-    nodes: &[u32],
-    attrs: &[u32],
-    strings: &[u8],
+    tree: &Tree<'_>,
     from: usize,
     end: usize,
     regions: &mut [u32],
     extras: &mut [u32],
     rows: usize,
 ) -> Result<Count, Refusal>
-    requires { AsksRegions in_all nodes.now attrs.now strings.now from end rows regions.old extras.old }
-    ensures { RegionsPost listed_regions in_all nodes.now attrs.now strings.now from end rows
+    requires { AsksRegions in_all tree.now.nodes.now tree.now.attrs.now tree.now.strings.now from end rows regions.old extras.old }
+    ensures { RegionsPost listed_regions in_all tree.now.nodes.now tree.now.attrs.now tree.now.strings.now from end rows
         regions.old regions.new extras.old extras.new result }
 {
     let mut n = 0;
     let mut at = rows;
     let mut k = from;
     while k < end {
-        if xml::is_element(nodes, strings, k, b"region") {
-            let e = xml::element_at(nodes, k);
-            let made = crate::regions::build_region(
-                attrs, strings, e.first, e.many, e.place, regions, n, extras, at,
-            )?;
+        if xml::is_element(tree.nodes, tree.strings, k, b"region") {
+            let e = xml::element_at(tree.nodes, k);
+            let attrs = tree.attributes(e);
+            let made = crate::regions::build_region(&attrs, e.place, regions, n, extras, at)?;
             if let Some(m) = made {
                 n += 1;
                 at += m;
             }
         }
-        k = scan::get(nodes, k * NODE_CELLS + 1);
+        k = scan::get(tree.nodes, k * NODE_CELLS + 1);
     }
     Ok(Count {
         rows: n,
@@ -88,49 +83,45 @@ fn collect_regions(
 
 // The styles in the first styling among these siblings.
 fn find_styles(
-    nodes: &[u32],
-    attrs: &[u32],
-    strings: &[u8],
+    tree: &Tree<'_>,
     from: usize,
     end: usize,
     styles: &mut [u32],
     sizes: &mut [f32],
     extras: &mut [u32],
 ) -> Result<Count, Refusal>
-    requires { AsksStyles in_styling nodes.now attrs.now strings.now from end styles.old sizes.old extras.old }
-    ensures { StylesPost styles_in in_styling nodes.now attrs.now strings.now from end
+    requires { AsksStyles in_styling tree.now.nodes.now tree.now.attrs.now tree.now.strings.now from end styles.old sizes.old extras.old }
+    ensures { StylesPost styles_in in_styling tree.now.nodes.now tree.now.attrs.now tree.now.strings.now from end
         styles.old styles.new sizes.old sizes.new extras.old extras.new result }
 {
-    let Some(k) = xml::find_element(nodes, strings, from, end, b"styling") else {
+    let Some(k) = xml::find_element(tree.nodes, tree.strings, from, end, b"styling") else {
         return Ok(Count { rows: 0, extras: 0 });
     };
-    let e = xml::element_at(nodes, k);
-    collect_styles(nodes, attrs, strings, k + 1, e.end, styles, sizes, extras)
+    let e = xml::element_at(tree.nodes, k);
+    collect_styles(tree, k + 1, e.end, styles, sizes, extras)
 }
 
 // The regions in the first layout among these siblings.
 fn find_regions(
-    nodes: &[u32],
-    attrs: &[u32],
-    strings: &[u8],
+    tree: &Tree<'_>,
     from: usize,
     end: usize,
     regions: &mut [u32],
     extras: &mut [u32],
     rows: usize,
 ) -> Result<Count, Refusal>
-    requires { AsksRegions in_layout nodes.now attrs.now strings.now from end rows regions.old extras.old }
-    ensures { RegionsPost regions_in in_layout nodes.now attrs.now strings.now from end rows
+    requires { AsksRegions in_layout tree.now.nodes.now tree.now.attrs.now tree.now.strings.now from end rows regions.old extras.old }
+    ensures { RegionsPost regions_in in_layout tree.now.nodes.now tree.now.attrs.now tree.now.strings.now from end rows
         regions.old regions.new extras.old extras.new result }
 {
-    let Some(k) = xml::find_element(nodes, strings, from, end, b"layout") else {
+    let Some(k) = xml::find_element(tree.nodes, tree.strings, from, end, b"layout") else {
         return Ok(Count {
             rows: 0,
             extras: rows,
         });
     };
-    let e = xml::element_at(nodes, k);
-    collect_regions(nodes, attrs, strings, k + 1, e.end, regions, extras, rows)
+    let e = xml::element_at(tree.nodes, k);
+    collect_regions(tree, k + 1, e.end, regions, extras, rows)
 }
 
 // How many styles and regions there are, and rows of their extras.
@@ -143,9 +134,7 @@ pub struct Heads {
 
 // Those of the head's content in the rows from `from` up to `end`.
 fn collect_inside(
-    nodes: &[u32],
-    attrs: &[u32],
-    strings: &[u8],
+    tree: &Tree<'_>,
     from: usize,
     end: usize,
     styles: &mut [u32],
@@ -153,13 +142,13 @@ fn collect_inside(
     sizes: &mut [f32],
     extras: &mut [u32],
 ) -> Result<Heads, Refusal>
-    requires { AsksHead nodes.now attrs.now strings.now from end (four styles.old regions.old sizes.old extras.old) }
-    ensures { HeadPost alone in_all nodes.now attrs.now strings.now from end
+    requires { AsksHead tree.now.nodes.now tree.now.attrs.now tree.now.strings.now from end (four styles.old regions.old sizes.old extras.old) }
+    ensures { HeadPost alone in_all tree.now.nodes.now tree.now.attrs.now tree.now.strings.now from end
         (four styles.old regions.old sizes.old extras.old)
         (four styles.new regions.new sizes.new extras.new) result }
 {
-    let s = find_styles(nodes, attrs, strings, from, end, styles, sizes, extras)?;
-    let t = find_regions(nodes, attrs, strings, from, end, regions, extras, s.extras)?;
+    let s = find_styles(tree, from, end, styles, sizes, extras)?;
+    let t = find_regions(tree, from, end, regions, extras, s.extras)?;
     Ok(Heads {
         styles: s.rows,
         regions: t.rows,
@@ -169,9 +158,7 @@ fn collect_inside(
 
 // The styles and regions of the first head among the siblings in the rows from `from` up to `end`.
 pub fn collect_head(
-    nodes: &[u32],
-    attrs: &[u32],
-    strings: &[u8],
+    tree: &Tree<'_>,
     from: usize,
     end: usize,
     styles: &mut [u32],
@@ -179,28 +166,18 @@ pub fn collect_head(
     sizes: &mut [f32],
     extras: &mut [u32],
 ) -> Result<Heads, Refusal>
-    requires { AsksHead nodes.now attrs.now strings.now from end (four styles.old regions.old sizes.old extras.old) }
-    ensures { HeadPost inside_head in_head_of nodes.now attrs.now strings.now from end
+    requires { AsksHead tree.now.nodes.now tree.now.attrs.now tree.now.strings.now from end (four styles.old regions.old sizes.old extras.old) }
+    ensures { HeadPost inside_head in_head_of tree.now.nodes.now tree.now.attrs.now tree.now.strings.now from end
         (four styles.old regions.old sizes.old extras.old)
         (four styles.new regions.new sizes.new extras.new) result }
 {
-    let Some(k) = xml::find_element(nodes, strings, from, end, b"head") else {
+    let Some(k) = xml::find_element(tree.nodes, tree.strings, from, end, b"head") else {
         return Ok(Heads {
             styles: 0,
             regions: 0,
             extras: 0,
         });
     };
-    let e = xml::element_at(nodes, k);
-    collect_inside(
-        nodes,
-        attrs,
-        strings,
-        k + 1,
-        e.end,
-        styles,
-        regions,
-        sizes,
-        extras,
-    )
+    let e = xml::element_at(tree.nodes, k);
+    collect_inside(tree, k + 1, e.end, styles, regions, sizes, extras)
 }

@@ -1,12 +1,8 @@
--- A sum of times as `add` answers it, and what is made of a time that was asked for.
+-- A sum of times as `add_times` answers it, and what is made of a time that was asked for.
 --     summed    the times stand in 64 bits, and are read back from them
 --     lasting   from a container's dur on
---     said_or   a sum, or 16
-use Rattle.std.specs.Prelude as rust
-use Rattle.std.specs.Prelude.{Some, None}
-use Rattle.std.specs.Option.{ok_or}
 use Prim.Native.Nat.{ℕ}
-use mathlib.Core.Path.{◌≡◌, refl, ap, ap₂, ◌∙◌}
+use mathlib.Core.Path.{◌≡◌, ap, ap₂, ◌∙◌}
 use mathlib.Core.List.{List}
 use mathlib.Core.Option.{Option}
 use lib.IntN.{ℤ}
@@ -19,16 +15,12 @@ use Rattle.meaning.specs.Answers.{Answer, ◌>>=◌}
 use Rattle.meaning.specs.Words.{ascii}
 use Rattle.meaning.specs.Nodes.{Attr}
 use Rattle.meaning.specs.Kinds.{with_places}
-use Rattle.meaning.specs.Timing.{time_of, sum, sum_answer, lasting_to}
-use Rattle.intervals.specs.Steps.{moment_said, end_from}
+use Rattle.meaning.specs.Timing.{time_of, sum, lasting_to}
+use Rattle.intervals.specs.Steps.{end_from}
 
 pub summed : (m : Answer ℤ) (place : ℕ) (a b : ℤ) → SFits w64 a → SFits w64 b → m ≡ sum place (to_z w64 (of_z w64 a)) (to_z w64 (of_z w64 b))
     → m ≡ sum place a b
 summed m place a b f g e = e ∙ ap₂ (sum place) (to_z-of_z f) (to_z-of_z g)
-
-pub said_or : (x : rust.Option ℤ) (place : ℕ) → moment_said (ok_or x (record { number = 16; place = place })) ≡ sum_answer place x
-said_or (Some z) place = refl
-said_or None place = refl
 
 pub lasting : (ctx : TimingCtx) (place : ℕ) (start children : ℤ) (l : List (Attr Placed)) (m : Answer (Option ℤ))
     → m ≡ time_of with_places ctx place (ascii "dur") l → (m >>= λ dur. lasting_to place start dur children) ≡ end_from ctx place start children l

@@ -13,10 +13,6 @@ use Rattle.styling.specs.Posts.{turned}
 use Rattle.intervals.specs.declared.Interval.{Interval}
 use Rattle.tree.specs.declared.answers.Refusal.{Refusal}
 
-abbrev pub moment_said : Result ℤ Refusal → Answer ℤ
-moment_said (Ok z) = is z
-moment_said (Err r) = turned r
-
 -- a time that may be absent
 abbrev pub time_given : rust.Option ℤ → Option ℤ
 time_given (Some z) = some z

@@ -73,6 +73,7 @@ fn in_slot(list: Listed, slot: usize) -> u8
 
 // The number of the entry that the name is, letters in any case. A name that is not listed is compared with
 // one entry at most, and no table of names is made for one whose slot is empty.
+#[inline(never)]
 #[tactic(auto, using(crate::proofs::Slots::slot_says))]
 fn number_in_slot(list: Listed, name: &[u8]) -> Option<usize>
     ensures { result ≡ name_number list name.now }
@@ -97,7 +98,9 @@ fn can_begin(name: &[u8]) -> bool
     name.first().is_some_and(|first| is_initial(first % 32))
 }
 
-// The number of the entry that the name is, letters in any case. The first letter tells most names that are not listed.
+// The number of the entry that the name is, letters in any case. The first letter tells most names that are not listed;
+// inline, since that test is all that most attributes of a film come to.
+#[inline(always)]
 #[tactic(auto, using(crate::proofs::Slots::initial_none))]
 pub fn number_of(list: Listed, name: &[u8]) -> Option<usize>
     ensures { result ≡ name_number list name.now }

@@ -137,14 +137,14 @@ value-long u z k f =
     ap length (string_is z p n) ∙ omega (arith, length-take n (drop p z), length-drop p z, f)
 
 pub span-is : (u z : List ℕ) (k r : ℕ) → NameFits u z k → PartFrom (name_at u z k) r (after_first_colon (name_at u z k)) → (x : Span)
-    → x.place ≡ get_or u (k * 4) 0 + r → x.len ≡ get_or u (k * 4 + 1) 0 - r → SpanIs u z k x
+    → x.place ≡ get_or u (k * 4) 0 + r → x.len ≡ length (name_at u z k) - r → SpanIs u z k x
 span-is u z k r f c x p n =
     let s = name_at u z k in
     let w : length (after_first_colon s) ≡ length s - r = ap length (sym c.is) ∙ length-drop r s in
     let long = name_long u z k f in
     record {
       place_is = p ∙ ap (λ m. get_or u (k * 4) 0 + m) (omega (arith, w, c.within));
-      len_is = omega (arith, n, w, long);
+      len_is = omega (arith, n, w);
       within = omega (arith, p, n, f.1, c.within, long);
     }
 

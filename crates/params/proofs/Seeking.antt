@@ -2,7 +2,7 @@
 --     sought, sought_here, sought_next, sought_nowhere     one turn of `seek`
 --     by_value, none-value           what follows from what it answers
 --     param_rate, no_rate                     the same of a parameter
---     finds_fits, finds_value, meets-fits, meets-value     the same of either answer
+--     finds_value, meets-fits, meets-value     the same of either answer
 --     begins, part-from                       names taken apart
 --     timing-is, timing_framed, timing-refused     the two rates
 use Rattle.std.specs.Prelude as rust
@@ -108,10 +108,6 @@ module _ (name : List ℕ) (l : List (nodes.Attr Placed)) where
   no_rate x = reads ∙ rw x.is_none
 
 -- ---- what a search answers
-pub finds_fits : (z name : List ℕ) (l : List (nodes.Attr Placed)) (r : rust.Option Attribute) → Finds z name l r → FoundFits z r
-finds_fits z name l (Some h) x = x.within
-finds_fits z name l None x = tt
-
 pub finds_value : (z name : List ℕ) (l : List (nodes.Attr Placed)) (r : rust.Option Attribute) → Finds z name l r → found_in z r ≡ valued with_places name l
 finds_value z name l (Some h) x = sym (found-valued x)
 finds_value z name l None x = sym (none-valued x)

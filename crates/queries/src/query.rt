@@ -1,11 +1,11 @@
 // The three queries. A track is handed: every refusal has place 0.
-ghost use Rattle.track.specs.Tables.{Tables};
+ghost use Rattle.track.specs.Handed.{lists};
 ghost use Rattle.std.specs.Prelude.{◌≡◌};
 ghost use Rattle.queries.specs.Steps.{refused_as_of, FinishPost};
 ghost use Rattle.queries.specs.Promise.{ReferencedStyle, RegionStyle, EffectiveStyle};
 
-use styles::Walk;
-use track::{Look, Span};
+use styles::{NamedStyles, Walk};
+use track::{Look, Span, Tables};
 use tree::Refusal;
 
 // A style: its name, a part of the query's text; what it says, its family being a part of the track's
@@ -51,38 +51,13 @@ fn finish(name: Span, walked: Option<Walk>, ids: &mut [u32]) -> Result<Resolved,
 // `resolve_referenced_style` in the Rust, on a handed track.
 pub fn resolve_referenced_style(
     value: &[u8],
-    head: &[u32],
-    params: &[u32],
-    styles: &[u32],
-    regions: &[u32],
-    cues: &[u32],
-    times: &[i64],
-    segments: &[u32],
-    sizes: &[f32],
-    extras: &[u32],
-    strings: &[u8],
-    texts: &[u8],
+    t: &Tables<'_>,
     ids: &mut [u32],
 ) -> Result<Resolved, Refusal>
-    ensures { ReferencedStyle value.now (record {
-      head = head.entry.now;
-      params = params.now;
-      styles = styles.now;
-      regions = regions.now;
-      cues = cues.now;
-      times = times.now;
-      segments = segments.now;
-      sizes = sizes.now;
-      extras = extras.now;
-      strings = strings.now;
-      texts = texts.now;
-    })
-        ids.old result ids.new }
+    ensures { ReferencedStyle value.now (lists t.now) ids.old result ids.new }
 {
     scan::clear(ids);
-    crate::check::check_query(
-        value, head, params, styles, regions, cues, times, segments, sizes, extras, strings, texts,
-    )?;
+    crate::check::check_query(value, t)?;
     let name = utf8::trim(value);
     let start = name.start;
     let part = Span {
@@ -95,49 +70,23 @@ pub fn resolve_referenced_style(
         len: value.len(),
     };
     let none = Span { place: 0, len: 0 };
-    let n = scan::get(head, 1);
-    let walked = styles::resolve_over(
-        value, styles, sizes, strings, n, value, 0, whole, look, none, ids,
-    );
+    let named = NamedStyles {
+        styles: t.styles,
+        sizes: t.sizes,
+        strings: t.strings,
+        many: scan::get(t.head, 1),
+    };
+    let walked = styles::resolve_over(value, &named, value, 0, whole, look, none, ids);
     finish(part, walked, ids)
 }
 
 // `region_style` in the Rust.
-pub fn region_style(
-    id: &[u8],
-    head: &[u32],
-    params: &[u32],
-    styles: &[u32],
-    regions: &[u32],
-    cues: &[u32],
-    times: &[i64],
-    segments: &[u32],
-    sizes: &[f32],
-    extras: &[u32],
-    strings: &[u8],
-    texts: &[u8],
-    ids: &mut [u32],
-) -> Result<Resolved, Refusal>
-    ensures { RegionStyle id.now (record {
-      head = head.entry.now;
-      params = params.now;
-      styles = styles.now;
-      regions = regions.now;
-      cues = cues.now;
-      times = times.now;
-      segments = segments.now;
-      sizes = sizes.now;
-      extras = extras.now;
-      strings = strings.now;
-      texts = texts.now;
-    })
-        ids.old result ids.new }
+pub fn region_style(id: &[u8], t: &Tables<'_>, ids: &mut [u32]) -> Result<Resolved, Refusal>
+    ensures { RegionStyle id.now (lists t.now) ids.old result ids.new }
 {
     scan::clear(ids);
-    crate::check::check_query(
-        id, head, params, styles, regions, cues, times, segments, sizes, extras, strings, texts,
-    )?;
-    let part = match crate::region::region_part(regions, extras, strings, scan::get(head, 2), id) {
+    crate::check::check_query(id, t)?;
+    let part = match crate::region::region_part(t, scan::get(t.head, 2), id) {
         Err(number) => return refused(number),
         Ok(x) => x,
     };
@@ -146,68 +95,44 @@ pub fn region_style(
         len: id.len(),
     };
     let none = Span { place: 0, len: 0 };
-    let n = scan::get(head, 1);
-    let walked = styles::resolve_over(
-        id, styles, sizes, strings, n, strings, 1, part.chain, part.look, none, ids,
-    );
+    let named = NamedStyles {
+        styles: t.styles,
+        sizes: t.sizes,
+        strings: t.strings,
+        many: scan::get(t.head, 1),
+    };
+    let walked = styles::resolve_over(id, &named, t.strings, 1, part.chain, part.look, none, ids);
     finish(name, walked, ids)
 }
 
 // `effective_style_for_cue_index` in the Rust.
 pub fn effective_style_for_cue_index(
-    head: &[u32],
-    params: &[u32],
-    styles: &[u32],
-    regions: &[u32],
-    cues: &[u32],
-    times: &[i64],
-    segments: &[u32],
-    sizes: &[f32],
-    extras: &[u32],
-    strings: &[u8],
-    texts: &[u8],
+    t: &Tables<'_>,
     cue_index: usize,
     ids: &mut [u32],
 ) -> Result<Resolved, Refusal>
-    ensures { EffectiveStyle (record {
-      head = head.entry.now;
-      params = params.now;
-      styles = styles.now;
-      regions = regions.now;
-      cues = cues.now;
-      times = times.now;
-      segments = segments.now;
-      sizes = sizes.now;
-      extras = extras.now;
-      strings = strings.now;
-      texts = texts.now;
-    })
-        cue_index ids.old result ids.new }
+    ensures { EffectiveStyle (lists t.now) cue_index ids.old result ids.new }
 {
     scan::clear(ids);
-    track::check_track(
-        head, params, styles, regions, cues, times, segments, sizes, extras, strings, texts,
-    )?;
-    if scan::get(head, 3) <= cue_index {
+    track::check_track(t)?;
+    if scan::get(t.head, 3) <= cue_index {
         return Ok(Resolved::NoStyle(0));
     }
-    let cue = records::cue_at(cues, times, cue_index);
-    let m = scan::get(head, 2);
-    let part = match crate::region::cue_part(
-        regions,
-        extras,
-        strings,
-        m,
-        cue.has_region,
-        cue.region,
-    ) {
+    let cue = records::cue_at(t.cues, t.times, cue_index);
+    let m = scan::get(t.head, 2);
+    let part = match crate::region::cue_part(t, m, cue.has_region, cue.region) {
         Err(number) => return refused(number),
         Ok(x) => x,
     };
     let none = Span { place: 0, len: 0 };
-    let n = scan::get(head, 1);
+    let named = NamedStyles {
+        styles: t.styles,
+        sizes: t.sizes,
+        strings: t.strings,
+        many: scan::get(t.head, 1),
+    };
     let walked = styles::resolve_over(
-        b"", styles, sizes, strings, n, strings, 1, part.chain, part.look, cue.style, ids,
+        b"", &named, t.strings, 1, part.chain, part.look, cue.style, ids,
     );
     finish(none, walked, ids)
 }

@@ -2,7 +2,8 @@
 ghost use Rattle.queries.specs.Steps.{SpanIn, HasRegions, blank_part, RegionPost, CueRegionPost};
 ghost use Rattle.std.specs.Prelude.{◌≡◌};
 
-use track::{Look, Span};
+use crate::kept::Kept;
+use track::{Look, Span, Tables};
 
 // A region's own look, and the place of its chain among the strings. Without a region, or a chain, they are blank.
 #[derive(Clone, Copy)]
@@ -24,23 +25,22 @@ fn blank_part() -> Part
 }
 
 // The part of n regions' first of this id.
-pub fn region_part(
-    regions: &[u32],
-    extras: &[u32],
-    strings: &[u8],
-    n: usize,
-    id: &[u8],
-) -> Result<Part, u32>
-    requires { HasRegions regions.now extras.now strings.now n }
-    ensures { RegionPost regions.now extras.now strings.now n id.now result }
+pub fn region_part(t: &Tables<'_>, n: usize, id: &[u8]) -> Result<Part, u32>
+    requires { HasRegions t.now.regions.now t.now.extras.now t.now.strings.now n }
+    ensures { RegionPost t.now.regions.now t.now.extras.now t.now.strings.now n id.now result }
 {
-    let Some(i) = records::find_region(regions, strings, n, id) else {
+    let Some(i) = records::find_region(t.regions, t.strings, n, id) else {
         return Ok(blank_part());
     };
-    let region = records::region_at(regions, i);
-    let rows = region.extras;
-    let look = crate::own::own_values(extras, strings, rows.first, rows.count)?;
-    let value = crate::own::value_of(extras, rows.first, rows.count, STYLE);
+    let region = records::region_at(t.regions, i);
+    let kept = Kept {
+        extras: t.extras,
+        strings: t.strings,
+        first: region.extras.first,
+        many: region.extras.count,
+    };
+    let look = crate::own::own_values(&kept)?;
+    let value = crate::own::value_of(&kept, STYLE);
     Ok(Part {
         look,
         chain: value.span,
@@ -48,21 +48,14 @@ pub fn region_part(
 }
 
 // The same of a cue's region, where it has one.
-pub fn cue_part(
-    regions: &[u32],
-    extras: &[u32],
-    strings: &[u8],
-    n: usize,
-    has: bool,
-    id: Span,
-) -> Result<Part, u32>
-    requires { HasRegions regions.now extras.now strings.now n × SpanIn strings.now id }
-    ensures { CueRegionPost regions.now extras.now strings.now n has id result }
+pub fn cue_part(t: &Tables<'_>, n: usize, has: bool, id: Span) -> Result<Part, u32>
+    requires { HasRegions t.now.regions.now t.now.extras.now t.now.strings.now n × SpanIn t.now.strings.now id }
+    ensures { CueRegionPost t.now.regions.now t.now.extras.now t.now.strings.now n has id result }
 {
     if !has {
         return Ok(blank_part());
     }
     let from = id.place;
     let to = from + id.len;
-    region_part(regions, extras, strings, n, &strings[from..to])
+    region_part(t, n, &t.strings[from..to])
 }

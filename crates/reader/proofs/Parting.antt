@@ -3,7 +3,7 @@
 --     given-few, given-fits, given-short   a tree that was read has at most 8,192 attributes, and its text fits
 --     given-part                           its rows, as the readers of tracks take them
 --     given-ends                           nothing stands after them
-use Rattle.std.specs.Prelude.{Result, Ok}
+use Rattle.std.specs.Prelude.{Result}
 use Prim.Native.Nat.{ℕ, ◌+◌, ◌-◌, ◌*◌, ◌≤◌}
 use mathlib.Core.Path.{◌≡◌, refl, sym, ap, ◌∙◌}
 use mathlib.Core.Logic.{inr}

@@ -5,6 +5,7 @@ ghost use Rattle.whole.specs.Steps.{Asks, Post};
 ghost use Rattle.reader.specs.Steps.{meant_by, AsksTree, TreePost};
 
 use tree::Refusal;
+use xml::Tree;
 
 // The track of the first tt, or the cue of the first p.
 #[derive(Clone, Copy)]
@@ -15,9 +16,7 @@ pub enum Wanted {
 
 // What the n rows of the tree mean.
 fn read_nodes(
-    nodes: &[u32],
-    attrs: &[u32],
-    strings: &[u8],
+    tree: &Tree<'_>,
     head: &mut [u32],
     params: &mut [u32],
     styles: &mut [u32],
@@ -31,9 +30,9 @@ fn read_nodes(
     n: usize,
     wanted: Wanted,
 ) -> Result<(), Refusal>
-    requires { Asks nodes.now attrs.now strings.now n (rest head.old params.old styles.old regions.old cues.old
+    requires { Asks tree.now.nodes.now tree.now.attrs.now tree.now.strings.now n (rest head.old params.old styles.old regions.old cues.old
         times.old segments.old sizes.old extras.old texts.old) }
-    ensures { Post (meant_by wanted) nodes.now attrs.now strings.now n
+    ensures { Post (meant_by wanted) tree.now.nodes.now tree.now.attrs.now tree.now.strings.now n
         (rest head.old params.old styles.old regions.old cues.old times.old
         segments.old sizes.old extras.old texts.old)
         (rest head.new params.new styles.new regions.new cues.new times.new
@@ -41,12 +40,9 @@ fn read_nodes(
 {
     match wanted {
         Wanted::Track => whole::read_track(
-            nodes, attrs, strings, head, params, styles, regions, cues, times, segments, sizes,
-            extras, texts, n,
+            tree, head, params, styles, regions, cues, times, segments, sizes, extras, texts, n,
         ),
-        Wanted::Cue => single::read_cue(
-            nodes, attrs, strings, head, cues, times, segments, texts, n,
-        ),
+        Wanted::Cue => single::read_cue(tree, head, cues, times, segments, texts, n),
     }
 }
 
@@ -80,10 +76,14 @@ fn read_tree(
         cues.new times.new segments.new sizes.new extras.new strings.new
         texts.new) result }
 {
-    let used = &strings[..len];
+    let tree = Tree {
+        nodes,
+        attrs,
+        strings: &strings[..len],
+    };
     match read_nodes(
-        nodes, attrs, used, head, params, styles, regions, cues, times, segments, sizes, extras,
-        texts, n, wanted,
+        &tree, head, params, styles, regions, cues, times, segments, sizes, extras, texts, n,
+        wanted,
     ) {
         Ok(()) => Ok(()),
         Err(r) => {

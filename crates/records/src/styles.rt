@@ -6,6 +6,7 @@ ghost use Rattle.track.specs.Tables.{look_at, align_at, style_at, region_at};
 ghost use Rattle.track.specs.Layout.{flag_cells, look_cells, align_cell, style_cells, size_value, region_cells};
 ghost use Rattle.records.specs.Posts.{SmallSpan, SmallRows, AddPost, ValuePost};
 
+use crate::rows::Row;
 use track::{Align, Look, REGION_CELLS, REGIONS, Region, STYLE_CELLS, STYLES, Style};
 
 fn align_at(c: u32) -> Align
@@ -91,15 +92,25 @@ fn put_look(styles: &mut [u32], at: usize, x: Look)
     put_flags(styles, at + 16, x);
 }
 
-fn put_style(styles: &mut [u32], at: usize, x: Style)
-    requires { (at + 27 ≤ length styles.old) × SmallSpan x.name × SmallSpan x.chain × SmallSpan x.look.family
-        × SmallRows x.extras }
-    ensures { styles.new ≡ sets styles.old at (style_cells x) }
-{
-    crate::cells::put_span(styles, at, x.name);
-    crate::cells::put_span(styles, at + 2, x.chain);
-    put_look(styles, at + 4, x.look);
-    crate::cells::put_rows(styles, at + 25, x.extras);
+impl Row for Style {
+    ghost WIDTH = { 27 };
+
+    ghost MOST = { 256 };
+
+    ghost cells = { style_cells };
+
+    ghost Small = { λ x. SmallSpan x.name × SmallSpan x.chain × SmallSpan x.look.family × SmallRows x.extras };
+
+    const WIDTH: usize = STYLE_CELLS;
+
+    const MOST: usize = STYLES;
+
+    fn put(self, table: &mut [u32], at: usize) {
+        crate::cells::put_span(table, at, self.name);
+        crate::cells::put_span(table, at + 2, self.chain);
+        put_look(table, at + 4, self.look);
+        crate::cells::put_rows(table, at + 25, self.extras);
+    }
 }
 
 // The f32 of a size; 0 where there is none.
@@ -116,12 +127,9 @@ pub fn add_style(styles: &mut [u32], sizes: &mut [f32], n: usize, x: Style) -> O
     ensures add_post { AddPost 256 27 (style_cells x) styles.old styles.new n result }
     ensures value_post { ValuePost n (size_value x.look.has_size x.look.size) sizes.old sizes.new result }
 {
-    if STYLES <= n {
-        return None;
-    }
-    put_style(styles, n * STYLE_CELLS, x);
+    let m = crate::rows::add(styles, n, x)?;
     sizes[n] = size_value(x.look);
-    Some(n + 1)
+    Some(m)
 }
 
 pub fn region_at(regions: &[u32], i: usize) -> Region
@@ -135,15 +143,21 @@ pub fn region_at(regions: &[u32], i: usize) -> Region
     }
 }
 
-// A region more, where there are n.
-pub fn add_region(regions: &mut [u32], n: usize, x: Region) -> Option<usize>
-    requires { (1024 ≤ length regions.old) × SmallSpan x.id × SmallRows x.extras }
-    ensures { AddPost 256 4 (region_cells x) regions.old regions.new n result }
-{
-    if REGIONS <= n {
-        return None;
+impl Row for Region {
+    ghost WIDTH = { 4 };
+
+    ghost MOST = { 256 };
+
+    ghost cells = { region_cells };
+
+    ghost Small = { λ x. SmallSpan x.id × SmallRows x.extras };
+
+    const WIDTH: usize = REGION_CELLS;
+
+    const MOST: usize = REGIONS;
+
+    fn put(self, table: &mut [u32], at: usize) {
+        crate::cells::put_span(table, at, self.id);
+        crate::cells::put_rows(table, at + 2, self.extras);
     }
-    crate::cells::put_span(regions, n * REGION_CELLS, x.id);
-    crate::cells::put_rows(regions, n * REGION_CELLS + 2, x.extras);
-    Some(n + 1)
 }

@@ -1,27 +1,19 @@
 // A line that has a table's cells.
 ghost use Rattle.std.specs.Prelude.{◌≤◌, ◌<◌, length};
 
+use crate::cells::Cells;
+
 // A question or a remark fills nothing.
-pub fn fill(
-    line: &[u8],
-    head: &mut [u32; 10],
-    params: &mut [u32; 256],
-    styles: &mut [u32; 6912],
-    regions: &mut [u32; 1024],
-    cues: &mut [u32; 22528],
-    sizes: &mut [f32; 256],
-    extras: &mut [u32; 24576],
-    strings: &mut [u8; 65536],
-) {
+pub fn fill(line: &[u8], cells: &mut Cells) {
     match crate::fields::byte(line, 0) {
-        b'h' => put_numbers(line, head),
-        b'p' => put_numbers(line, params),
-        b's' => put_numbers(line, styles),
-        b'r' => put_numbers(line, regions),
-        b'c' => put_numbers(line, cues),
-        b'e' => put_numbers(line, extras),
-        b'f' => put_size(line, sizes),
-        b'z' => put_bytes(line, strings),
+        b'h' => put_numbers(line, &mut cells.head),
+        b'p' => put_numbers(line, &mut cells.params),
+        b's' => put_numbers(line, &mut cells.styles),
+        b'r' => put_numbers(line, &mut cells.regions),
+        b'c' => put_numbers(line, &mut cells.cues),
+        b'e' => put_numbers(line, &mut cells.extras),
+        b'f' => put_size(line, &mut cells.sizes),
+        b'z' => put_bytes(line, &mut cells.strings),
         _ => {}
     }
 }

@@ -1,11 +1,12 @@
 // `check_track` asked.
 ghost use Rattle.std.specs.Prelude.{◌+◌, ◌≤◌, ◌<◌, ◌^◌};
 
-use crate::tables::{Bytes, Cells, Sizes, Times};
+use crate::tables::Lent;
+use track::Tables;
 use tree::Refusal;
 
 // What `check_track` answers where the table with the letter `short` is lent one cell short.
-pub fn ask(short: u8, cells: &Cells, times: &Times, sizes: &Sizes, bytes: &Bytes) -> u32 {
+pub fn ask(short: u8, lent: &Lent) -> u32 {
     let h = end(short, b'h', 10);
     let p = end(short, b'p', 266);
     let s = end(short, b's', 7178);
@@ -17,19 +18,19 @@ pub fn ask(short: u8, cells: &Cells, times: &Times, sizes: &Sizes, bytes: &Bytes
     let e = end(short, b'e', 153610);
     let z = end(short, b'z', 65536);
     let y = end(short, b'y', 131072);
-    number_of(track::check_track(
-        &cells[..h],
-        &cells[10..p],
-        &cells[266..s],
-        &cells[7178..r],
-        &cells[8202..c],
-        &times[..t],
-        &cells[30730..g],
-        &sizes[..f],
-        &cells[129034..e],
-        &bytes[..z],
-        &bytes[65536..y],
-    ))
+    number_of(track::check_track(&Tables {
+        head: &lent.cells[..h],
+        params: &lent.cells[10..p],
+        styles: &lent.cells[266..s],
+        regions: &lent.cells[7178..r],
+        cues: &lent.cells[8202..c],
+        times: &lent.times[..t],
+        segments: &lent.cells[30730..g],
+        sizes: &lent.sizes[..f],
+        extras: &lent.cells[129034..e],
+        strings: &lent.bytes[..z],
+        texts: &lent.bytes[65536..y],
+    }))
 }
 
 // Where the table with the letter `own`, whose last cell is before n, ends as it is lent.

@@ -2,7 +2,7 @@
 // of every kind.
 use crate::floats::float;
 use crate::tables::{
-    Bytes, CUES, Cells, EXTRAS, PARAMS, REGIONS, SEGMENTS, STYLES, Sizes, TEXTS, Times, put,
+    Bytes, CUES, Cells, EXTRAS, Lent, PARAMS, REGIONS, SEGMENTS, STYLES, Sizes, TEXTS, Times, put,
 };
 
 // Counts, xml:lang `en`, used bytes.
@@ -48,6 +48,14 @@ fn fill<T: Copy>(cells: &mut [T], start: usize, row: &[T]) {
     }
 }
 
+// In tables that are zero.
+pub fn build(lent: &mut Lent) {
+    build_cells(&mut lent.cells);
+    build_times(&mut lent.times);
+    build_sizes(&mut lent.sizes);
+    build_bytes(&mut lent.bytes);
+}
+
 pub fn build_cells(cells: &mut Cells) {
     fill(cells, 0, &HEAD_CELLS);
     fill(cells, PARAMS, &PARAM_ROWS);
@@ -59,7 +67,7 @@ pub fn build_cells(cells: &mut Cells) {
 }
 
 // Times of the cues.
-pub fn build_times(times: &mut Times) {
+fn build_times(times: &mut Times) {
     times[1] = 1500000;
     times[2] = 1500000;
     times[3] = 4000000;
@@ -68,12 +76,12 @@ pub fn build_times(times: &mut Times) {
 }
 
 // Sizes of the styles.
-pub fn build_sizes(sizes: &mut Sizes) {
+fn build_sizes(sizes: &mut Sizes) {
     sizes[0] = float(2);
     sizes[1] = float(5);
 }
 
-pub fn build_bytes(bytes: &mut Bytes) {
+fn build_bytes(bytes: &mut Bytes) {
     fill(
         bytes,
         0,

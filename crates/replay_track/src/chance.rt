@@ -1,6 +1,6 @@
 // Cells picked by chance: a xorshift generator with a fixed seed.
 use crate::single::value_of;
-use crate::tables::{Bytes, Cells, Sizes, Times};
+use crate::tables::Lent;
 
 // standard output
 const STDOUT_FILENO: i32 = 1;
@@ -60,27 +60,15 @@ fn pick(table: u8, n: u32) -> u32 {
 }
 
 // `count` cells, one after the other.
-pub fn by_chance(
-    count: u32,
-    cells: &mut Cells,
-    times: &Times,
-    sizes: &mut Sizes,
-    bytes: &mut Bytes,
-) {
+pub fn by_chance(count: u32, lent: &mut Lent) {
     let mut state = SEED;
     for _ in 0..count {
-        state = one_by_chance(state, cells, times, sizes, bytes);
+        state = one_by_chance(state, lent);
     }
 }
 
 // A cell set, printed with the answer, and set back: the generator's state.
-fn one_by_chance(
-    state: u32,
-    cells: &mut Cells,
-    times: &Times,
-    sizes: &mut Sizes,
-    bytes: &mut Bytes,
-) -> u32 {
+fn one_by_chance(state: u32, lent: &mut Lent) -> u32 {
     let a = next(state);
     let b = next(a);
     let c = next(b);
@@ -88,7 +76,7 @@ fn one_by_chance(
     let cell = used_cell(table, b);
     let v = pick(table, c);
     print_change(table, cell, v);
-    let number = crate::single::one_changed(table, cell, value_of(v), cells, times, sizes, bytes);
+    let number = crate::single::one_changed(table, cell, value_of(v), lent);
     crate::words::print_answer(number);
     c
 }

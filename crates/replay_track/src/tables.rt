@@ -1,4 +1,4 @@
-// The eleven tables, in four: all cells of 32 bits, the times, the sizes, all bytes.
+// The eleven tables, in four.
 ghost use Rattle.std.specs.Prelude.{◌+◌, ◌≤◌, ◌<◌, ◌^◌};
 
 pub type Cells = [u32; 153610];
@@ -9,6 +9,15 @@ pub type Sizes = [f32; 256];
 
 // strings, texts
 pub type Bytes = [u8; 131072];
+
+// All cells of 32 bits, the times, the sizes, all bytes: what is lent to `check_track`.
+#[derive(Drop)]
+pub struct Lent {
+    pub cells: Cells,
+    pub times: Times,
+    pub sizes: Sizes,
+    pub bytes: Bytes,
+}
 
 pub const PARAMS: usize = 10;
 

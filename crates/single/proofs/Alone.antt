@@ -49,7 +49,7 @@ use Rattle.cues.specs.Steps.{CueTables, five, Spacious, Base, Lined, no_line}
 use Rattle.cues.specs.Elements.{Tree, Elem, element_in}
 use Rattle.cues.proofs.Lined.{blank_from, before, next_frame, blank-later, lined_frame, Next, lined_more}
 use Rattle.cues.proofs.Blanks.{filled-from, Blank, lined_none}
-use Rattle.cues.proofs.Elements.{elem-cells, elem-owned, elem-rows, elem-none, elem-found, elem-inside, elem-order}
+use Rattle.cues.proofs.Elements.{elem-cells, elem-owned, elem-none, elem-found, elem-inside, elem-order}
 use Rattle.single.specs.Steps.{cue_rest, CueReady, CueLaid, CueOutcome, cue_with, timed_cue, alone_row, alone_head, AloneAsks, Alone}
 
 -- ---- its times first
@@ -236,9 +236,8 @@ module _ (h c : List ℕ) (m : List ℤ) (g y : List ℕ) {z : List ℕ} (ready 
               },
             )
 
-        pub alone-asks : (run : Run) → Post (Ok run) → AloneAsks u z e run.rows h c m
+        pub alone-asks : (run : Run) → Post (Ok run) → AloneAsks z run.rows h c m
         alone-asks run p = record {
-          attrs = elem-rows x row;
           short = ready.short;
           few = (p frame content).few;
           in_head = ready.head;

@@ -10,7 +10,6 @@ use Rattle.track.specs.Tables.{Tables, tables, lengths}
 use Rattle.track.specs.Layout.{is_some, span_or, cue_cells}
 use Rattle.records.specs.declared.head.Head.{Head}
 use Rattle.records.specs.Posts.{head_row}
-use Rattle.xml.specs.declared.find.Element as found
 use Rattle.xml.specs.Reading.{Placed}
 use Rattle.meaning.specs.Words.{ascii}
 use Rattle.meaning.specs.Answers.{is, ◌>>=◌}
@@ -22,7 +21,7 @@ use Rattle.meaning.specs.Tracks.{option_by}
 use Rattle.meaning.specs.Inline.{content_of}
 use Rattle.meaning.specs.Meaning.{timing, cue_of}
 use Rattle.laid.specs.Laid.{alone}
-use Rattle.styling.specs.Posts.{HasRows, turned}
+use Rattle.styling.specs.Posts.{turned}
 use Rattle.inline.specs.Stood.{span_in}
 use Rattle.intervals.specs.declared.Interval.{Interval}
 use Rattle.cues.specs.Elements.{Tree, Elem, element_in}
@@ -121,8 +120,7 @@ alone_head rows used = record {
   texts = used;
 }
 
-pub record AloneAsks (u z : List ℕ) (e : found.Element) (rows : ℕ) (head cues : List ℕ) (times : List ℤ) : Type 0 where
-  pub attrs : HasRows u z e.first e.many
+pub record AloneAsks (z : List ℕ) (rows : ℕ) (head cues : List ℕ) (times : List ℤ) : Type 0 where
   pub short : length z ≤ 65536
   pub few : rows ≤ 16384
   pub in_head : 10 ≤ length head

@@ -6,8 +6,9 @@ ghost use Rattle.track.specs.Meaning.{bytes_at};
 ghost use Rattle.track.specs.Tables.{span};
 ghost use Rattle.styles.specs.Ids.{Held};
 ghost use Rattle.styles.specs.Places.{row, Walks};
-ghost use Rattle.styles.specs.Steps.{Chained, Ready, Stands, ChainOf, OwnStyle, Visits, ApplyPost, LaysOver, PairPost, AnswerPost};
+ghost use Rattle.styles.specs.Steps.{Stands, ChainOf, OwnStyle, Visits, ApplyPost, LaysOver, PairPost, AnswerPost};
 
+use crate::named::NamedStyles;
 use track::{Look, STYLE_CELLS, Span};
 
 // What is known on the way: how many ids were visited, whether a style was met, and the styles met, each
@@ -20,27 +21,25 @@ pub struct Walk {
 }
 
 // The chain of the first style of this name that has one; an empty part where none has.
-fn chain_of(styles: &[u32], strings: &[u8], n: usize, name: &[u8]) -> Span
-    requires { Chained styles.now strings.now n }
-    ensures { ChainOf styles.now strings.now n name.now result }
+fn chain_of(named: &NamedStyles<'_>, name: &[u8]) -> Span
+    ensures { ChainOf named.now.styles.now named.now.strings.now named.now.many name.now result }
 {
-    match records::find_chain(styles, strings, n, name) {
+    match records::find_chain(named.styles, named.strings, named.many, name) {
         Some(i) => Span {
-            place: scan::get(styles, i * STYLE_CELLS + 2),
-            len: scan::get(styles, i * STYLE_CELLS + 3),
+            place: scan::get(named.styles, i * STYLE_CELLS + 2),
+            len: scan::get(named.styles, i * STYLE_CELLS + 3),
         },
         None => Span { place: 0, len: 0 },
     }
 }
 
 // The style of this name itself, over what was met before.
-fn own_style(styles: &[u32], sizes: &[f32], strings: &[u8], n: usize, name: &[u8], w: Walk) -> Walk
-    requires { Ready styles.now sizes.now strings.now n }
-    ensures { OwnStyle styles.now sizes.now strings.now n name.now w result }
+fn own_style(named: &NamedStyles<'_>, name: &[u8], w: Walk) -> Walk
+    ensures { OwnStyle named.now.styles.now named.now.sizes.now named.now.strings.now named.now.many name.now w result }
 {
-    match records::find_style(styles, strings, n, name) {
+    match records::find_style(named.styles, named.strings, named.many, name) {
         Some(i) => {
-            let style = records::style_at(styles, sizes, i);
+            let style = records::style_at(named.styles, named.sizes, i);
             Walk {
                 count: w.count,
                 found: true,
@@ -55,10 +54,7 @@ fn own_style(styles: &[u32], sizes: &[f32], strings: &[u8], n: usize, name: &[u8
 // track's strings), its parents first.
 fn apply_style_ref(
     text: &[u8],
-    styles: &[u32],
-    sizes: &[f32],
-    strings: &[u8],
-    n: usize,
+    named: &NamedStyles<'_>,
     own: &[u8],
     source: u32,
     at: usize,
@@ -67,17 +63,17 @@ fn apply_style_ref(
     heads: &mut [u32],
     w: Walk,
 ) -> Option<Walk>
-    requires { Ready styles.now sizes.now strings.now n × Stands text.now strings.now own.now source at len
-        × Held text.now strings.now ids.old heads.old w.count }
-    ensures { ApplyPost text.now styles.now sizes.now strings.now n
+    requires { Stands text.now named.now.strings.now own.now source at len
+        × Held text.now named.now.strings.now ids.old heads.old w.count }
+    ensures { ApplyPost text.now named.now.styles.now named.now.sizes.now named.now.strings.now named.now.many
         (string_at own.now at len ∷ []) ids.old ids.new heads.new w
-        (Visits text.now styles.now sizes.now strings.now n
+        (Visits text.now named.now.styles.now named.now.sizes.now named.now.strings.now named.now.many
         (row source (span at len))) result }
 {
     let end = at + len;
     let count = w.count;
     let h = crate::ids::hash(&own[at..end]);
-    if crate::ids::is_visited(text, strings, ids, heads, count, h, &own[at..end]) {
+    if crate::ids::is_visited(text, named.strings, ids, heads, count, h, &own[at..end]) {
         return Some(w);
     }
     if 65536 <= count {
@@ -92,19 +88,16 @@ fn apply_style_ref(
         found: w.found,
         look: w.look,
     };
-    let chain = chain_of(styles, strings, n, &own[at..end]);
+    let chain = chain_of(named, &own[at..end]);
     let from = chain.place;
     let to = from + chain.len;
     let mut p = 0;
-    while let Some(x) = utf8::next_word(&strings[from..to], p) {
+    while let Some(x) = utf8::next_word(&named.strings[from..to], p) {
         let start = x.start;
         s = apply_style_ref(
             text,
-            styles,
-            sizes,
-            strings,
-            n,
-            strings,
+            named,
+            named.strings,
             1,
             from + start,
             x.end - start,
@@ -114,17 +107,14 @@ fn apply_style_ref(
         )?;
         p = x.end;
     }
-    Some(own_style(styles, sizes, strings, n, &own[at..end], s))
+    Some(own_style(named, &own[at..end], s))
 }
 
 // The ids of a value, one after the other: `len` bytes of `own` (as above) from a place on. What was
 // visited before stays visited.
 fn apply_refs(
     text: &[u8],
-    styles: &[u32],
-    sizes: &[f32],
-    strings: &[u8],
-    n: usize,
+    named: &NamedStyles<'_>,
     own: &[u8],
     source: u32,
     from: usize,
@@ -133,11 +123,11 @@ fn apply_refs(
     heads: &mut [u32],
     w: Walk,
 ) -> Option<Walk>
-    requires { Ready styles.now sizes.now strings.now n × Stands text.now strings.now own.now source from len
-        × Held text.now strings.now ids.old heads.old w.count }
-    ensures { ApplyPost text.now styles.now sizes.now strings.now n
+    requires { Stands text.now named.now.strings.now own.now source from len
+        × Held text.now named.now.strings.now ids.old heads.old w.count }
+    ensures { ApplyPost text.now named.now.styles.now named.now.sizes.now named.now.strings.now named.now.many
         (words (string_at own.now from len)) ids.old ids.new heads.new w
-        (Walks text.now styles.now sizes.now strings.now n
+        (Walks text.now named.now.styles.now named.now.sizes.now named.now.strings.now named.now.many
         (row source (span from len)) 0) result }
 {
     let to = from + len;
@@ -147,10 +137,7 @@ fn apply_refs(
         let start = x.start;
         s = apply_style_ref(
             text,
-            styles,
-            sizes,
-            strings,
-            n,
+            named,
             own,
             source,
             from + start,
@@ -168,20 +155,17 @@ fn apply_refs(
 // first stands in `own` (as above), the second in the track's strings.
 fn resolve_pair(
     text: &[u8],
-    styles: &[u32],
-    sizes: &[f32],
-    strings: &[u8],
-    n: usize,
+    named: &NamedStyles<'_>,
     own: &[u8],
     source: u32,
     first: Span,
     second: Span,
     ids: &mut [u32],
 ) -> Option<Walk>
-    requires { Ready styles.now sizes.now strings.now n × Stands text.now strings.now own.now source first.place first.len
-        × Stands text.now strings.now strings.now 1 second.place second.len }
-    ensures { PairPost text.now styles.now sizes.now strings.now n
-        (bytes_at own.now first) (bytes_at strings.now second) ids.old ids.new
+    requires { Stands text.now named.now.strings.now own.now source first.place first.len
+        × Stands text.now named.now.strings.now named.now.strings.now 1 second.place second.len }
+    ensures { PairPost text.now named.now.styles.now named.now.sizes.now named.now.strings.now named.now.many
+        (bytes_at own.now first) (bytes_at named.now.strings.now second) ids.old ids.new
         (row source first) (row 1 second) result }
 {
     let mut heads = [0u32; 4096];
@@ -192,10 +176,7 @@ fn resolve_pair(
     };
     let a = apply_refs(
         text,
-        styles,
-        sizes,
-        strings,
-        n,
+        named,
         own,
         source,
         first.place,
@@ -206,11 +187,8 @@ fn resolve_pair(
     )?;
     let b = apply_refs(
         text,
-        styles,
-        sizes,
-        strings,
-        n,
-        strings,
+        named,
+        named.strings,
         1,
         second.place,
         second.len,
@@ -249,10 +227,7 @@ fn lay_over(below: Walk, has: bool, above: Look) -> Walk
 // with ids of its own; the ids of both are given, each once.
 pub fn resolve_over(
     text: &[u8],
-    styles: &[u32],
-    sizes: &[f32],
-    strings: &[u8],
-    n: usize,
+    named: &NamedStyles<'_>,
     own: &[u8],
     source: u32,
     first: Span,
@@ -260,20 +235,16 @@ pub fn resolve_over(
     second: Span,
     ids: &mut [u32],
 ) -> Option<Walk>
-    requires { Ready styles.now sizes.now strings.now n × Stands text.now strings.now own.now source first.place first.len
-        × Stands text.now strings.now strings.now 1 second.place second.len }
-    ensures { AnswerPost text.now styles.now sizes.now strings.now n
-        (bytes_at own.now first) (bytes_at strings.now second) ids.old ids.new look
+    requires { Stands text.now named.now.strings.now own.now source first.place first.len
+        × Stands text.now named.now.strings.now named.now.strings.now 1 second.place second.len }
+    ensures { AnswerPost text.now named.now.styles.now named.now.sizes.now named.now.strings.now named.now.many
+        (bytes_at own.now first) (bytes_at named.now.strings.now second) ids.old ids.new look
         (row source first) (row 1 second) result }
 {
     let none = Span { place: 0, len: 0 };
-    let b = resolve_pair(
-        text, styles, sizes, strings, n, strings, 1, second, none, ids,
-    )?;
+    let b = resolve_pair(text, named, named.strings, 1, second, none, ids)?;
     scan::clear(ids);
-    let a = resolve_pair(
-        text, styles, sizes, strings, n, own, source, first, second, ids,
-    )?;
+    let a = resolve_pair(text, named, own, source, first, second, ids)?;
     let has = !crate::values::style_is_unstyled(look);
     let below = lay_over(a, has, look);
     Some(lay_over(below, b.found, b.look))

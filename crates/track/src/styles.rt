@@ -4,6 +4,7 @@ ghost use Rattle.track.specs.Meaning.{style_strings, style_values, style_flags, 
 
 use crate::cells::{is_color, is_flag, is_size_at};
 use crate::extras::has_extras;
+use crate::handed::Tables;
 use crate::limits::{REGION_CELLS, STYLE_CELLS};
 use crate::strings::{is_optional, is_span};
 
@@ -57,26 +58,26 @@ fn style_values(styles: &[u32], at: usize, size: f32) -> bool
 
 // Is row i a style?
 #[tactic(auto, unfolding(crate::specs::Meaning::is_style))]
-fn is_style(styles: &[u32], sizes: &[f32], extras: &[u32], strings: &[u8], i: usize) -> bool
-    requires { (i * 27 + 27 ≤ length styles.now) × (i + 1 ≤ length sizes.now) × (24576 ≤ length extras.now) }
-    ensures { result ≡ is_style styles.now sizes.now extras.now strings.now i }
+fn is_style(t: &Tables<'_>, i: usize) -> bool
+    requires { (i * 27 + 27 ≤ length t.now.styles.now) × (i + 1 ≤ length t.now.sizes.now) × (24576 ≤ length t.now.extras.now) }
+    ensures { result ≡ is_style t.now.styles.now t.now.sizes.now t.now.extras.now t.now.strings.now i }
 {
     let at = i * STYLE_CELLS;
-    let first = scan::get(styles, at + 25);
-    let n = scan::get(styles, at + 26);
-    style_strings(styles, strings, at)
-        && style_values(styles, at, sizes[i])
-        && style_flags(styles, at)
-        && has_extras(extras, strings, STYLE_NAMES, first, n)
+    let first = scan::get(t.styles, at + 25);
+    let n = scan::get(t.styles, at + 26);
+    style_strings(t.styles, t.strings, at)
+        && style_values(t.styles, at, t.sizes[i])
+        && style_flags(t.styles, at)
+        && has_extras(t.extras, t.strings, STYLE_NAMES, first, n)
 }
 
 // Are the first n rows styles?
-pub fn are_styles(styles: &[u32], sizes: &[f32], extras: &[u32], strings: &[u8], n: usize) -> bool
-    requires { (n * 27 ≤ length styles.now) × (n ≤ length sizes.now) × (24576 ≤ length extras.now) }
-    ensures { result ≡ all_rows (is_style styles.now sizes.now extras.now strings.now) n 0 }
+pub fn are_styles(t: &Tables<'_>, n: usize) -> bool
+    requires { (n * 27 ≤ length t.now.styles.now) × (n ≤ length t.now.sizes.now) × (24576 ≤ length t.now.extras.now) }
+    ensures { result ≡ all_rows (is_style t.now.styles.now t.now.sizes.now t.now.extras.now t.now.strings.now) n 0 }
 {
     for i in 0..n {
-        if !is_style(styles, sizes, extras, strings, i) {
+        if !is_style(t, i) {
             return false;
         }
     }
@@ -85,25 +86,25 @@ pub fn are_styles(styles: &[u32], sizes: &[f32], extras: &[u32], strings: &[u8],
 
 // Is row i a region?
 #[tactic(auto, unfolding(crate::specs::Meaning::is_region, crate::specs::Tables::cell))]
-fn is_region(regions: &[u32], extras: &[u32], strings: &[u8], i: usize) -> bool
-    requires { (i * 4 + 4 ≤ length regions.now) × (24576 ≤ length extras.now) }
-    ensures { result ≡ is_region regions.now extras.now strings.now i }
+fn is_region(t: &Tables<'_>, i: usize) -> bool
+    requires { (i * 4 + 4 ≤ length t.now.regions.now) × (24576 ≤ length t.now.extras.now) }
+    ensures { result ≡ is_region t.now.regions.now t.now.extras.now t.now.strings.now i }
 {
     let at = i * REGION_CELLS;
-    let id = scan::get(regions, at);
-    let first = scan::get(regions, at + 2);
-    let n = scan::get(regions, at + 3);
-    is_span(strings, id, scan::get(regions, at + 1))
-        && has_extras(extras, strings, REGION_NAMES, first, n)
+    let id = scan::get(t.regions, at);
+    let first = scan::get(t.regions, at + 2);
+    let n = scan::get(t.regions, at + 3);
+    is_span(t.strings, id, scan::get(t.regions, at + 1))
+        && has_extras(t.extras, t.strings, REGION_NAMES, first, n)
 }
 
 // Are the first n rows regions?
-pub fn are_regions(regions: &[u32], extras: &[u32], strings: &[u8], n: usize) -> bool
-    requires { (n * 4 ≤ length regions.now) × (24576 ≤ length extras.now) }
-    ensures { result ≡ all_rows (is_region regions.now extras.now strings.now) n 0 }
+pub fn are_regions(t: &Tables<'_>, n: usize) -> bool
+    requires { (n * 4 ≤ length t.now.regions.now) × (24576 ≤ length t.now.extras.now) }
+    ensures { result ≡ all_rows (is_region t.now.regions.now t.now.extras.now t.now.strings.now) n 0 }
 {
     for i in 0..n {
-        if !is_region(regions, extras, strings, i) {
+        if !is_region(t, i) {
             return false;
         }
     }

@@ -1,10 +1,11 @@
 // A track written, and what was written read back.
 ghost use Rattle.std.specs.Prelude.{◌≡◌};
 ghost use Rattle.promised.specs.Promise.{tables};
-ghost use Rattle.track.specs.Tables as track;
+ghost use Rattle.track.specs.Handed.{lists};
 ghost use Rattle.ttml.specs.ReadBack.{Signed, Returned};
 ghost use Rattle.ttml.specs.Steps.{count_of, outcome_of};
 
+use track::Tables;
 use tree::Refusal;
 
 // Why no track comes back: the bytes that were written, so many, met a number; or the track that was handed did.
@@ -43,17 +44,7 @@ fn outcome(answer: Result<usize, Refusal>, read: Result<(), Refusal>) -> Result<
 
 // The track written to `out`, how many bytes, and that text's track in the tables that are lent.
 pub fn read_back(
-    head: &[u32],
-    params: &[u32],
-    styles: &[u32],
-    regions: &[u32],
-    cues: &[u32],
-    times: &[i64],
-    segments: &[u32],
-    sizes: &[f32],
-    extras: &[u32],
-    strings: &[u8],
-    texts: &[u8],
+    t: &Tables<'_>,
     out: &mut [u8],
     nodes: &mut [u32],
     attrs: &mut [u32],
@@ -69,10 +60,7 @@ pub fn read_back(
     back_strings: &mut [u8],
     back_texts: &mut [u8],
 ) -> Result<usize, NotBack>
-    ensures { Returned
-        (track.tables head.now params.now styles.now regions.now cues.now times.now
-        segments.now sizes.now extras.now strings.now texts.now)
-        out.old
+    ensures { Returned (lists t.now) out.old
         (tables nodes.old attrs.old back_head.old back_params.old back_styles.old
         back_regions.old back_cues.old back_times.old back_segments.old
         back_sizes.old back_extras.old back_strings.old back_texts.old)
@@ -81,10 +69,8 @@ pub fn read_back(
         back_regions.new back_cues.new back_times.new back_segments.new back_sizes.new
         back_extras.new back_strings.new back_texts.new) }
 {
-    all_signed(times);
-    let answer = document::write(
-        head, params, styles, regions, cues, times, segments, sizes, extras, strings, texts, out,
-    );
+    all_signed(t.times);
+    let answer = document::write(t, out);
     // where nothing is written no text is read, which clears every cell
     let n = count(answer);
     let read = reader::parse(

@@ -3,7 +3,7 @@
 --     rows_split, rows-first, rows_last     rows one after the other
 --     Flat, flat                            the text of segments is that of their rows, whatever is nested
 --     within-near, within-sum                               a row whose text is within the table
---     rows-from, text-row, all_within                       and rows
+--     rows-from, text-row, all_within, next-within          and rows
 --     Writing, writing_start, writing_step, writing_full, writing_done           what the program has written so far, and how it goes on
 use Rattle.std.specs.Prelude.{None}
 use Prim.Native.Nat.{ℕ, zero, suc, ◌+◌, ◌-◌, ◌*◌, ◌≤◌, ◌<◌}
@@ -159,6 +159,12 @@ all_within t (suc n) i h =
     (and-eq-true_iff (row_within_of t i) (all_rows (row_within_of t) n (i + 1))).1
     (h i (omega arith) (omega arith), all_within t n (i + 1) (λ j a b. h j (omega arith) (omega arith)))
 
+-- one of such rows
+pub next-within : (t : List ℕ) (n from i : ℕ) → from ≤ i → i < from + n → all_rows (row_within_of t) n from ≡ true → row_within_of t i ≡ true
+next-within t n from i l h w =
+    let e : from + (i - from) ≡ i = omega arith in
+    rw e at (all_row (row_within_of t) n from (i - from) w (omega arith))
+
 -- ---- what is written so far: of the n rows from row `from` on those before row i, from a place of the table o on up to `to`
 pub record Writing (t y : List ℕ) (from n at : ℕ) (o : List ℕ) (i to : ℕ) (o' : List ℕ) : Type 0 where
   pub after : from ≤ i
@@ -181,11 +187,6 @@ module _ (t y : List ℕ) (from n at : ℕ) (o : List ℕ) where
 
     -- the next row
     module _ (h : i < from + n) where
-      pub next-within : all_rows (row_within_of t) n from ≡ true → row_within_of t i ≡ true
-      next-within a =
-          let e : from + (i - from) ≡ i = omega (arith, g.after) in
-          rw e at (all_row (row_within_of t) n from (i - from) a (omega (arith, g.after)))
-
       pub writing_step : (k : ℕ) (o'' : List ℕ) → Appended (row_text y t i) to o' o'' k → Writing t y from n at o (i + 1) k o''
       writing_step k o'' a = record {
         after = omega (arith, g.after);

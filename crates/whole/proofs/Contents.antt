@@ -52,7 +52,7 @@ use Rattle.cues.specs.declared.lines.Line.{Line}
 use Rattle.cues.specs.Steps.{CueTables, five, Spacious, Base, Lined, no_line, Bodies, AsksBody, Bodied, BodyPost}
 use Rattle.cues.specs.Elements.{Elem, element_in}
 use Rattle.cues.proofs.Blanks.{filled-from, Blank, lined_none}
-use Rattle.cues.proofs.Elements.{elem-cells, elem-rows, elem-inside, elem-order}
+use Rattle.cues.proofs.Elements.{elem-cells, elem-inside, elem-order}
 use Rattle.blank.specs.Steps.{rest}
 use Rattle.whole.specs.Steps.{head_base, Ready, LangIs, whole_head, HeadAsks, HeadPut, track_of_parts, content_means, ContentLaid}
 
@@ -263,12 +263,11 @@ module _ (h s r c : List ℕ) (m : List ℤ) (g : List ℕ) (f : List Float) (ex
                 (body_of with_places ctx (space_in ws) (first_element with_places (ascii "body") (nodes_in z x.content))) line
             bodied p = b (base p) (length z) (bodies p)
 
-            pub whole-asks : (count : ℕ) → count ≤ 64 → HeadAsks u z e count hd line h
+            pub whole-asks : (count : ℕ) → count ≤ 64 → HeadAsks z count hd line h
             whole-asks count few =
                 let a = headed p₀ in
                 let n = (bodied p₀).standing in
                 record {
-                  attrs = elem-rows x row;
                   short = ready.short;
                   few = few;
                   few_styles = omega (arith, a.count_styles, a.few_styles);

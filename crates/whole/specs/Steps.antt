@@ -12,7 +12,6 @@ use Rattle.track.specs.Layout.{is_some, span_or, each, filled, filled_sizes, joi
 use Rattle.track.specs.Layout as placing
 use Rattle.records.specs.declared.head.Head.{Head}
 use Rattle.records.specs.Posts.{head_row}
-use Rattle.xml.specs.declared.find.Element as found
 use Rattle.xml.specs.Reading.{Placed}
 use Rattle.meaning.specs.Words.{ascii}
 use Rattle.meaning.specs.Answers.{is, ◌>>=◌}
@@ -23,7 +22,7 @@ use Rattle.meaning.specs.Space.{collapse, space_of}
 use Rattle.meaning.specs.Tracks.{option_by}
 use Rattle.meaning.specs.Meaning.{lang_of, body_of}
 use Rattle.laid.specs.Laid.{laid_of, laid_styles, laid_regions, style_extras, region_extras}
-use Rattle.styling.specs.Posts.{HasRows, turned}
+use Rattle.styling.specs.Posts.{turned}
 use Rattle.inline.specs.Stood.{span_in}
 use Rattle.heads.specs.declared.collect.Heads.{Heads}
 use Rattle.heads.specs.Steps.{styles_in, regions_in, inside_head}
@@ -95,8 +94,7 @@ whole_head z count heads line l = record {
   texts = length z;
 }
 
-pub record HeadAsks (u z : List ℕ) (e : found.Element) (count : ℕ) (heads : Heads) (line : Line) (head : List ℕ) : Type 0 where
-  pub attrs : HasRows u z e.first e.many
+pub record HeadAsks (z : List ℕ) (count : ℕ) (heads : Heads) (line : Line) (head : List ℕ) : Type 0 where
   pub short : length z ≤ 65536
   pub few : count ≤ 64
   pub few_styles : heads.styles ≤ 256

@@ -4,7 +4,7 @@ ghost use Rattle.std.specs.Prelude.{List, ℕ};
 ghost use Rattle.meaning.specs.Kinds.{with_places};
 ghost use Rattle.meaning.specs.Meaning.{track_in};
 ghost use Rattle.laid.specs.Laid.{whole};
-ghost use Rattle.styling.specs.Posts.{HasRows, OfRows};
+ghost use Rattle.styling.specs.Posts.{Of};
 ghost use Rattle.blank.specs.Steps.{rest};
 ghost use Rattle.whole.specs.Steps.{Asks, Post, LangIs, HeadAsks, HeadPut, ContentAsks, ContentPost, TrackAsks, TrackPost};
 
@@ -15,13 +15,13 @@ use styling::WsMode;
 use times::TimingCtx;
 use track::Span;
 use tree::Refusal;
+use xml::{Attributes, Tree};
 
 // The language of tt.
-fn lang_of(attrs: &[u32], strings: &[u8], e: xml::Element) -> Option<Span>
-    requires { HasRows attrs.now strings.now e.first e.many }
-    ensures { OfRows attrs.now strings.now e.first e.many (λ l. LangIs strings.now l result) }
+fn lang_of(attrs: &Attributes<'_>) -> Option<Span>
+    ensures { Of attrs.now (λ l. LangIs attrs.now.strings.now l result) }
 {
-    let h = params::lang_of(attrs, strings, e.first, e.many)?;
+    let h = params::lang_of(attrs)?;
     Some(Span {
         place: h.place,
         len: h.len,
@@ -29,21 +29,12 @@ fn lang_of(attrs: &[u32], strings: &[u8], e: xml::Element) -> Option<Span>
 }
 
 // The head of the track: so many parameters, and what stands in the other tables.
-fn put_whole(
-    attrs: &[u32],
-    strings: &[u8],
-    head: &mut [u32],
-    e: xml::Element,
-    count: usize,
-    heads: Heads,
-    line: Line,
-)
-    requires { HeadAsks attrs.now strings.now e count heads line head.old }
-    ensures { OfRows attrs.now strings.now e.first e.many (λ l.
-        HeadPut strings.now count heads line l head.old head.new) }
+fn put_whole(attrs: &Attributes<'_>, head: &mut [u32], count: usize, heads: Heads, line: Line)
+    requires { HeadAsks attrs.now.strings.now count heads line head.old }
+    ensures { Of attrs.now (λ l. HeadPut attrs.now.strings.now count heads line l head.old head.new) }
 {
-    let lang = lang_of(attrs, strings, e);
-    let used = strings.len();
+    let lang = lang_of(attrs);
+    let used = attrs.strings.len();
     records::put_head(
         head,
         Head {
@@ -62,9 +53,7 @@ fn put_whole(
 
 // The head and the body of the tt in row k, when its parameters and rates are known. After a refusal what they have written is cleared.
 fn read_content(
-    nodes: &[u32],
-    attrs: &[u32],
-    strings: &[u8],
+    tree: &Tree<'_>,
     head: &mut [u32],
     styles: &mut [u32],
     regions: &mut [u32],
@@ -78,28 +67,27 @@ fn read_content(
     count: usize,
     ctx: TimingCtx,
 ) -> Result<(), Refusal>
-    requires { (p : List ℕ) × ContentAsks nodes.now attrs.now strings.now k count
+    requires { (p : List ℕ) × ContentAsks tree.now.nodes.now tree.now.attrs.now tree.now.strings.now k count
         (rest head.old p styles.old regions.old cues.old times.old segments.old sizes.old extras.old texts.old) }
-    ensures { (p : List ℕ) → ContentPost nodes.now attrs.now strings.now k count ctx
+    ensures { (p : List ℕ) → ContentPost tree.now.nodes.now tree.now.attrs.now tree.now.strings.now k count ctx
         (rest head.old p styles.old regions.old cues.old times.old segments.old
         sizes.old extras.old texts.old)
         (rest head.new p styles.new regions.new cues.new times.new segments.new
         sizes.new extras.new texts.new) result }
 {
-    let e = xml::element_at(nodes, k);
+    let e = xml::element_at(tree.nodes, k);
     let from = k + 1;
-    let h = match heads::collect_head(
-        nodes, attrs, strings, from, e.end, styles, regions, sizes, extras,
-    ) {
+    let h = match heads::collect_head(tree, from, e.end, styles, regions, sizes, extras) {
         Ok(h) => h,
         Err(r) => {
             blank::clear_head(styles, regions, sizes, extras);
             return Err(r);
         }
     };
-    let ws = styling::resolve_ws(attrs, strings, e.first, e.many, WsMode::Collapse);
+    let attrs = tree.attributes(e);
+    let ws = styling::resolve_ws(&attrs, WsMode::Collapse);
     let line = match cues::collect_body(
-        nodes, attrs, strings, cues, times, segments, extras, texts, from, e.end, ctx, ws, h.extras,
+        tree, cues, times, segments, extras, texts, from, e.end, ctx, ws, h.extras,
     ) {
         Ok(line) => line,
         Err(r) => {
@@ -108,15 +96,13 @@ fn read_content(
             return Err(r);
         }
     };
-    put_whole(attrs, strings, head, e, count, h, line);
+    put_whole(&attrs, head, count, h, line);
     Ok(())
 }
 
 // The tt in row k: its parameters are counted before its rates are read.
 fn read_tt(
-    nodes: &[u32],
-    attrs: &[u32],
-    strings: &[u8],
+    tree: &Tree<'_>,
     head: &mut [u32],
     params: &mut [u32],
     styles: &mut [u32],
@@ -129,23 +115,24 @@ fn read_tt(
     texts: &mut [u8],
     k: usize,
 ) -> Result<(), Refusal>
-    requires { TrackAsks nodes.now attrs.now strings.now k (rest head.old params.old styles.old regions.old cues.old
+    requires { TrackAsks tree.now.nodes.now tree.now.attrs.now tree.now.strings.now k (rest head.old params.old styles.old regions.old cues.old
         times.old segments.old sizes.old extras.old texts.old) }
-    ensures { TrackPost (track_in with_places) nodes.now attrs.now strings.now k
+    ensures { TrackPost (track_in with_places) tree.now.nodes.now tree.now.attrs.now tree.now.strings.now k
         (rest head.old params.old styles.old regions.old cues.old times.old
         segments.old sizes.old extras.old texts.old)
         (rest head.new params.new styles.new regions.new cues.new times.new
         segments.new sizes.new extras.new texts.new) result }
 {
-    let e = xml::element_at(nodes, k);
-    let Some(count) = params::collect_params(attrs, strings, e.first, e.many, params) else {
+    let e = xml::element_at(tree.nodes, k);
+    let attrs = tree.attributes(e);
+    let Some(count) = params::collect_params(&attrs, params) else {
         scan::clear(params);
         return Err(Refusal {
             number: 13,
             place: e.place,
         });
     };
-    let ctx = match params::timing_of(attrs, strings, e.first, e.many) {
+    let ctx = match params::timing_of(&attrs) {
         Ok(ctx) => ctx,
         Err(r) => {
             scan::clear(params);
@@ -153,8 +140,7 @@ fn read_tt(
         }
     };
     if let Err(r) = read_content(
-        nodes, attrs, strings, head, styles, regions, cues, times, segments, sizes, extras, texts,
-        k, count, ctx,
+        tree, head, styles, regions, cues, times, segments, sizes, extras, texts, k, count, ctx,
     ) {
         scan::clear(params);
         return Err(r);
@@ -164,9 +150,7 @@ fn read_tt(
 
 // The track of the first tt among the n rows of the tree.
 pub fn read_track(
-    nodes: &[u32],
-    attrs: &[u32],
-    strings: &[u8],
+    tree: &Tree<'_>,
     head: &mut [u32],
     params: &mut [u32],
     styles: &mut [u32],
@@ -179,22 +163,21 @@ pub fn read_track(
     texts: &mut [u8],
     n: usize,
 ) -> Result<(), Refusal>
-    requires { Asks nodes.now attrs.now strings.now n (rest head.old params.old styles.old regions.old cues.old
+    requires { Asks tree.now.nodes.now tree.now.attrs.now tree.now.strings.now n (rest head.old params.old styles.old regions.old cues.old
         times.old segments.old sizes.old extras.old texts.old) }
-    ensures { Post whole nodes.now attrs.now strings.now n
+    ensures { Post whole tree.now.nodes.now tree.now.attrs.now tree.now.strings.now n
         (rest head.old params.old styles.old regions.old cues.old times.old
         segments.old sizes.old extras.old texts.old)
         (rest head.new params.new styles.new regions.new cues.new times.new
         segments.new sizes.new extras.new texts.new) result }
 {
-    let Some(k) = xml::find_element(nodes, strings, 0, n, b"tt") else {
+    let Some(k) = xml::find_element(tree.nodes, tree.strings, 0, n, b"tt") else {
         return Err(Refusal {
             number: 12,
             place: 0,
         });
     };
     read_tt(
-        nodes, attrs, strings, head, params, styles, regions, cues, times, segments, sizes, extras,
-        texts, k,
+        tree, head, params, styles, regions, cues, times, segments, sizes, extras, texts, k,
     )
 }

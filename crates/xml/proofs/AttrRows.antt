@@ -50,7 +50,7 @@ pub record Head (u z : List ℕ) (k n : ℕ) (l : List Attr) : Type 0 where
   pub value-fits : head.value + head.value_len ≤ length z
   pub owned : Owned u z (k + 1) (n - 1) others
 
-head_of : (u z : List ℕ) (k n : ℕ) (l : List Attr) → Owned u z k n l → 0 < n → Head u z k n l
+pub head_of : (u z : List ℕ) (k n : ℕ) (l : List Attr) → Owned u z k n l → 0 < n → Head u z k n l
 head_of u z k n [] y h = absurd (omega (arith, y.count))
 head_of u z k n (x ∷ l) y h =
     let a : AttrIs u k x × Listed u (k + 1) l = on_attr u k x l y.listed in

@@ -9,6 +9,7 @@ use Rattle.scan.specs.Part.{string_at}
 use Rattle.derivation.specs.Strings.{attrs_in, tree_in}
 use Rattle.xml.specs.declared.find.Element.{Element}
 use Rattle.xml.specs.declared.find.Attribute.{Attribute}
+use Rattle.xml.specs.declared.attributes.Attributes.{Attributes}
 
 -- ---- on trees
 -- an element's local name is this
@@ -91,6 +92,17 @@ HasRows u z first many = (l : List Attr) × Owned u z first many l
 
 abbrev pub OfRows : (u z : List ℕ) (first many : ℕ) → (List Attr → Type 0) → Type 0
 OfRows u z first many holds = (l : List Attr) → Owned u z first many l → holds l
+
+-- the same of those that an element has
+abbrev pub Of : Attributes → (List Attr → Type 0) → Type 0
+Of a holds = OfRows a.attrs.now a.strings.now a.first a.many holds
+
+-- they are those in these rows
+pub record InRows (a : Attributes) (u z : List ℕ) (i n : ℕ) : Type 0 where
+  pub table : a.attrs.now ≡ u
+  pub bytes : a.strings.now ≡ z
+  pub from : a.first ≡ i
+  pub count : a.many ≡ n
 
 -- row k stands in the table, and its name within the strings; that name; the cells of its place and its value
 abbrev pub NameFits : (u z : List ℕ) (k : ℕ) → Type 0

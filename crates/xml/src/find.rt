@@ -2,8 +2,9 @@
 ghost use Rattle.std.specs.Prelude.{◌≡◌, ◌+◌, ◌*◌, ◌≤◌, length};
 ghost use Rattle.scan.specs.Names.{same_folded};
 ghost use Rattle.xml.specs.Find.{Siblings, OfSiblings, find_row, is_element, HasRow, element_row};
-ghost use Rattle.xml.specs.Find.{HasRows, OfRows, NameFits, name_at, attribute_row, find_value};
+ghost use Rattle.xml.specs.Find.{Of, NameFits, name_at, attribute_row, find_value};
 
+use crate::attributes::Attributes;
 use tree::{ATTR_CELLS, ELEMENT, NODE_CELLS};
 
 // An attribute: its place in the text, and the place and length of its value in the strings.
@@ -103,23 +104,26 @@ pub fn attr_at(attrs: &[u32], k: usize) -> Attribute
     }
 }
 
-// The first attribute of this name among the `many` from row `first` on.
-pub fn attr(
-    attrs: &[u32],
-    strings: &[u8],
-    first: usize,
-    many: usize,
-    name: &[u8],
-) -> Option<Attribute>
-    requires { HasRows attrs.now strings.now first many }
-    ensures { OfRows attrs.now strings.now first many (λ l.
-        result ≡ find_value strings.now name.now l) }
-{
-    let end = first + many;
-    for k in first..end {
-        if is_attr(attrs, strings, k, name) {
-            return Some(attr_at(attrs, k));
-        }
+impl<'a> Attributes<'a> {
+    // The name in row k.
+    pub fn name(&self, k: usize) -> &'a [u8]
+        requires { NameFits self.now.attrs.now self.now.strings.now k }
+        ensures { result.now ≡ name_at self.now.attrs.now self.now.strings.now k }
+    {
+        let start = scan::get(self.attrs, k * ATTR_CELLS);
+        &self.strings[start..start + scan::get(self.attrs, k * ATTR_CELLS + 1)]
     }
-    None
+
+    // The first of this name.
+    pub fn attr(&self, name: &[u8]) -> Option<Attribute>
+        ensures { Of self.now (λ l. result ≡ find_value self.now.strings.now name.now l) }
+    {
+        let end = self.first + self.many;
+        for k in self.first..end {
+            if is_attr(self.attrs, self.strings, k, name) {
+                return Some(attr_at(self.attrs, k));
+            }
+        }
+        None
+    }
 }

@@ -10,14 +10,14 @@ unfolding end_of
 returns-in-Some c =
     rw c.in-Some.is
     (summed _ c.args.place c.args.reference c.in-Some.end c.ranges.reference (sfits_of (omega arith))
-    c.add.ensures)
+    c.add_times.ensures)
 
 pub returns-in-Some-dur : goal.returns-in-Some-dur
 unfolding end_of
 returns-in-Some-dur c =
     rw (c.in_default.is, c.in-Some-dur.is)
     (summed _ c.args.place c.args.start c.in-Some-dur.dur c.ranges.start (sfits_of (omega arith))
-    c.add-in-Some-dur.ensures)
+    c.add_times-in-Some-dur.ensures)
 
 pub returns-in-None : goal.returns-in-None
 unfolding end_of

@@ -9,6 +9,7 @@ use mathlib.Core.Path.{◌≡◌, refl}
 use mathlib.Core.Bool.{false}
 use Rattle.track.specs.declared.values.Cue.{Cue}
 use Rattle.track.specs.Layout.{cue_cells}
+use Rattle.xml.proofs.RowFacts.{has_rows}
 use Rattle.meaning.specs.Kinds.{attrs_in}
 use Rattle.cues.specs.Steps.{nowhere}
 use Rattle.single.specs.Steps.{alone_row}
@@ -17,7 +18,8 @@ use Rattle.single.proofs.put_alone.Goals as goal
 
 pub add_cue-requires : goal.add_cue-requires
 add_cue-requires c =
-    let w = (c.value_of-style.ensures c.requires.attrs.0 c.requires.attrs.1).within in
+    let own = has_rows c.args.attrs.now.room c.args.attrs.now.within in
+    let w = (c.value_of-style.ensures own.0 own.1).within in
     let z = c.requires.short in
     let n = c.requires.few in (
       c.requires.in-cues,
@@ -50,7 +52,7 @@ returns c =
       segments = record { first = 0; count = c.args.rows };
       extras = record { first = 0; count = 0 };
     } in
-    let e : cue_cells cue ≡ cue_cells (alone_row when c.args.rows (attrs_in c.args.strings.now l)) = rw (from, to, v.has, v.span) refl in
+    let e : cue_cells cue ≡ cue_cells (alone_row when c.args.rows (attrs_in c.args.attrs.now.strings.now l)) = rw (from, to, v.has, v.span) refl in
     record {
       in_head = c.put_head.ensures;
       in-cues = rw e at (row-added (cue_cells cue) c.args.cues.now c.add_cue.new.cues r row);

@@ -12,10 +12,10 @@ slice_bounds-plain_text-end-2 c =
 pub returns-in-Some : goal.returns-in-Some
 returns-in-Some c =
     let p = rw c.in-Some.is at c.plain_text.ensures in
-    fit_bytes _ _ _ c.requires.3 c.limit-end.ensures _ _ (puts_at _ _ _ _ _ p)
+    fit_bytes _ _ _ c.requires c.limit-end.ensures _ _ (puts_at _ _ _ _ _ p)
 
 pub returns-in-None : goal.returns-in-None
 returns-in-None c =
     let p = rw c.in-None.is at c.plain_text.ensures in
-    fit_full _ _ _ c.requires.3 c.limit-end.ensures _ _ _ c.refused.ensures
+    fit_full _ _ _ c.requires c.limit-end.ensures _ _ _ c.refused.ensures
     (puts_at _ _ _ _ _ p) c.clear_bytes.ensures

@@ -8,7 +8,7 @@ use Rattle.spoken.proofs.has_cue.Goals.{then-first-gt-SEGMENTS-via-then-first-gt
 pub returns-then-first-gt-SEGMENTS : goal.returns-then-first-gt-SEGMENTS
 unfolding cell
 returns-then-first-gt-SEGMENTS c =
-    λ y. rows-far _ _ _ _ c.get-first.ensures c.get-n.ensures (elim c.then-first-gt-SEGMENTS.branch [
+    rows-far _ _ _ _ c.get-first.ensures c.get-n.ensures (elim c.then-first-gt-SEGMENTS.branch [
       | then-first-gt-SEGMENTS-via-then-first-gt-SEGMENTS w ↦ omega (arith, w.if-first-gt-SEGMENTS.true)
       | then-first-gt-SEGMENTS-via-else-first-gt-SEGMENTS+then-first-n w ↦ omega (arith, w.if-first-n.true)
     ])
@@ -16,4 +16,4 @@ returns-then-first-gt-SEGMENTS c =
 pub returns : goal.returns
 unfolding cell
 returns c =
-    λ y. cue_decided _ _ _ _ c.get-first.ensures c.get-n.ensures (omega arith) (omega arith) (omega arith) _ c.rows_within.ensures
+    cue_decided _ _ _ _ c.get-first.ensures c.get-n.ensures (omega arith) (omega arith) (omega arith) _ c.rows_within.ensures

@@ -1,10 +1,12 @@
 -- `put_whole` meets its contract. Assumes nothing.
 use native.Mathlib.Omega.{arith}
+use Rattle.xml.proofs.RowFacts.{has_rows}
 use Rattle.whole.proofs.put_whole.Goals as goal
 
 pub put_head-requires : goal.put_head-requires
 put_head-requires c =
-    let w = (c.lang_of-lang.ensures c.requires.attrs.0 c.requires.attrs.1).within in (
+    let own = has_rows c.args.attrs.now.room c.args.attrs.now.within in
+    let w = (c.lang_of-lang.ensures own.0 own.1).within in (
       c.requires.in_head,
       (
         omega (arith, c.requires.few),

@@ -22,8 +22,8 @@ pub collect_head-requires : goal.collect_head-requires
 collect_head-requires c =
     head_asks _ _ _ _ _ _ _ _ _ c.requires.1.ready c.requires.1.element c.element_at-e.ensures
 
-pub resolve_ws-ws-requires : goal.resolve_ws-ws-requires
-resolve_ws-ws-requires c =
+pub attributes-attrs-requires : goal.attributes-attrs-requires
+attributes-attrs-requires c =
     elem-rows c.requires.1.element c.element_at-e.ensures
 
 pub collect_body-requires : goal.collect_body-requires
@@ -36,10 +36,11 @@ put_whole-requires c =
     let x = c.requires.1.element in
     let row = c.element_at-e.ensures in
     let heads = rw c.in-Ok.is at c.collect_head.ensures in
-    let mode = c.resolve_ws-ws.ensures x.attrs (elem-owned x row) in
+    let g = c.attributes-attrs.ensures in
+    let mode = (rw (g.table, g.bytes, g.from, g.count) at c.resolve_ws-ws.ensures) x.attrs (elem-owned x row) in
     let body = rw c.in-Ok-collect_body.is at c.collect_body.ensures in
-    whole-asks _ _ _ _ _ _ _ _ _ c.requires.1.ready x row _ _ _ _ _ heads c.extras-1.given _ c.resolve_ws-ws.result
-    mode _ _ body c.args.count c.requires.1.few
+    rw g.bytes (whole-asks _ _ _ _ _ _ _ _ _ c.requires.1.ready x row _ _ _ _ _ heads c.extras-1.given _ c.resolve_ws-ws.result
+    mode _ _ body c.args.count c.requires.1.few)
 
 pub returns-in-Err : goal.returns-in-Err
 returns-in-Err c =
@@ -77,7 +78,8 @@ returns-in-Err-collect_body c =
     λ p x params many.
     let row = c.element_at-e.ensures in
     let heads = rw c.in-Ok.is at c.collect_head.ensures in
-    let mode = c.resolve_ws-ws.ensures x.attrs (elem-owned x row) in
+    let g = c.attributes-attrs.ensures in
+    let mode = (rw (g.table, g.bytes, g.from, g.count) at c.resolve_ws-ws.ensures) x.attrs (elem-owned x row) in
     let body = rw c.in-Err-collect_body.is at c.collect_body.ensures in
     let ready = c.requires.1.ready in
     let z = c.clear_head-in-Err-collect_body.ensures in
@@ -102,7 +104,8 @@ returns c =
     λ p x params many.
     let row = c.element_at-e.ensures in
     let heads = rw c.in-Ok.is at c.collect_head.ensures in
-    let mode = c.resolve_ws-ws.ensures x.attrs (elem-owned x row) in
+    let g = c.attributes-attrs.ensures in
+    let mode = (rw (g.table, g.bytes, g.from, g.count) at c.resolve_ws-ws.ensures) x.attrs (elem-owned x row) in
     let body = rw c.in-Ok-collect_body.is at c.collect_body.ensures in
     content_laid _ _ _ _ _ _ _ _ _ c.requires.1.ready x row _ _ _ _ _ heads c.extras-1.given c.args.ctx
-    c.resolve_ws-ws.result mode _ _ body p params many (c.put_whole.ensures x.attrs (elem-owned x row))
+    c.resolve_ws-ws.result mode _ _ body p params many ((rw (g.table, g.bytes, g.from, g.count) at c.put_whole.ensures) x.attrs (elem-owned x row))

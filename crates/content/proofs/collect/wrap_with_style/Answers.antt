@@ -9,7 +9,7 @@ use Rattle.content.proofs.collect.wrap_with_style.Goals as goal
 pub put_span-a-requires : goal.put_span-a-requires
 put_span-a-requires c =
     let w = c.in_ok-w.ensures.family_fits in
-    (c.requires.1, c.requires.2, c.requires.3, rw c.around.ensures.0 (omega (arith, w, c.requires.4), omega (arith, w, c.requires.4)))
+    (c.requires.0, c.requires.1, c.requires.2, rw c.around.ensures.0 (omega (arith, w, c.requires.3), omega (arith, w, c.requires.3)))
 
 pub returns-in_err-w : goal.returns-in_err-w
 returns-in_err-w c =
@@ -23,6 +23,6 @@ returns c =
     let e = c.in_ok-w.ensures.of_rows l o in
     let fits = c.in_ok-w.ensures.family_fits in
     rw (← e, c.added.ensures)
-    (λ hi. span-given (wrappers_in c.args.strings.now c.in_ok-w.w) c.args.e.place c.args.first c.args.inner.rows hi c.args.inner.boundary c.args.stamp c.args.time
+    (λ hi. span-given (wrappers_in c.args.attrs.now.strings.now c.in_ok-w.w) c.args.place c.args.first c.args.inner.rows hi c.args.inner.boundary c.args.stamp c.args.time
     c.args.segments.now c.put_span-a.new.segments y c.put_span-a.result
-    (rw (to_z-of_z c.ranges.time, c.around.ensures.1 c.args.strings.now fits) at c.put_span-a.ensures))
+    (rw (to_z-of_z c.ranges.time, c.around.ensures.1 c.args.attrs.now.strings.now fits) at c.put_span-a.ensures))

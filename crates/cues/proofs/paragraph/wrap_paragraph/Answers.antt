@@ -9,6 +9,6 @@ returns c =
     let e = c.in_ok-w.ensures.of_rows l o in
     let fits = c.in_ok-w.ensures.family_fits in
     rw c.ok_or.ensures.value
-    (wrap-dressed (attrs_in c.args.strings.now l) (wrappers_in c.args.strings.now c.in_ok-w.w) c.args.e.place c.args.first c.args.end c.args.segments.now
+    (wrap-dressed (attrs_in c.args.attrs.now.strings.now l) (wrappers_in c.args.attrs.now.strings.now c.in_ok-w.w) c.args.place c.args.first c.args.end c.args.segments.now
     c.put_paragraph.new.segments c.put_paragraph.result e
-    (rw (c.around.ensures.1 c.args.strings.now fits) at c.put_paragraph.ensures))
+    (rw (c.around.ensures.1 c.args.attrs.now.strings.now fits) at c.put_paragraph.ensures))

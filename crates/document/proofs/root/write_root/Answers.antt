@@ -1,37 +1,37 @@
 -- `write_root` meets its contract.
-use Rattle.writer.proofs.Chaining.{puts_stop, puts_then}
+use Rattle.writer.proofs.Chaining.{writes_stop, writes_then}
 use Rattle.document.specs.Roots.{root_text}
 use Rattle.document.proofs.root.write_root.Goals as goal
 
 pub write_params-requires : goal.write_params-requires
 write_params-requires c =
-    (rw c.get.ensures c.requires.0.params, c.in_ok-at-2.ensures.room)
+    rw c.get.ensures c.requires.params
 
 pub put_lang-requires : goal.put_lang-requires
 put_lang-requires c =
-    (c.in_ok-at-3.ensures.room, c.requires.0.head, c.requires.0.lang)
+    (c.requires.head, c.requires.lang)
 
-pub returns-in_err-at : goal.returns-in_err-at
+pub returns-in_err-put : goal.returns-in_err-put
 unfolding root_text
-returns-in_err-at c =
-    rw c.from_residual.ensures (puts_stop _ c.in_err-at.ensures)
+returns-in_err-put c =
+    rw c.from_residual.ensures (writes_stop _ c.in_err-put.ensures)
 
-pub returns-in_err-at-2 : goal.returns-in_err-at-2
+pub returns-in_err-put_namespaces : goal.returns-in_err-put_namespaces
 unfolding root_text
-returns-in_err-at-2 c =
-    rw c.from_residual-in_err-at-2.ensures (puts_then c.in_ok-at.ensures (puts_stop _ c.in_err-at-2.ensures))
+returns-in_err-put_namespaces c =
+    rw c.from_residual-in_err-put_namespaces.ensures (writes_then c.in_ok-put.ensures (writes_stop _ c.in_err-put_namespaces.ensures))
 
-pub returns-in_err-at-3 : goal.returns-in_err-at-3
+pub returns-in_err-write_params : goal.returns-in_err-write_params
 unfolding root_text
-returns-in_err-at-3 c =
-    rw c.from_residual-in_err-at-3.ensures (puts_then c.in_ok-at.ensures (puts_then c.in_ok-at-2.ensures (puts_stop _ (rw c.get.ensures at c.in_err-at-3.ensures))))
+returns-in_err-write_params c =
+    rw c.from_residual-in_err-write_params.ensures (writes_then c.in_ok-put.ensures (writes_then c.in_ok-put_namespaces.ensures (writes_stop _ (rw c.get.ensures at c.in_err-write_params.ensures))))
 
-pub returns-in_err-at-4 : goal.returns-in_err-at-4
+pub returns-in_err-put_lang : goal.returns-in_err-put_lang
 unfolding root_text
-returns-in_err-at-4 c =
-    rw c.from_residual-in_err-at-4.ensures (puts_then c.in_ok-at.ensures (puts_then c.in_ok-at-2.ensures (puts_then (rw c.get.ensures at c.in_ok-at-3.ensures) (puts_stop _ c.in_err-at-4.ensures))))
+returns-in_err-put_lang c =
+    rw c.from_residual-in_err-put_lang.ensures (writes_then c.in_ok-put.ensures (writes_then c.in_ok-put_namespaces.ensures (writes_then (rw c.get.ensures at c.in_ok-write_params.ensures) (writes_stop _ c.in_err-put_lang.ensures))))
 
 pub returns : goal.returns
 unfolding root_text
 returns c =
-    puts_then c.in_ok-at.ensures (puts_then c.in_ok-at-2.ensures (puts_then (rw c.get.ensures at c.in_ok-at-3.ensures) (puts_then c.in_ok-at-4.ensures c.put-2.ensures)))
+    writes_then c.in_ok-put.ensures (writes_then c.in_ok-put_namespaces.ensures (writes_then (rw c.get.ensures at c.in_ok-write_params.ensures) (writes_then c.in_ok-put_lang.ensures c.put-2.ensures)))

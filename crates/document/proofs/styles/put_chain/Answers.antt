@@ -1,5 +1,5 @@
 -- `put_chain` meets its contract.
-use Rattle.writer.proofs.Chaining.{puts_none}
+use Rattle.writer.proofs.Chaining.{writes_none}
 use mathlib.Core.Path.{sym, ◌∙◌}
 use native.Mathlib.Omega.{arith}
 use Rattle.track.specs.Tables.{cell}
@@ -14,7 +14,7 @@ unfolding string_at cell
 overflow_mul-j c =
     let h = sym c.find_chain.ensures ∙ c.in-Some.is in
     let b = (with_first _ _ _ 27 _ 3 _ h).within in
-    let p = c.requires.1.rows in
+    let p = c.requires.0.rows in
     search (rules, b, p)
 
 pub overflow_add-j : goal.overflow_add-j
@@ -22,7 +22,7 @@ unfolding string_at cell
 overflow_add-j c =
     let h = sym c.find_chain.ensures ∙ c.in-Some.is in
     let b = (with_first _ _ _ 27 _ 3 _ h).within in
-    let p = c.requires.1.rows in
+    let p = c.requires.0.rows in
     search (rules, b, p)
 
 pub get-place-requires : goal.get-place-requires
@@ -30,7 +30,7 @@ unfolding string_at cell
 get-place-requires c =
     let h = sym c.find_chain.ensures ∙ c.in-Some.is in
     let b = (with_first _ _ _ 27 _ 3 _ h).within in
-    let p = c.requires.1.rows in
+    let p = c.requires.0.rows in
     omega (arith, b, p)
 
 pub overflow_mul-j-in-Some : goal.overflow_mul-j-in-Some
@@ -38,7 +38,7 @@ unfolding string_at cell
 overflow_mul-j-in-Some c =
     let h = sym c.find_chain.ensures ∙ c.in-Some.is in
     let b = (with_first _ _ _ 27 _ 3 _ h).within in
-    let p = c.requires.1.rows in
+    let p = c.requires.0.rows in
     search (rules, b, p)
 
 pub overflow_add-j-in-Some : goal.overflow_add-j-in-Some
@@ -46,7 +46,7 @@ unfolding string_at cell
 overflow_add-j-in-Some c =
     let h = sym c.find_chain.ensures ∙ c.in-Some.is in
     let b = (with_first _ _ _ 27 _ 3 _ h).within in
-    let p = c.requires.1.rows in
+    let p = c.requires.0.rows in
     search (rules, b, p)
 
 pub get-len-requires : goal.get-len-requires
@@ -54,7 +54,7 @@ unfolding string_at cell
 get-len-requires c =
     let h = sym c.find_chain.ensures ∙ c.in-Some.is in
     let b = (with_first _ _ _ 27 _ 3 _ h).within in
-    let p = c.requires.1.rows in
+    let p = c.requires.0.rows in
     omega (arith, b, p)
 
 pub span_attr-requires : goal.span_attr-requires
@@ -62,18 +62,16 @@ unfolding string_at cell
 span_attr-requires c =
     let h = sym c.find_chain.ensures ∙ c.in-Some.is in
     let b = (with_first _ _ _ 27 _ 3 _ h).within in
-    let p = c.requires.1.rows in (
-      c.requires.0,
-      rw
-          (c.get-place.ensures, c.get-len.ensures)
-          (c.requires.2 _ (omega (arith, b))),
-    )
+    let p = c.requires.0.rows in
+    rw
+    (c.get-place.ensures, c.get-len.ensures)
+    (c.requires.1 _ (omega (arith, b)))
 
 pub returns-in-None : goal.returns-in-None
 unfolding chain_text string_at cell
 returns-in-None c =
     let h = sym c.find_chain.ensures ∙ c.in-None.is in
-    rw h (puts_none _ _ c.requires.0)
+    rw h (writes_none _)
 
 pub returns-in-Some : goal.returns-in-Some
 unfolding chain_text string_at cell

@@ -10,6 +10,6 @@ use Rattle.extras.proofs.extras.first_rows.Given as goal
 
 abbrev pub invariant-loop-k : goal.invariant-loop-k
 invariant-loop-k at = (length at.rows ≡ length at.initial.rows)
-    × RowsFit at.attrs at.strings at.rows
-    × ((l : List Attr) → Owned at.attrs at.strings at.first at.many l → Noted at.list at.attrs at.strings at.rows at.k at.end l)
+    × RowsFit at.attrs.attrs.now at.attrs.strings.now at.rows
+    × ((l : List Attr) → Owned at.attrs.attrs.now at.attrs.strings.now at.attrs.first at.attrs.many l → Noted at.list at.attrs.attrs.now at.attrs.strings.now at.rows at.k at.end l)
     × NoneFrom at.list at.last at.rows

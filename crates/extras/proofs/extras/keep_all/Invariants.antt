@@ -10,4 +10,4 @@ use Rattle.extras.proofs.extras.keep_all.Given as goal
 
 abbrev pub invariant-loop-i : goal.invariant-loop-i
 invariant-loop-i at = (length at.extras ≡ length at.initial.extras)
-    × ((l : List (Attr Placed)) → FirstRows at.attrs at.strings at.list at.rows l → Kept at.list l at.i at.n at.at at.initial.extras at.extras)
+    × ((l : List (Attr Placed)) → FirstRows at.attrs.attrs.now at.attrs.strings.now at.list at.rows l → Kept at.list l at.i at.n at.at at.initial.extras at.extras)

@@ -10,7 +10,7 @@ pub returns-then-entry-eq0 : goal.returns-then-entry-eq0
 returns-then-entry-eq0 c =
     record {
       found_fits = tt;
-      value = entry_none c.args.attrs.now c.args.strings.now c.args.list c.args.i c.args.entry c.if-entry-eq0.true;
+      value = entry_none c.args.attrs.now.attrs.now c.args.attrs.now.strings.now c.args.list c.args.i c.args.entry c.if-entry-eq0.true;
     }
 
 pub attr_at-h-requires : goal.attr_at-h-requires
@@ -31,10 +31,10 @@ pub returns : goal.returns
 unfolding string_at
 returns c =
     let h = c.attr_at-h.result in
-    let z = c.args.strings.now in
+    let z = c.args.attrs.now.strings.now in
     let cells = row-cells _ _ c.attr_at-h.ensures in
     rw c.then_some.ensures (record {
       found_fits = found_if z c.args.i h (omega (arith, (c.requires.1 c.if-entry-eq0.false).1, cells.1, cells.2)) c.is_kept.result;
-      value = entry_kept c.args.attrs.now z c.args.list c.args.i c.args.entry c.if-entry-eq0.false h
+      value = entry_kept c.args.attrs.now.attrs.now z c.args.list c.args.i c.args.entry c.if-entry-eq0.false h
           c.attr_at-h.ensures c.is_kept.result (sym c.is_kept.ensures) ∙ kept_if z c.args.i h c.is_kept.result;
     })

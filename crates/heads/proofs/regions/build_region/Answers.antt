@@ -17,7 +17,7 @@ returns-then-n-ge-REGIONS c =
 
 pub add_named-requires : goal.add_named-requires
 add_named-requires c =
-    (c.requires.0, c.requires.1, c.requires.2, c.requires.3, omega (arith, c.if-n-ge-REGIONS.false), c.requires.4, rw c.in-Some.is at c.id_of.ensures.found_fits)
+    (c.requires.0, c.requires.1, c.requires.2, omega (arith, c.if-n-ge-REGIONS.false), c.requires.3, rw c.in-Some.is at c.id_of.ensures.found_fits)
 
 pub returns : goal.returns
 returns c =

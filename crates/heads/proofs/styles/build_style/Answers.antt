@@ -5,7 +5,7 @@ use Rattle.heads.proofs.styles.build_style.Goals as goal
 
 pub named-requires : goal.named-requires
 named-requires c =
-    (c.requires.0, c.requires.1, c.requires.2, c.requires.3, c.requires.4, c.requires.5, rw c.in-Some.is at c.id_of.ensures.found_fits)
+    (c.requires.0, c.requires.1, c.requires.2, c.requires.3, c.requires.4, rw c.in-Some.is at c.id_of.ensures.found_fits)
 
 pub returns : goal.returns
 returns c =

@@ -20,11 +20,10 @@ add_named-requires c = (
   c.requires.0,
   c.requires.1,
   c.requires.2,
-  c.requires.3,
   omega (arith, c.if-n-ge-STYLES.false),
+  c.requires.3,
   c.requires.4,
   c.requires.5,
-  c.requires.6,
   c.in_ok-look.ensures.look_fits,
 )
 

@@ -11,4 +11,4 @@ use Rattle.params.proofs.params.collect_params.Given as goal
 abbrev pub invariant-loop-k : goal.invariant-loop-k
 invariant-loop-k at = (length at.params ≡ length at.initial.params)
     × (at.n ≤ 64)
-    × ((l : List Attr) → Owned at.attrs at.strings at.first at.many l → Listing at.attrs at.strings at.k at.end l at.n at.initial.params at.params)
+    × ((l : List Attr) → Owned at.attrs.attrs.now at.attrs.strings.now at.attrs.first at.attrs.many l → Listing at.attrs.attrs.now at.attrs.strings.now at.k at.end l at.n at.initial.params at.params)

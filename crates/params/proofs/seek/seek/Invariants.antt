@@ -8,4 +8,5 @@ use Rattle.params.proofs.Seeking as seeking
 use Rattle.params.proofs.seek.seek.Given as goal
 
 abbrev pub invariant-loop-k : goal.invariant-loop-k
-invariant-loop-k at = (l : List Attr) → Owned at.attrs at.strings at.first at.many l → Rest (seeking.sought (sought_by at.sought at.name) at.strings) at.attrs at.strings at.k at.end l
+invariant-loop-k at = (l : List Attr) → Owned at.attrs.attrs.now at.attrs.strings.now at.attrs.first at.attrs.many l
+    → Rest (seeking.sought (sought_by at.sought at.name) at.attrs.strings.now) at.attrs.attrs.now at.attrs.strings.now at.k at.end l

@@ -5,7 +5,7 @@ use Rattle.queries.proofs.own.value_of.Goals as goal
 
 pub overflow_add-i-end : goal.overflow_add-i-end
 overflow_add-i-end c =
-    omega (arith, c.requires)
+    omega (arith, c.args.kept.now.has_extras.rows)
 
 pub loop-i-init : goal.loop-i-init
 loop-i-init c =
@@ -13,23 +13,23 @@ loop-i-init c =
 
 pub overflow_mul-i : goal.overflow_mul-i
 overflow_mul-i c =
-    omega (arith, c.requires, c.loop-i-test.true)
+    omega (arith, c.args.kept.now.has_extras.rows, c.loop-i-test.true)
 
 pub get-requires : goal.get-requires
 get-requires c =
-    omega (arith, c.requires, c.loop-i-test.true)
+    omega (arith, c.args.kept.now.has_extras.rows, c.loop-i-test.true)
 
 pub overflow_mul-i-then-get-number : goal.overflow_mul-i-then-get-number
 overflow_mul-i-then-get-number c =
-    omega (arith, c.requires, c.loop-i-test.true)
+    omega (arith, c.args.kept.now.has_extras.rows, c.loop-i-test.true)
 
 pub overflow_add-i : goal.overflow_add-i
 overflow_add-i c =
-    omega (arith, c.requires, c.loop-i-test.true)
+    omega (arith, c.args.kept.now.has_extras.rows, c.loop-i-test.true)
 
 pub span_at-requires : goal.span_at-requires
 span_at-requires c =
-    omega (arith, c.requires, c.loop-i-test.true)
+    omega (arith, c.args.kept.now.has_extras.rows, c.loop-i-test.true)
 
 pub returns-then-get-number : goal.returns-then-get-number
 returns-then-get-number c =

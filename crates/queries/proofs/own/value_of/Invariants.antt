@@ -5,4 +5,4 @@ use Rattle.queries.specs.Steps.{value_at}
 use Rattle.queries.proofs.own.value_of.Given as goal
 
 abbrev pub invariant-loop-i : goal.invariant-loop-i
-invariant-loop-i l = value_at l.extras l.number l.many l.first ≡ value_at l.extras l.number (l.i-end - l.i) l.i
+invariant-loop-i l = value_at l.kept.extras.now l.number l.kept.many l.kept.first ≡ value_at l.kept.extras.now l.number (l.i-end - l.i) l.i

@@ -31,8 +31,8 @@ get-m-requires c =
     let a = check_taken _ _ (check_none_asked _ ∙ (sym (checked-is _ c.check_track.ensures) ∙ c.in_ok-check_track.was)) in
     omega (arith, (lengths _ a.0.full).head)
 
-pub get-n-requires : goal.get-n-requires
-get-n-requires c =
+pub get-requires-2 : goal.get-requires-2
+get-requires-2 c =
     let a = check_taken _ _ (check_none_asked _ ∙ (sym (checked-is _ c.check_track.ensures) ∙ c.in_ok-check_track.was)) in
     omega (arith, (lengths _ a.0.full).head)
 
@@ -52,7 +52,7 @@ returns c =
     let h = check_none_asked _ ∙ (sym (checked-is _ c.check_track.ensures) ∙ c.in_ok-check_track.was) in
     cue_asked _ _ _ h (omega (arith, c.get.ensures, c.if-get-cue_index.false)) _ (rw (c.in-Ok.is, c.get-m.ensures, c.cue_at-cue.ensures) at
     c.cue_part.ensures) _ _ _ c.clear.ensures c.resolve_over-walked.result _
-    (rw (c.get-n.ensures, c.cue_at-cue.ensures) at c.resolve_over-walked.ensures) c.finish.ensures
+    (rw (c.get-2.ensures, c.cue_at-cue.ensures) at c.resolve_over-walked.ensures) c.finish.ensures
 
 pub cue_part-requires : goal.cue_part-requires
 cue_part-requires c =
@@ -62,12 +62,16 @@ cue_part-requires c =
           (arith, c.get.ensures, c.if-get-cue_index.false))).1,
     )
 
+pub invariant_of-named : goal.invariant_of-named
+invariant_of-named c =
+    let a = check_taken _ _ (check_none_asked _ ∙ (sym (checked-is _ c.check_track.ensures) ∙ c.in_ok-check_track.was)) in
+    record { ready = rw c.get-2.ensures (ready _ a.0) }
+
 pub resolve_over-walked-requires : goal.resolve_over-walked-requires
 resolve_over-walked-requires c =
     let a = check_taken _ _ (check_none_asked _ ∙ (sym (checked-is _ c.check_track.ensures) ∙ c.in_ok-check_track.was)) in
     let p = rw c.in-Ok.is at c.cue_part.ensures in
     let s = (cue_spans _ a.0 c.args.cue_index (omega (arith, c.get.ensures, c.if-get-cue_index.false))).0 in (
-      rw c.get-n.ensures (ready _ a.0),
       record { known = omega arith; is = refl; within = p.within.0.within; few = p.within.0.few },
       record { known = omega arith; is = refl; within = rw c.cue_at-cue.ensures s.within; few = rw c.cue_at-cue.ensures s.few },
     )

@@ -18,16 +18,20 @@ region_part-requires c =
     let a = check_taken _ _ (sym c.check_query.ensures ∙ c.in_ok-check_query.was) in
     rw c.get.ensures (has_regions _ a.0)
 
-pub get-n-requires : goal.get-n-requires
-get-n-requires c =
+pub get-requires-2 : goal.get-requires-2
+get-requires-2 c =
     let a = check_taken _ _ (sym c.check_query.ensures ∙ c.in_ok-check_query.was) in
     omega (arith, (lengths _ a.0.full).head)
+
+pub invariant_of-named : goal.invariant_of-named
+invariant_of-named c =
+    let a = check_taken _ _ (sym c.check_query.ensures ∙ c.in_ok-check_query.was) in
+    record { ready = rw c.get-2.ensures (ready _ a.0) }
 
 pub resolve_over-walked-requires : goal.resolve_over-walked-requires
 resolve_over-walked-requires c =
     let a = check_taken _ _ (sym c.check_query.ensures ∙ c.in_ok-check_query.was) in
     let p = rw c.in-Ok.is at c.region_part.ensures in (
-      rw c.get-n.ensures (ready _ a.0),
       record { known = omega arith; is = refl; within = p.within.0.within; few = p.within.0.few },
       record { known = omega arith; is = refl; within = omega arith; few = omega arith },
     )
@@ -47,4 +51,4 @@ returns c =
     let h = sym c.check_query.ensures ∙ c.in_ok-check_query.was in
     region_asked _ _ _ h _ (rw (c.in-Ok.is, c.get.ensures) at c.region_part.ensures) _ _ _ c.clear.ensures
     c.resolve_over-walked.result _
-    (rw (c.get-n.ensures, no_bytes) at c.resolve_over-walked.ensures) c.finish.ensures
+    (rw (c.get-2.ensures, no_bytes) at c.resolve_over-walked.ensures) c.finish.ensures

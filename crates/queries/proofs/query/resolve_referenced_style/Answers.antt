@@ -8,15 +8,19 @@ use Rattle.queries.proofs.Asking.{whole, no_bytes, referenced, value-asked}
 use Rattle.queries.specs.Promise.{of_value}
 use Rattle.queries.proofs.query.resolve_referenced_style.Goals as goal
 
-pub get-n-requires : goal.get-n-requires
-get-n-requires c =
+pub get-requires : goal.get-requires
+get-requires c =
     let a = check_taken _ _ (sym c.check_query.ensures ∙ c.in_ok-check_query.was) in
     omega (arith, (lengths _ a.0.full).head)
+
+pub invariant_of-named : goal.invariant_of-named
+invariant_of-named c =
+    let a = check_taken _ _ (sym c.check_query.ensures ∙ c.in_ok-check_query.was) in
+    record { ready = rw c.get.ensures (ready _ a.0) }
 
 pub resolve_over-walked-requires : goal.resolve_over-walked-requires
 resolve_over-walked-requires c =
     let a = check_taken _ _ (sym c.check_query.ensures ∙ c.in_ok-check_query.was) in (
-      rw c.get-n.ensures (ready _ a.0),
       record { known = omega arith; is = refl; within = omega arith; few = omega (arith, a.1) },
       record { known = omega arith; is = refl; within = omega arith; few = omega arith },
     )
@@ -29,4 +33,4 @@ pub returns : goal.returns
 returns c =
     let h = sym c.check_query.ensures ∙ c.in_ok-check_query.was in
     value-asked _ _ _ h _ c.blank-look.ensures _ _ _ c.clear.ensures _ _ c.trim-name.ensures c.resolve_over-walked.result _
-    (rw (c.get-n.ensures, whole, no_bytes) at c.resolve_over-walked.ensures) c.finish.ensures
+    (rw (c.get.ensures, whole, no_bytes) at c.resolve_over-walked.ensures) c.finish.ensures

@@ -12,15 +12,11 @@ pub region_at-region-requires : goal.region_at-region-requires
 region_at-region-requires c =
     omega (arith, row_within _ [] _ _ _ _ (sym c.find_region.ensures ∙ c.in-Some.is), c.requires.named.rows)
 
-pub own_values-requires : goal.own_values-requires
+pub invariant_of-kept : goal.invariant_of-kept
 unfolding region_at cell
-own_values-requires c =
-    rw c.region_at-region.ensures (c.requires.extras _ (row_within _ [] _ _ _ _ (sym c.find_region.ensures ∙ c.in-Some.is)))
-
-pub value_of-value-requires : goal.value_of-value-requires
-unfolding region_at cell
-value_of-value-requires c =
-    rw c.region_at-region.ensures (c.requires.extras _ (row_within _ [] _ _ _ _ (sym c.find_region.ensures ∙ c.in-Some.is))).rows
+invariant_of-kept c =
+    let h = c.requires.extras _ (row_within _ [] _ _ _ _ (sym c.find_region.ensures ∙ c.in-Some.is)) in
+    record { has_extras = rw c.region_at-region.ensures h }
 
 pub returns-in_default : goal.returns-in_default
 returns-in_default c =

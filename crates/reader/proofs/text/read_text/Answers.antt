@@ -1,5 +1,4 @@
 -- `read_text` meets its contract, by its outcomes. Assumes nothing.
-use mathlib.Core.Path.{◌∙◌}
 use borrow.Author.Tests.{not-true, not-false}
 use Rattle.scan.proofs.Handed.{handed_on}
 use Rattle.reader.proofs.Shells.{short_promise, away_promise, tree-asks, tree-promise}

@@ -4,12 +4,12 @@ use lib.Seq.{length-take-le}
 use Rattle.reader.proofs.Shells.{kept_laid, zero_as}
 use Rattle.reader.proofs.text.read_tree.Goals as goal
 
-pub slice_bounds-used-end : goal.slice_bounds-used-end
-slice_bounds-used-end c =
+pub slice_bounds-tree-end : goal.slice_bounds-tree-end
+slice_bounds-tree-end c =
     c.requires.ends.strings.0
 
-pub slice_bounds-used-end-2 : goal.slice_bounds-used-end-2
-slice_bounds-used-end-2 c =
+pub slice_bounds-tree-end-2 : goal.slice_bounds-tree-end-2
+slice_bounds-tree-end-2 c =
     sym (length-take-le _ _ c.requires.ends.strings.0)
 
 pub read_nodes-requires : goal.read_nodes-requires

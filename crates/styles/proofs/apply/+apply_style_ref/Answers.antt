@@ -11,16 +11,16 @@ use Rattle.styles.proofs.apply.+apply_style_ref.Goals as goal
 use Rattle.styles.proofs.apply.+apply_style_ref.Goals.{After-add_id}
 
 abbrev Entered : (t : ℕ) → After-add_id t → Type 0
-Entered t c = Entry c.args.text.now c.args.strings.now c.args.own.now c.args.source c.args.at c.args.len c.args.ids.now c.args.heads.now
+Entered t c = Entry c.args.text.now c.args.named.now.strings.now c.args.own.now c.args.source c.args.at c.args.len c.args.ids.now c.args.heads.now
     c.add_id.new.ids c.add_id.new.heads c.args.w
 
 -- the row that was added
 entered : (t : ℕ) (c : After-add_id t) → Entered t c
 unfolding string_at
 entered t c = record {
-  held = c.requires.2;
+  held = c.requires.1;
   new = sym c.is_visited.ensures ∙ c.if-is_visited.false;
-  stands = c.requires.1;
+  stands = c.requires.0;
   kept = c.add_id.auto.ids;
   post = c.add_id.ensures;
 }
@@ -28,17 +28,17 @@ entered t c = record {
 pub returns-then-is_visited : goal.returns-then-is_visited
 unfolding string_at
 returns-then-is_visited t c =
-    applied-again _ _ _ _ _ _ _ _ _ c.requires.2 _ (stands_name _ _ _ _ _ _ c.requires.1) (sym c.is_visited.ensures ∙ c.if-is_visited.true)
+    applied-again _ _ _ _ _ _ _ _ _ c.requires.1 _ (stands_name _ _ _ _ _ _ c.requires.0) (sym c.is_visited.ensures ∙ c.if-is_visited.true)
 
 pub returns-then-count-ge65536 : goal.returns-then-count-ge65536
 unfolding string_at
 returns-then-count-ge65536 t c =
-    applied-full _ _ _ _ _ _ _ _ _ c.requires.2 (sym c.is_visited.ensures ∙ c.if-is_visited.false) (inl c.if-count-ge65536.true)
+    applied-full _ _ _ _ _ _ _ _ _ c.requires.1 (sym c.is_visited.ensures ∙ c.if-is_visited.false) (inl c.if-count-ge65536.true)
 
 pub returns-then-ids-count-lt4 : goal.returns-then-ids-count-lt4
 unfolding string_at
 returns-then-ids-count-lt4 t c =
-    applied-full _ _ _ _ _ _ _ _ _ c.requires.2 (sym c.is_visited.ensures ∙ c.if-is_visited.false) (inr c.if-ids-count-lt4.true)
+    applied-full _ _ _ _ _ _ _ _ _ c.requires.1 (sym c.is_visited.ensures ∙ c.if-is_visited.false) (inr c.if-ids-count-lt4.true)
 
 pub loop-x-init : goal.loop-x-init
 unfolding string_at
@@ -53,9 +53,8 @@ apply_style_ref-requires t c =
     let w = rw c.in-Some.is at c.next_word.ensures in
     let g = c.loop-x.invariant.grown in
     let end = c.chain_of-chain.ensures in (
-      omega (arith, c.decreases, g.kept, g.more, g.held.tree.rows, c.add_id.auto.ids, c.if-ids-count-lt4.false, c.requires.2.tree.rows),
+      omega (arith, c.decreases, g.kept, g.more, g.held.tree.rows, c.add_id.auto.ids, c.if-ids-count-lt4.false, c.requires.1.tree.rows),
       (
-        c.requires.0,
         record {
           known = omega arith;
           is = refl;

@@ -10,7 +10,7 @@ overflow_mul-i c =
     omega (
       arith,
       chain_row_within _ [] [] _ _ _ _ (sym c.find_chain.ensures ∙ c.in-Some.is),
-      c.requires.named.rows,
+      c.args.named.now.ready.chained.named.rows,
     )
 
 pub overflow_add-i : goal.overflow_add-i
@@ -18,7 +18,7 @@ overflow_add-i c =
     omega (
       arith,
       chain_row_within _ [] [] _ _ _ _ (sym c.find_chain.ensures ∙ c.in-Some.is),
-      c.requires.named.rows,
+      c.args.named.now.ready.chained.named.rows,
     )
 
 pub get-requires : goal.get-requires
@@ -26,7 +26,7 @@ get-requires c =
     omega (
       arith,
       chain_row_within _ [] [] _ _ _ _ (sym c.find_chain.ensures ∙ c.in-Some.is),
-      c.requires.named.rows,
+      c.args.named.now.ready.chained.named.rows,
     )
 
 pub overflow_mul-i-in-Some : goal.overflow_mul-i-in-Some
@@ -34,7 +34,7 @@ overflow_mul-i-in-Some c =
     omega (
       arith,
       chain_row_within _ [] [] _ _ _ _ (sym c.find_chain.ensures ∙ c.in-Some.is),
-      c.requires.named.rows,
+      c.args.named.now.ready.chained.named.rows,
     )
 
 pub overflow_add-i-in-Some : goal.overflow_add-i-in-Some
@@ -42,7 +42,7 @@ overflow_add-i-in-Some c =
     omega (
       arith,
       chain_row_within _ [] [] _ _ _ _ (sym c.find_chain.ensures ∙ c.in-Some.is),
-      c.requires.named.rows,
+      c.args.named.now.ready.chained.named.rows,
     )
 
 pub get-requires-in-Some : goal.get-requires-in-Some
@@ -50,16 +50,16 @@ get-requires-in-Some c =
     omega (
       arith,
       chain_row_within _ [] [] _ _ _ _ (sym c.find_chain.ensures ∙ c.in-Some.is),
-      c.requires.named.rows,
+      c.args.named.now.ready.chained.named.rows,
     )
 
 pub returns-in-Some : goal.returns-in-Some
 returns-in-Some c =
     let h = sym c.find_chain.ensures ∙ c.in-Some.is in
+    let l = chain_row_within _ [] [] _ _ _ _ h in
     record {
-      within = rw (c.get.ensures, c.get-in-Some.ensures) (c.requires.chains _ (chain_row_within _ [] [] _ _ _ _ h));
-      few = rw (c.get.ensures, c.get-in-Some.ensures) (c.requires.few _
-          (chain_row_within _ [] [] _ _ _ _ h));
+      within = rw (c.get.ensures, c.get-in-Some.ensures) (c.args.named.now.ready.chained.chains _ l);
+      few = rw (c.get.ensures, c.get-in-Some.ensures) (c.args.named.now.ready.chained.few _ l);
       is = chain-at _ _ _ _ _ h _ c.get.ensures c.get-in-Some.ensures;
     }
 

@@ -9,7 +9,8 @@ use Rattle.styles.proofs.apply.own_style.Goals as goal
 pub style_at-style-requires : goal.style_at-style-requires
 style_at-style-requires c =
     let l = own-row_within _ [] [] _ _ _ _ (sym c.find_style.ensures ∙ c.in-Some.is) in
-    (omega (arith, l, c.requires.chained.named.rows), omega (arith, l, c.requires.sizes), c.requires.color _ l, c.requires.back _ l)
+    let r = c.args.named.now.ready in
+    (omega (arith, l, r.chained.named.rows), omega (arith, l, r.sizes), r.color _ l, r.back _ l)
 
 pub returns-in-Some : goal.returns-in-Some
 returns-in-Some c =

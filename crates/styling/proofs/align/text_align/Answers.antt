@@ -8,8 +8,8 @@ use Rattle.styling.proofs.align.text_align.Goals as goal
 pub returns-in-Some : goal.returns-in-Some
 unfolding align_in
 returns-in-Some c =
-    λ l y. let x = rw c.in-Some.is at (c.find.ensures l y) in rw c.value.ensures at c.parse_text_align.ensures ∙ sym (ap (align_or with_places) (found-valued x))
+    λ l y. let x = rw c.in-Some.is at (c.find.ensures.of_rows l y) in rw c.value.ensures at c.parse_text_align.ensures ∙ sym (ap (align_or with_places) (found-valued x))
 
 pub returns-in-None : goal.returns-in-None
 returns-in-None c =
-    λ l y. let x = rw c.in-None.is at (c.find.ensures l y) in sym (ap (align_or with_places) (none-valued x))
+    λ l y. let x = rw c.in-None.is at (c.find.ensures.of_rows l y) in sym (ap (align_or with_places) (none-valued x))

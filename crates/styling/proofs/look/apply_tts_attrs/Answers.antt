@@ -2,13 +2,14 @@
 use mathlib.Core.Path.{ap, ◌∙◌}
 use Rattle.scan.proofs.Handed.{handed_on}
 use Rattle.meaning.specs.Answers.{is}
+use Rattle.xml.proofs.RowFacts.{has_rows}
 use Rattle.styling.proofs.Looks.{look-sized, size-refused, look-backed, back_refused, look-colored, color-refused}
 use Rattle.styling.proofs.look.apply_tts_attrs.Goals as goal
 
 pub returns : goal.returns
 returns c =
     record {
-      look_fits = rw c.look_of.ensures.family_value (c.font_of-font.ensures c.requires.0 c.requires.1).within;
+      look_fits = rw c.look_of.ensures.family_value (c.font_of-font.ensures (has_rows c.args.attrs.now.room c.args.attrs.now.within).0 (has_rows c.args.attrs.now.room c.args.attrs.now.within).1).within;
       of_rows = λ l y. ap is (c.look_of.ensures.of_rows l y ∙ rw ((c.font_of-font.ensures l y).family_is, (c.font_of-font.ensures l y).size_is))
           ∙ (look-sized _ _ _ _ (c.in_ok-size.ensures l y)
           ∙ (look-backed _ _ _ (c.in_ok-back.ensures l y) ∙ look-colored _ _ (c.in_ok-color.ensures l y)));

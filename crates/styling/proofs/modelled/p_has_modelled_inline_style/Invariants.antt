@@ -7,4 +7,5 @@ use Rattle.styling.proofs.Shown.{asked}
 use Rattle.styling.proofs.modelled.p_has_modelled_inline_style.Given as goal
 
 abbrev pub invariant-loop-k : goal.invariant-loop-k
-invariant-loop-k at = (l : List Attr) → Owned at.attrs at.strings at.first at.many l → Rest (asked at.strings) at.attrs at.strings at.k at.end l
+invariant-loop-k at = (l : List Attr) → Owned at.attrs.attrs.now at.attrs.strings.now at.attrs.first at.attrs.many l
+    → Rest (asked at.attrs.strings.now) at.attrs.attrs.now at.attrs.strings.now at.k at.end l

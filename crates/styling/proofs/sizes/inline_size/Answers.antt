@@ -5,8 +5,8 @@ use Rattle.styling.proofs.sizes.inline_size.Goals as goal
 
 pub returns-in-Some : goal.returns-in-Some
 returns-in-Some c =
-    λ l y. let x = rw c.in-Some.is at (c.find.ensures l y) in rw c.value.ensures at c.up_to_number.ensures ∙ sym (found-reading x _)
+    λ l y. let x = rw c.in-Some.is at (c.find.ensures.of_rows l y) in rw c.value.ensures at c.up_to_number.ensures ∙ sym (found-reading x _)
 
 pub returns-in-None : goal.returns-in-None
 returns-in-None c =
-    λ l y. let x = rw c.in-None.is at (c.find.ensures l y) in sym (none-reading x _)
+    λ l y. let x = rw c.in-None.is at (c.find.ensures.of_rows l y) in sym (none-reading x _)

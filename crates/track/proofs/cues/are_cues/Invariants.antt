@@ -6,4 +6,4 @@ use Rattle.track.proofs.cues.are_cues.Given as goal
 
 abbrev pub invariant-loop-i : goal.invariant-loop-i
 invariant-loop-i l = (l.from ≤ l.most)
-    × (are_cues l.cues l.extras l.segments l.strings l.texts l.most 0 l.n 0 ≡ are_cues l.cues l.extras l.segments l.strings l.texts l.most l.from (l.n - l.i) l.i)
+    × (are_cues l.t.cues.now l.t.extras.now l.t.segments.now l.t.strings.now l.t.texts.now l.most 0 l.n 0 ≡ are_cues l.t.cues.now l.t.extras.now l.t.segments.now l.t.strings.now l.t.texts.now l.most l.from (l.n - l.i) l.i)

@@ -5,4 +5,4 @@ use Rattle.track.specs.Meaning.{is_param, all_rows}
 use Rattle.track.proofs.params.are_params.Given as goal
 
 abbrev pub invariant-loop-i : goal.invariant-loop-i
-invariant-loop-i l = (all_rows (is_param l.params l.strings) l.n 0 ≡ all_rows (is_param l.params l.strings) (l.n - l.i) l.i)
+invariant-loop-i l = (all_rows (is_param l.t.params.now l.t.strings.now) l.n 0 ≡ all_rows (is_param l.t.params.now l.t.strings.now) (l.n - l.i) l.i)

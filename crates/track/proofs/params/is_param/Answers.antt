@@ -16,6 +16,6 @@ returns-then-is_span-2 c =
           let h = sym c.is_span.ensures ∙ w.if-is_span.true in
           let k = sym w.is_span-then-is_span.ensures ∙ sym w.value-is ∙ c.if-is_span-2.true in
           rw (add-zero (c.args.i * 4), ← c.get-name.ensures, ← c.get-len.ensures, h, ← c.get-value.ensures, ← w.get.ensures, k)
-          (every-is _ c.args.strings.now c.get-name.result c.get-len.result _ h c.over.ensures)
+          (every-is _ c.args.t.now.strings.now c.get-name.result c.get-len.result _ h c.over.ensures)
       | else-is_span w ↦ cc
     ]

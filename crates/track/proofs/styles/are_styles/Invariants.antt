@@ -5,4 +5,4 @@ use Rattle.track.specs.Meaning.{is_style, all_rows}
 use Rattle.track.proofs.styles.are_styles.Given as goal
 
 abbrev pub invariant-loop-i : goal.invariant-loop-i
-invariant-loop-i l = (all_rows (is_style l.styles l.sizes l.extras l.strings) l.n 0 ≡ all_rows (is_style l.styles l.sizes l.extras l.strings) (l.n - l.i) l.i)
+invariant-loop-i l = (all_rows (is_style l.t.styles.now l.t.sizes.now l.t.extras.now l.t.strings.now) l.n 0 ≡ all_rows (is_style l.t.styles.now l.t.sizes.now l.t.extras.now l.t.strings.now) (l.n - l.i) l.i)

@@ -5,7 +5,7 @@ use native.Mathlib.Omega.{arith}
 use lib.ListN.{length, length-replicate}
 use Prim.Native.Nat.{ℕ}
 use Rattle.writer.proofs.Accepting.{long, cue_ready}
-use Rattle.writer.proofs.CallLaws.{checked, accepted, clear_self, filled-same}
+use Rattle.writer.proofs.CallLaws.{checked, accepted, clear_self}
 use Rattle.writer.proofs.Promised.{promise_refused, promise_cue, promise_past}
 use Rattle.writer.proofs.calls.cue_to_bytes.Goals as goal
 
@@ -38,5 +38,4 @@ pub returns : goal.returns
 returns c =
     let t = checked _ _ _ c.in_ok-check_track.ensures refl in
     let e = ap length c.clear_bytes.ensures ∙ length-replicate {A = ℕ} _ 0 in
-    let f = filled-same _ _ _ _ _ c.fill_cue.ensures in
-    promise_cue _ _ _ _ _ t (omega (arith, c.if-get-index.false, c.get.ensures)) _ e f
+    promise_cue _ _ _ _ _ t (omega (arith, c.if-get-index.false, c.get.ensures)) _ e c.fill_cue.ensures

@@ -1,8 +1,0 @@
--- `write_extras` meets its contract.
-use Rattle.std.specs.Prelude.{Some}
-use Rattle.writer.proofs.Rowing.{Rowed}
-use Rattle.writer.specs.Rows.{extra_text}
-use Rattle.writer.proofs.extras.write_extras.Given as goal
-
-abbrev pub invariant-loop-i : goal.invariant-loop-i
-invariant-loop-i l = Rowed (extra_text l.list l.extras l.strings) l.first l.n (Some l.initial.at) l.initial.out l.i (Some l.at) l.out
