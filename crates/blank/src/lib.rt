@@ -96,37 +96,16 @@ fn long_enough(
         (lengths (rest head.now params.now styles.now regions.now cues.now
         times.now segments.now sizes.now extras.now texts.now))) result }
 {
-    if head.len() < HEAD {
-        return false;
-    }
-    if params.len() < PARAMS {
-        return false;
-    }
-    if styles.len() < STYLES {
-        return false;
-    }
-    if regions.len() < REGIONS {
-        return false;
-    }
-    if cues.len() < CUES {
-        return false;
-    }
-    if times.len() < TIMES {
-        return false;
-    }
-    if segments.len() < SEGMENTS {
-        return false;
-    }
-    if sizes.len() < SIZES {
-        return false;
-    }
-    if extras.len() < EXTRAS {
-        return false;
-    }
-    if texts.len() < TEXTS {
-        return false;
-    }
-    true
+    HEAD <= head.len()
+        && PARAMS <= params.len()
+        && STYLES <= styles.len()
+        && REGIONS <= regions.len()
+        && CUES <= cues.len()
+        && TIMES <= times.len()
+        && SEGMENTS <= segments.len()
+        && SIZES <= sizes.len()
+        && EXTRAS <= extras.len()
+        && TEXTS <= texts.len()
 }
 
 // Every cell is 0; is each table long enough?

@@ -1,4 +1,5 @@
 -- A colour that is written is read back as itself, or with the alpha that is not written at 255. Assumes nothing.
+use Rattle.std.specs.Prelude.{Some, Result, Ok}
 use Prim.Native.Nat.{ℕ, zero, suc, ◌+◌, ◌-◌, ◌/◌, ◌%◌, ◌≤◌, ◌<◌}
 use mathlib.Core.Path.{◌≡◌, refl, ◌∙◌}
 use mathlib.Core.Bool.{false}
@@ -13,18 +14,17 @@ use Rattle.utf8.specs.White.{white_at, ends_with, white_before, trimmed}
 use Rattle.scan.proofs.Every.{by-test}
 use Rattle.utf8.proofs.Utf8Laws.{sequence-ascii}
 use Rattle.utf8.proofs.WhiteLaws.{is_white-visible, white_at-other, ends_with_on, ends_with_short, ends_with_out, trimmed-none, trimmed-all}
-use Rattle.numerals.specs.declared.Numeral.{Numeral}
 use Rattle.numerals.specs.Numerals.{value_from, numeral_of}
 use Rattle.numerals.specs.Written.{digit_char, padded}
 use Rattle.numerals.proofs.Numerals.{numeral_plain}
 use Rattle.numerals.proofs.Writing.{char_low, char_high, padded-length, padded-digits, padded-value}
 use Rattle.utf8.specs.Utf8.{boundary}
 use Rattle.colors.specs.declared.read.Rgba.{Rgba}
-use Rattle.colors.specs.declared.read.Color.{Color}
 use Rattle.colors.specs.Named.{rgba}
 use Rattle.colors.specs.Colors.{hex_channel, hex_color, color_in}
 use Rattle.colors.specs.Written.{hex, rgb_text, rgba_text}
 use Rattle.colors.proofs.Reading.{color-hash}
+use Rattle.colors.specs.declared.read.ColorError.{ColorError}
 
 -- ---- visible ASCII characters are not trimmed
 abbrev pub Visible : List ℕ → Type 0
@@ -75,7 +75,7 @@ visible_hex n s v =
     let y = digit_visible n in
     (x.0, x.1, (y.0, y.1, v))
 
-hex-back : (n : ℕ) → n < 256 → numeral_of (hex n) 16 255 false ≡ Numeral.Is (record { negative = false; magnitude = n })
+hex-back : (n : ℕ) → n < 256 → numeral_of (hex n) 16 255 false ≡ Some (record { negative = false; magnitude = n })
 hex-back n h =
     let v : value_from 16 0 (hex n) ≡ n = padded-value 16 (omega arith) (omega arith) 2 n h in
     numeral_plain 16 255 (hex n) false (omega arith) (omega (arith, padded-length 16 2 n))
@@ -84,10 +84,10 @@ hex-back n h =
 starts : (n : ℕ) → leb 0x80 (digit_char (n / 16 % 16)) ≡ false
 starts n = lt-leb 0x80 (digit_char (n / 16 % 16)) (digit_visible (n / 16)).1
 
-hash_back : (w : List ℕ) {x : Color} → Visible w → hex_color w ≡ x → color_in (35 ∷ w) ≡ x
+hash_back : (w : List ℕ) {x : Result Rgba ColorError} → Visible w → hex_color w ≡ x → color_in (35 ∷ w) ≡ x
 unfolding color_in
 hash_back w v e =
-    rw (trimmed-visible (35 ∷ w) (omega arith, omega arith, v)) (color-hash (35 ∷ w) (omega arith) refl ∙ e)
+    rw (trimmed-visible (35 ∷ w) (omega arith, omega arith, v)) (color-hash (35 ∷ w) refl ∙ e)
 
 -- ---- the channels of a colour are bytes
 pub record Bytes (c : Rgba) : Type 0 where
@@ -97,11 +97,11 @@ pub record Bytes (c : Rgba) : Type 0 where
   pub alpha : c.a < 256
 
 module _ (c : Rgba) (w : Bytes c) where
-  six : hex_color (hex c.r ++ hex c.g ++ hex c.b) ≡ Color.Is (rgba c.r c.g c.b 255)
+  six : hex_color (hex c.r ++ hex c.g ++ hex c.b) ≡ Ok (rgba c.r c.g c.b 255)
   unfolding hex_color hex_channel boundary padded
   six = rw (starts c.g, starts c.b, hex-back c.r w.red, hex-back c.g w.green, hex-back c.b w.blue)
 
-  eight : hex_color (hex c.r ++ hex c.g ++ hex c.b ++ hex c.a) ≡ Color.Is c
+  eight : hex_color (hex c.r ++ hex c.g ++ hex c.b ++ hex c.a) ≡ Ok c
   unfolding hex_color hex_channel boundary padded
   eight =
       rw (
@@ -114,14 +114,14 @@ module _ (c : Rgba) (w : Bytes c) where
         hex-back c.a w.alpha,
       )
 
-  pub rgb_back : color_in (rgb_text c) ≡ Color.Is (rgba c.r c.g c.b 255)
+  pub rgb_back : color_in (rgb_text c) ≡ Ok (rgba c.r c.g c.b 255)
   unfolding rgb_text padded
   rgb_back =
       hash_back (hex c.r ++ hex c.g ++ hex c.b)
       (visible_hex c.r (hex c.g ++ hex c.b) (visible_hex c.g (hex c.b) (visible_hex c.b [] tt)))
       six
 
-  pub rgba-back : color_in (rgba_text c) ≡ Color.Is c
+  pub rgba-back : color_in (rgba_text c) ≡ Ok c
   unfolding rgba_text padded
   rgba-back =
       hash_back (hex c.r ++ hex c.g ++ hex c.b ++ hex c.a)

@@ -1,7 +1,8 @@
 -- Laws of colours of hexadecimal digits alone: a byte that is a digit, places between digits, and a channel by its digits. Assumes nothing.
+use Rattle.std.specs.Prelude.{Ok}
 use Prim.Native.Nat.{ℕ, zero, suc, ◌+◌, ◌-◌, ◌*◌, ◌/◌, ◌%◌, ◌^◌, ◌≤◌, ◌<◌}
 use mathlib.Core.Path.{◌≡◌, refl, sym, ap, ◌∙◌}
-use mathlib.Core.Bool.{Bool, true, false, not, cond, ◌&&◌, false≢true, and-eq-true_iff}
+use mathlib.Core.Bool.{Bool, true, false, not, cond, ◌&&◌, ◌||◌, false≢true, and-eq-true_iff, and-true}
 use mathlib.Core.List.{List, [], ◌∷◌}
 use mathlib.Core.Logic.{inl, inr}
 use native.Mathlib.Omega.{arith}
@@ -15,10 +16,10 @@ use Rattle.scan.proofs.Every.{by-test, both}
 use Rattle.utf8.proofs.Boundaries.{boundary_start, boundary_end, boundary-below}
 use Rattle.numerals.specs.Numerals.{digit_of, digits_only, value_from, signed_by_of, numeral_of}
 use Rattle.numerals.proofs.Numerals.{digit-byte, digit_capital, digit_small, digit_none, unsigned_is, numeral_bare, digits_step}
-use Rattle.colors.specs.declared.read.Channel.{Channel}
 use Rattle.colors.specs.Colors.{channel_of, full, hex_color}
 use Rattle.colors.specs.Steps.{Channels, copies, channel_at, hex_channels, alpha_at, hex_at, three_hex, HexLength}
-use Rattle.colors.proofs.Reading.{channel_is, narrow, wide, hex-three, hex-six, hex-eight}
+use Rattle.scan.proofs.Splits.{whole_part}
+use Rattle.colors.proofs.Reading.{channel_is, narrow, wide, hex-three, hex-six, hex-eight, hex-none}
 
 -- ---- a byte that is a hexadecimal digit
 pub record Hex (b : ℕ) : Type 0 where
@@ -129,20 +130,23 @@ module _ (s : List ℕ) where
   unfolding digits_only
   no_more i h = rw (drop_of_length-le s h)
 
-  pub from-three : HexLength s → 3 ≤ length s
-  from-three (inl e) = omega arith
-  from-three (inr (inl e)) = omega arith
-  from-three (inr (inr e)) = omega arith
-
-  pub from-six : HexLength s → (length s ≡ 3 → ⊥) → 6 ≤ length s
-  from-six (inl e) n = absurd (n e)
-  from-six (inr (inl e)) n = omega arith
-  from-six (inr (inr e)) n = omega arith
-
-  pub all_eight : HexLength s → (length s ≡ 3 → ⊥) → (length s ≡ 6 → ⊥) → length s ≡ 8
-  all_eight (inl e) n m = absurd (n e)
-  all_eight (inr (inl e)) n m = absurd (m e)
-  all_eight (inr (inr e)) n m = e
+-- the digits of a colour's length, three by three, and the last two
+pub hex_by_three : (s : List ℕ) → HexLength s
+    → digits_only 16 s ≡ (three_hex s 0 && (eqb (length s) 3 || (three_hex s 3 && (eqb (length s) 6 || (hex_at s 6 && hex_at s 7)))))
+hex_by_three s (inl e) =
+    three_step s 0 (omega arith) ∙ rw (no_more s 3 (omega arith), e)
+hex_by_three s (inr (inl e)) =
+    three_step s 0 (omega arith) ∙ rw (three_step s 3 (omega arith), no_more s 6 (omega arith), e)
+hex_by_three s (inr (inr e)) =
+    three_step s 0 (omega arith)
+    ∙ rw (
+      three_step s 3 (omega arith),
+      one_step s 6 7 refl (omega arith),
+      one_step s 7 8 refl (omega arith),
+      no_more s 8 (omega arith),
+      and-true,
+      e,
+    )
 
 -- a character starts at each place
 digit_boundary : (s : List ℕ) → digits_only 16 s ≡ true → (i : ℕ) → i ≤ length s → boundary s i ≡ true
@@ -155,14 +159,14 @@ digit_boundary s d i h =
 
 -- ---- a channel
 two_digits : (a b : ℕ) → digit_of a < 16 → digit_of b < 16
-    → channel_of (numeral_of (a ∷ b ∷ []) 16 255 false) ≡ Channel.Is (digit_of a * 16 + digit_of b)
+    → channel_of (numeral_of (a ∷ b ∷ []) 16 255 false) ≡ Ok (digit_of a * 16 + digit_of b)
 unfolding value_from digits_only
 two_digits a b h k =
     let d : digits_only 16 (a ∷ b ∷ []) ≡ true = rw (lt-ltb (digit_of a) 16 h, lt-ltb (digit_of b) 16 k) in
     let v : value_from 16 0 (a ∷ b ∷ []) ≡ digit_of a * 16 + digit_of b = omega arith in
     let bare = numeral_bare 16 255 (a ∷ b ∷ []) false (omega arith) (λ e. omega (arith, (hex a h).low)) (λ e. absurd (false≢true e)) in
     let is = unsigned_is 16 255 (a ∷ b ∷ []) (omega arith) d (omega arith) in
-    ap channel_of (bare ∙ ap (signed_by_of false) is) ∙ ap (λ (n : ℕ). Channel.Is n) v
+    ap channel_of (bare ∙ ap (signed_by_of false) is) ∙ ap (λ (n : ℕ). Ok n) v
 
 module _ (s : List ℕ) (at width : ℕ) (l : 1 ≤ width) (h : width ≤ 2) (r : at + width ≤ length s) (d : digits_only 16 s ≡ true) where
   pair : copies width (part at (at + width) s) ≡ get_or s at 0 ∷ get_or s (at + width - 1) 0 ∷ []
@@ -182,7 +186,7 @@ module _ (s : List ℕ) (at width : ℕ) (l : 1 ≤ width) (h : width ≤ 2) (r 
           wide s at width n (part at (at + width) s)
           ∙ rw (z, y, drop-cons s at 0 (omega arith), drop-cons s (suc at) 0 (omega (arith, y)))
 
-  pub digit_pair : Channel.Is (digit_of (get_or s at 0) * 16 + digit_of (get_or s (at + width - 1) 0)) ≡ channel_at s at width
+  pub digit_pair : Ok (digit_of (get_or s at 0) * 16 + digit_of (get_or s (at + width - 1) 0)) ≡ channel_at s at width
   digit_pair =
       sym (channel_is s at (at + width) (copies width) (get_or s at 0 ∷ get_or s (at + width - 1) 0 ∷ []) (digit_boundary s d at (omega arith))
       (digit_boundary s d (at + width) r) pair
@@ -221,3 +225,7 @@ module _ (s : List ℕ) where
     is = hex-eight s e ∙ ap (hex_channels s 2) (alpha_some e);
     sized = inr (inr e);
   }
+
+pub ruleset hex_bits = (no_bit, bit_low, bit_high)
+
+pub ruleset hex_widths = (hex-once, hex-twice, hex-alpha, hex-none, whole_part)

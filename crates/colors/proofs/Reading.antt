@@ -1,14 +1,15 @@
 -- Laws of colours as they are read: places where a character starts, channels, and the forms of a colour. Assumes nothing.
+use Rattle.std.specs.Prelude.{Option, Some, None, Err}
 use Prim.Native.Nat.{ℕ, ◌+◌, ◌-◌, ◌≤◌, ◌<◌}
 use mathlib.Core.Path.{◌≡◌, refl, sym, ◌∙◌}
 use mathlib.Core.Bool.{true, false, and-false}
 use mathlib.Core.List.{List, [], ◌∷◌}
 use native.Mathlib.Omega.{arith}
 use native.Mathlib.Nat.{sub-zero}
-use lib.Dec.{ltb}
+use lib.Dec.{eqb, ltb}
 use lib.ListN.{length, get_or, take, drop, length-drop}
-use lib.Seq.{take_all, drop-cons, drop-drop}
-use borrow.Author.Tests.{ltb-true, ltb-false, le-leb, lt-leb, eq-eqb, ne_eqb}
+use lib.Seq.{take_all, drop-cons, drop-drop, length-take-le}
+use borrow.Author.Tests.{ltb-true, ltb-false, eq-eqb, ne_eqb, leb-true}
 use Rattle.scan.specs.Bytes.{other, run_end_of}
 use Rattle.scan.specs.Posts.{Ends}
 use Rattle.scan.specs.Marks.{starts_at}
@@ -17,28 +18,27 @@ use Rattle.scan.specs.Split.{split_at}
 use Rattle.scan.proofs.Runs.{run_length}
 use Rattle.scan.proofs.Splits.{split_more, split_last}
 use Rattle.utf8.specs.Utf8.{boundary}
-use Rattle.scan.proofs.Every.{by-test}
-use Rattle.numerals.specs.declared.Numeral.{Numeral}
+use Rattle.scan.proofs.Every.{by-test, both}
 use Rattle.numerals.specs.Numerals.{numeral_of}
 use Rattle.numerals.proofs.Numerals.{numeral_inv}
-use Rattle.colors.specs.declared.read.Color.{Color}
-use Rattle.colors.specs.declared.read.Channel.{Channel}
 use Rattle.colors.specs.Named.{color_table, named_in}
 use Rattle.scan.specs.Text.{ascii}
 use Rattle.colors.specs.Colors.{channel_of, hex_channel, full, hex_color, rgb_of, rgb_parts, is_rgb, color}
 use Rattle.colors.specs.Steps.{Small, copies, channel_at, hex_channels}
+use Rattle.colors.specs.declared.read.ColorError.{ColorError}
+use Rattle.numerals.specs.declared.Whole.{Whole}
 
 -- ---- a channel
-pub small : (s : List ℕ) (radix : ℕ) (n : Numeral) → n ≡ numeral_of s radix 255 false → Small n
-small s radix (Numeral.Is w) e = (numeral_inv s radix 255 (sym e)).within
-small s radix Numeral.Nothing e = tt
+pub small : (s : List ℕ) (radix : ℕ) (n : Option Whole) → n ≡ numeral_of s radix 255 false → Small n
+small s radix (Some w) e = (numeral_inv s radix 255 (sym e)).within
+small s radix None e = tt
 
 module _ (s : List ℕ) (a e : ℕ) (times : List ℕ → List ℕ) where
-  pub channel_cut_start : boundary s a ≡ false → hex_channel s a e times ≡ Channel.Cut
+  pub channel_cut_start : boundary s a ≡ false → hex_channel s a e times ≡ Err ColorError.Cut
   unfolding hex_channel
   channel_cut_start f = rw f
 
-  pub channel_cut_end : boundary s e ≡ false → hex_channel s a e times ≡ Channel.Cut
+  pub channel_cut_end : boundary s e ≡ false → hex_channel s a e times ≡ Err ColorError.Cut
   unfolding hex_channel
   channel_cut_end f = rw (f, and-false)
 
@@ -75,27 +75,9 @@ module _ (s : List ℕ) where
   unfolding hex_color
   hex-eight e = rw e
 
-  pub hex-none : (length s ≡ 3 → ⊥) → (length s ≡ 6 → ⊥) → (length s ≡ 8 → ⊥) → hex_color s ≡ Color.Nothing
+  pub hex-none : (length s ≡ 3 → ⊥) → (length s ≡ 6 → ⊥) → (length s ≡ 8 → ⊥) → hex_color s ≡ Err ColorError.Invalid
   unfolding hex_color
   hex-none a b c = rw (ne_eqb (length s) 3 a, ne_eqb (length s) 6 b, ne_eqb (length s) 8 c)
-
--- ---- `rgb(` .. `)`
-module _ (s : List ℕ) where
-  pub rgb_is : starts_at s 0 (ascii "rgb(") ≡ true → 4 ≤ length s - 1 → get_or s (length s - 1) 0 ≡ 41 → is_rgb s ≡ true
-  unfolding is_rgb
-  rgb_is m l e = rw (m, le-leb 5 (length s) (omega arith), eq-eqb (get_or s (length s - 1) 0) 41 e)
-
-  pub rgb_short : length s - 1 < 4 → is_rgb s ≡ false
-  unfolding is_rgb
-  rgb_short l = rw (lt-leb 5 (length s) (omega arith), and-false)
-
-  pub rgb_unmarked : starts_at s 0 (ascii "rgb(") ≡ false → is_rgb s ≡ false
-  unfolding is_rgb
-  rgb_unmarked m = rw m
-
-  pub rgb_open : (get_or s (length s - 1) 0 ≡ 41 → ⊥) → is_rgb s ≡ false
-  unfolding is_rgb
-  rgb_open n = rw (ne_eqb (get_or s (length s - 1) 0) 41 n, and-false)
 
 -- ---- what stands between commas, by the places where the runs of other bytes end
 module _ (b : ℕ) (s : List ℕ) (p r : ℕ) (x : Ends (other b) s p r) where
@@ -147,10 +129,10 @@ unfolding color
 color-none [] e = refl
 color-none (b ∷ s) e = absurd (omega arith)
 
-pub color-hash : (s : List ℕ) → 0 < length s → get_or s 0 0 ≡ 35 → color s ≡ hex_color (drop 1 s)
+pub color-hash : (s : List ℕ) → get_or s 0 0 ≡ 35 → color s ≡ hex_color (drop 1 s)
 unfolding color
-color-hash [] h e = absurd (omega arith)
-color-hash (b ∷ s) h e = rw (eq-eqb b 35 e)
+color-hash [] e = absurd (omega arith)
+color-hash (b ∷ s) e = rw (eq-eqb b 35 e)
 
 pub color-rgb : (s : List ℕ) → 0 < length s → (get_or s 0 0 ≡ 35 → ⊥) → is_rgb s ≡ true → color s ≡ rgb_parts s (split_at 44 (part 4 (length s - 1) s))
 unfolding color
@@ -161,3 +143,14 @@ pub color-name : (s : List ℕ) → 0 < length s → (get_or s 0 0 ≡ 35 → �
 unfolding color
 color-name [] h e t = absurd (omega arith)
 color-name (b ∷ s) h e t = rw (ne_eqb b 35 e, t)
+
+pub ruleset channel_places = (channel_cut_start, channel_cut_end, channel_is, narrow, wide)
+
+pub ruleset comma_parts = (parts_one, parts_two, parts_three, parts_many, length-take-le)
+
+-- `rgb(` .. `)` is long enough for its brackets, and starts with no `#`
+pub rgb_long : (s : List ℕ) → is_rgb s ≡ true → 5 ≤ length s
+unfolding is_rgb
+rgb_long s e = leb-true 5 (length s) (both {a = starts_at s 0 (ascii "rgb(")} (both {b = eqb (get_or s (length s - 1) 0) 41} e).0).1
+
+pub ruleset color_forms = (to_end, color-none, color-hash, color-rgb, color-name, rgb_long)

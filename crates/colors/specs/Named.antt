@@ -1,10 +1,9 @@
 -- The colour names, from TTML 2, 10.3 (the Rust's `named` cites its 10.3.5), and the Rust's `named`, which takes `grey` besides. Definitions alone.
-use Rattle.std.specs.Prelude.{ℕ, cond, List, [], ◌∷◌}
+use Rattle.std.specs.Prelude.{Result, Ok, Err, ℕ, cond, List, [], ◌∷◌}
 use Rattle.scan.specs.Names.{same_folded}
 use Rattle.scan.specs.Text.{ascii}
 use Rattle.colors.specs.declared.read.Rgba.{Rgba}
-use Rattle.colors.specs.declared.read.Color.{Color}
-use Rattle.colors.specs.declared.read.Color.TheVariants.{Is, Nothing}
+use Rattle.colors.specs.declared.read.ColorError.{ColorError}
 
 abbrev pub rgba : ℕ → ℕ → ℕ → ℕ → Rgba
 rgba r g b a = record { r = r; g = g; b = b; a = a }
@@ -39,6 +38,6 @@ color_table =
     ∷ []
 
 -- the colour of the first name that s is, letters in any case
-unfoldable pub named_in : List ℕ → List NamedColor → Color
-named_in s [] = Nothing
-named_in s (n means c ∷ ns) = cond (same_folded s n) (Is c) (named_in s ns)
+unfoldable pub named_in : List ℕ → List NamedColor → Result Rgba ColorError
+named_in s [] = Err ColorError.Invalid
+named_in s (n means c ∷ ns) = cond (same_folded s n) (Ok c) (named_in s ns)

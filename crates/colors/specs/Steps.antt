@@ -1,14 +1,13 @@
 -- Steps of the program, which contracts of inner functions cite. They need not be believed: `proofs/Names.antt` and `proofs/Reading.antt`
 -- show that they make up what `Named` and `Colors` say.
-use Rattle.std.specs.Prelude.{ℕ, ◌+◌, ◌*◌, ◌≤◌, ◌≡◌, Bool, cond, ◌&&◌, ◌⊎◌, List, eqb, ltb, length, get_or, take}
+use Rattle.std.specs.Prelude.{Option, Some, None, Result, ℕ, ◌+◌, ◌*◌, ◌≤◌, ◌≡◌, Bool, cond, ◌&&◌, ◌⊎◌, List, eqb, ltb, length, get_or, take}
 use Rattle.scan.specs.Bytes.{other, run_end_of}
-use Rattle.numerals.specs.declared.Numeral.{Numeral}
 use Rattle.numerals.specs.Numerals.{digit_of}
 use Rattle.colors.specs.declared.read.Rgba.{Rgba}
-use Rattle.colors.specs.declared.read.Color.{Color}
-use Rattle.colors.specs.declared.read.Channel.{Channel}
 use Rattle.colors.specs.Named.{rgba}
 use Rattle.colors.specs.Colors.{hex_channel, once, twice, color_of, full}
+use Rattle.colors.specs.declared.read.ColorError.{ColorError}
+use Rattle.numerals.specs.declared.Whole.{Whole}
 
 -- ---- names
 -- what stands before the first blank of a row
@@ -21,9 +20,9 @@ row_color v = rgba (get_or v 0 0) (get_or v 1 0) (get_or v 2 0) (get_or v 3 0)
 
 -- ---- channels
 -- a number that is a channel
-abbrev pub Small : Numeral → Type 0
-Small (Numeral.Is w) = w.magnitude ≤ 255
-Small Numeral.Nothing = Unit {0}
+abbrev pub Small : Option Whole → Type 0
+Small (Some w) = w.magnitude ≤ 255
+Small None = Unit {0}
 
 -- the text has three channels of the width
 pub record Channels (s : List ℕ) (width : ℕ) : Type 0 where
@@ -36,14 +35,14 @@ abbrev pub copies : ℕ → List ℕ → List ℕ
 copies width w = cond (eqb width 1) (twice w) (once w)
 
 -- the channel of the width from a place on, and three of them from the first place on
-abbrev pub channel_at : List ℕ → ℕ → ℕ → Channel
+abbrev pub channel_at : List ℕ → ℕ → ℕ → Result ℕ ColorError
 channel_at s at width = hex_channel s at (at + width) (copies width)
 
-abbrev pub hex_channels : List ℕ → ℕ → Channel → Color
+abbrev pub hex_channels : List ℕ → ℕ → Result ℕ ColorError → Result Rgba ColorError
 hex_channels s width alpha = color_of (channel_at s 0 width) (channel_at s width width) (channel_at s (2 * width) width) alpha
 
 -- the alpha of a text of eight bytes; any other is opaque
-abbrev pub alpha_at : List ℕ → Channel
+abbrev pub alpha_at : List ℕ → Result ℕ ColorError
 alpha_at s = cond (eqb (length s) 8) (channel_at s 6 2) full
 
 -- the byte at a place is a hexadecimal digit; the three from a place on are; a text of the length of a colour

@@ -4,5 +4,5 @@ mod named;
 mod read;
 mod write;
 
-pub use read::{Color, Rgba, parse_ttml_color_rgb, parse_ttml_color_rgba};
+pub use read::{ColorError, Rgba, parse_ttml_color_rgb, parse_ttml_color_rgba};
 pub use write::{append_rgb, append_rgba};

@@ -3,9 +3,9 @@
 ghost use Rattle.std.specs.Prelude.{◌≡◌};
 ghost use Rattle.scan.specs.Names.{same_folded};
 ghost use Rattle.colors.specs.Named.{color_table, named_in};
-ghost use Rattle.colors.specs.Steps.{front, row_color};
+ghost use Rattle.colors.specs.Steps.{front};
 
-use crate::read::{Color, Rgba};
+use crate::read::{ColorError, Rgba};
 
 const NAMES: [[u8; 11]; 20] = [
     *b"black      ",
@@ -62,31 +62,18 @@ fn row_is(row: [u8; 11], text: &[u8]) -> bool
     scan::eq_ignore_ascii_case(text, &row[..len])
 }
 
-fn row_color(row: [u8; 4]) -> Color
-    ensures { result ≡ Color.Is (row_color row) }
-{
-    Color::Is(Rgba {
-        r: row[0],
-        g: row[1],
-        b: row[2],
-        a: row[3],
-    })
-}
-
 // The colour of a name, letters in any case.
-pub fn named(text: &[u8]) -> Color
+#[tactic(auto, using(crate::proofs::Names::table_rows))]
+pub fn named(text: &[u8]) -> Result<Rgba, ColorError>
     ensures { result ≡ named_in text.now color_table }
 {
     let names = NAMES;
     let values = VALUES;
-    let mut i = 0;
-    while i < 20 {
-        let name = names[i];
-        if row_is(name, text) {
-            let value = values[i];
-            return row_color(value);
+    for i in 0..20 {
+        if row_is(names[i], text) {
+            let [r, g, b, a] = values[i];
+            return Ok(Rgba { r, g, b, a });
         }
-        i += 1;
     }
-    Color::Nothing
+    Err(ColorError::Invalid)
 }

@@ -4,7 +4,6 @@ ghost use Rattle.scan.specs.Posts.{Appended, Wrote};
 ghost use Rattle.colors.specs.Written.{rgb_text, rgba_text};
 
 use crate::read::Rgba;
-use scan::Written;
 
 // Red, green and blue after a `#`, at a place with room for them.
 fn put_rgb(out: &mut [u8], at: usize, c: Rgba) -> usize
@@ -18,24 +17,24 @@ fn put_rgb(out: &mut [u8], at: usize, c: Rgba) -> usize
 }
 
 // `#RRGGBB` written at a place, if it fits.
-pub fn append_rgb(out: &mut [u8], at: usize, c: Rgba) -> Written
+pub fn append_rgb(out: &mut [u8], at: usize, c: Rgba) -> Option<usize>
     requires { at ≤ length out.old }
     ensures { Wrote (rgb_text c) at out.old out.new result }
 {
     if out.len() - at < 7 {
-        return Written::Full;
+        return None;
     }
-    Written::At(put_rgb(out, at, c))
+    Some(put_rgb(out, at, c))
 }
 
 // `#RRGGBBAA` written at a place, if it fits.
-pub fn append_rgba(out: &mut [u8], at: usize, c: Rgba) -> Written
+pub fn append_rgba(out: &mut [u8], at: usize, c: Rgba) -> Option<usize>
     requires { at ≤ length out.old }
     ensures { Wrote (rgba_text c) at out.old out.new result }
 {
     if out.len() - at < 9 {
-        return Written::Full;
+        return None;
     }
     let alpha = put_rgb(out, at, c);
-    Written::At(numerals::put_digits(out, alpha, c.a as u64, 16, 2))
+    Some(numerals::put_digits(out, alpha, c.a as u64, 16, 2))
 }

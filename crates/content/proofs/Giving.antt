@@ -4,6 +4,7 @@
 --     ended-standing, break-given     what a break trims, and the break
 --     span-given                      a span
 --     around_is                       the wrappers of an element as they are put around rows
+use Rattle.std.specs.Prelude.{Option, Some, None, Result, Ok}
 use Prim.Native.Nat.{ℕ, ◌+◌, ◌-◌, ◌≤◌}
 use mathlib.Core.Path.{◌≡◌, refl, sym, ap, ◌∙◌}
 use mathlib.Core.Bool.{Bool, true, false, ◌||◌}
@@ -23,7 +24,6 @@ use Rattle.track.specs.Track as track
 use Rattle.track.specs.Meaning.{given}
 use Rattle.track.specs.Layout.{preorder, each, segment_cells}
 use Rattle.track.proofs.SegmentsLaid.{rows-many}
-use Rattle.records.specs.declared.cells.Added.{Added}
 use Rattle.records.specs.Find.{is_empty}
 use Rattle.records.specs.Posts.{AddPost}
 use Rattle.records.specs.Siblings.{Stands, Room, later}
@@ -47,8 +47,9 @@ use Rattle.inline.specs.Wraps.{wrappers_from, stamped_if, Spanned}
 use Rattle.inline.specs.Stood.{span_in, spans_in, texts_in, Laid}
 use Rattle.inline.proofs.TrimSegments.{order_trimmed}
 use Rattle.inline.proofs.TrimStands.{trim_stands}
-use Rattle.content.specs.declared.collect.Collecting.{Collecting}
 use Rattle.content.specs.Steps.{Wide, Frame, Standing, added_in, Given, Ends, wrappers_by}
+use Rattle.tree.specs.declared.answers.Refusal.{Refusal}
+use Rattle.content.specs.declared.collect.Run.{Run}
 use Rattle.content.proofs.Standings.{
   rows-spans,
   rows-together,
@@ -79,9 +80,9 @@ module _ (sg : Segment) (h : Segments Placed) (one : preorder (spans_in h) ≡ r
   pub add_given : (place first n hi hi' : ℕ) (flag : Bool) (ψ : Segments Placed → Segments Placed) (s s₁ s' y y' : List ℕ) → Wide s₁
       → ((w : Frame) (f : Segments Placed) → Standing w hi first n f s y
       → Stands w.pre (later (n - first) w.rest) first n (spans_in (ψ f)) s₁ × Laid (joined (ψ f) h) [] w.base y' w.lo hi')
-      → (a : Added) → AddPost 16384 6 (segment_cells sg 1) s₁ s' n a
+      → (a : Option ℕ) → AddPost 16384 6 (segment_cells sg 1) s₁ s' n a
       → Given place first n hi hi' flag (λ f. joined (ψ f) h) s y s' y' (added_in a flag place)
-  add_given place first n hi hi' flag ψ s s₁ s' y y' wide at (Added.Next m) a = (
+  add_given place first n hi hi' flag ψ s s₁ s' y y' wide at (Some m) a = (
     omega (arith, a.0, a.1),
     refl,
     λ w f x.
@@ -95,7 +96,7 @@ module _ (sg : Segment) (h : Segments Placed) (one : preorder (spans_in h) ≡ r
           texts = r.1;
         },
   )
-  add_given place first n hi hi' flag ψ s s₁ s' y y' wide at Added.Full a = (
+  add_given place first n hi hi' flag ψ s s₁ s' y y' wide at None a = (
     refl,
     refl,
     λ w f x.
@@ -133,19 +134,19 @@ module _ (sp : Space) (before : Before) (p m : ℕ) (b : List ℕ) (place first 
   left = (text_in_of with_places sp before whole).bytes
 
   module _ (low : hi ≤ p) (room : p + m ≤ length y) (short : length b ≤ m) (wr : Written left b before p y y' c) where
-    abbrev gives : (s' : List ℕ) → Collecting → Type 0
+    abbrev gives : (s' : List ℕ) → Result Run Refusal → Type 0
     gives s' r =
         Given place first n hi (p + m) (edge (last_of before b)) (λ f. joined f (text_segment with_places
         (text_in_of with_places sp before whole))) s y s' y' r
 
-    pub text-none : n ≤ 16384 → c.len ≡ 0 → gives s (Collecting.Is (record { rows = n; boundary = c.boundary }))
+    pub text-none : n ≤ 16384 → c.len ≡ 0 → gives s (Ok (record { rows = n; boundary = c.boundary }))
     text-none few e =
         let none : left ≡ [] = none_of left (sym wr.long ∙ e) in
         let same : y' ≡ y = wr.laid ∙ ap (sets y p) none in
         let segment : text_segment with_places (text_in_of with_places sp before whole) ≡ track.done = rw none in
         (few, wr.flag, λ w f x. rw (same, segment, joined-done f) (standing-higher x (p + m) (omega arith) room))
 
-    pub text-some : (c.len ≡ 0 → ⊥) → (s' : List ℕ) → Wide s → (a : Added)
+    pub text-some : (c.len ≡ 0 → ⊥) → (s' : List ℕ) → Wide s → (a : Option ℕ)
         → let sg : Segment = Segment.Text (record { place = p; len = c.len }) in
         AddPost 16384 6 (segment_cells sg 1) s s' n a → gives s' (added_in a c.boundary place)
     unfolding segments_by
@@ -183,7 +184,7 @@ break-texts : (f : Segments Placed) → texts_in (joined f (track.break track.do
 unfolding texts_in
 break-texts f = texts_joined f (track.break track.done) ∙ append-nil (texts_in f)
 
-pub break-given : (ws : WsMode) (place hi first n : ℕ) (t t₁ t' y y' : List ℕ) → Ends ws first n t y t₁ y' → Wide t₁ → (a : Added)
+pub break-given : (ws : WsMode) (place hi first n : ℕ) (t t₁ t' y y' : List ℕ) → Ends ws first n t y t₁ y' → Wide t₁ → (a : Option ℕ)
     → AddPost 16384 6 (segment_cells Segment.Break 1) t₁ t' n a
     → Given place first n hi hi true (λ f. joined (ended with_places (space_in ws) f) (track.break track.done)) t y t' y' (added_in a true place)
 unfolding segments_by
@@ -196,10 +197,10 @@ break-given ws place hi first n t t₁ t' y y' e wide a b =
 
 -- ---- a span
 
-pub span-given : (ws : List (Wrapper Placed)) (place first n hi : ℕ) (flag stamp : Bool) (z : ℤ) (s s' y : List ℕ) (a : Added)
+pub span-given : (ws : List (Wrapper Placed)) (place first n hi : ℕ) (flag stamp : Bool) (z : ℤ) (s s' y : List ℕ) (a : Option ℕ)
     → Spanned first n stamp z (wrappers_by ws) s s' a
     → Given place first n hi hi flag (λ c. stamped_if stamp z (span_of ws c)) s y s' y (added_in a flag place)
-span-given ws place first n hi flag stamp z s s' y (Added.Next m) h = (
+span-given ws place first n hi flag stamp z s s' y (Some m) h = (
   h.1,
   refl,
   λ w c x.
@@ -214,7 +215,7 @@ span-given ws place first n hi flag stamp z s s' y (Added.Next m) h = (
         texts = laid_same (texts_stamped stamp z ws c) x.texts;
       },
 )
-span-given ws place first n hi flag stamp z s s' y Added.Full h = (
+span-given ws place first n hi flag stamp z s s' y None h = (
   refl,
   refl,
   λ w c x.

@@ -7,13 +7,22 @@
 --     node_row, node_end, text-asks, break-asks, node-attrs, own-asks     what a node's entry says of its row
 --     Along, along_start, along_asks, along_step, along_fail, along_done  the loop over siblings
 --     content_asks, content_no, content_ready, content_left               the content of a p
-use Prim.Native.Nat.{ℕ, ◌+◌, ◌-◌, ◌*◌, ◌≤◌, ◌<◌}
+use Rattle.std.specs.Prelude as rust
+use Rattle.std.specs.Prelude.{Some, None, Result, Ok, Err}
+use Rattle.std.specs.Option.{unwrap_or}
+use Rattle.std.specs.Option as has
+use Prim.Native.Nat.{ℕ, suc, ◌+◌, ◌-◌, ◌*◌, ◌≤◌, ◌<◌}
 use mathlib.Core.Path.{◌≡◌, refl, sym, ap, ◌∙◌, subst}
 use mathlib.Core.Bool.{Bool, true, false}
 use mathlib.Core.List.{List, [], ◌++◌}
-use mathlib.Core.Option.{Option, none}
+use mathlib.Core.Option.{Option, none, some}
 use native.Mathlib.Omega.{arith}
-use lib.IntN.{ℤ}
+use native.Mathlib.Nat.{add-zero}
+use lib.IntN.{ℤ, pos, negsuc, ◌+ℤ◌}
+use mir.Syntax.{w64}
+use mir.Val.{SFits}
+use Rattle.times.specs.Sums.{checked}
+use Rattle.times.proofs.Summing.{checked-fits}
 use lib.ListN.{length, get_or}
 use lib.Dec.{eqb}
 use borrow.Author.Tests.{eqb-true, le-leb, lt-leb}
@@ -39,7 +48,7 @@ use Rattle.meaning.specs.Nodes.{Nodes, nil, text, element}
 use Rattle.meaning.specs.Nodes as nodes
 use Rattle.meaning.specs.Kinds.{with_places, nodes_in, attrs_in}
 use Rattle.meaning.specs.Space.{space_of, Before, last_of, a_break, a_span, unknown, inline_of, after, text_in_of, ended}
-use Rattle.meaning.specs.Timing.{time_of, sum, or_zero}
+use Rattle.meaning.specs.Timing.{time_of, sum, sum_answer, or_zero}
 use Rattle.meaning.specs.Styling.{wrappers_of}
 use Rattle.meaning.specs.Inline.{counted, text_segment, stamped, span_of, segments_in, content_of}
 use Rattle.meaning.proofs.Laws.{after_text, after-break, after-span, after-unknown}
@@ -52,9 +61,6 @@ use Rattle.inline.specs.Wraps.{stamped_if}
 use Rattle.inline.proofs.Spanning.{stamped-if}
 use Rattle.inline.proofs.TrimStands.{rows-ready}
 use Rattle.content.specs.declared.collect.Run.{Run}
-use Rattle.content.specs.declared.collect.Collecting.{Collecting}
-use Rattle.content.specs.declared.collect.Begin.{Begin}
-use Rattle.content.specs.declared.collect.Beginning.{Beginning}
 use Rattle.content.specs.Steps.{Roomy, Frame, Standing, Given, node_place, TextGiven, BreakGiven, SpanGiven, beginning, begin_from}
 use Rattle.content.specs.Steps.{Entry, meant, behind, Came, Outcome, AsksNode, NodePost, Asks, Post, Content, AsksContent, ContentPost, Ends}
 use Rattle.content.proofs.Giving.{ended-standing}
@@ -119,36 +125,50 @@ element-kind t z name k e = by-test (eqb (get_or t (k * 6) 0) 2) (λ h. eqb-true
 
 -- ---- when a span begins
 
--- it says so, and the sum is no overflow
-pub record Begun (place : ℕ) (base : ℤ) (m : Answer (Option ℤ)) (b : Begin) : Type 0 where
+-- its begin is said, and the sum is no overflow: it is b, or `base` where there is none
+pub record Begun (place : ℕ) (base : ℤ) (m : Answer (Option ℤ)) (b : rust.Option ℤ) : Type 0 where
   pub begin : Option ℤ
   pub said : m ≡ is begin
-  pub time : sum place base (or_zero begin) ≡ is b.time
-  pub has : b.has ≡ is_some begin
+  pub time : sum place base (or_zero begin) ≡ is (unwrap_or b base)
+  pub has : has.is_some b ≡ is_some begin
 
-is-not : {A : Type 0} {b : Begin} {q : Refusal} → Beginning.Is b ≡ Beginning.Refused q → A
+is-not : {A B : Type 0} {b : B} {q : Refusal} → Ok b ≡ Err q → A
 is-not e = absurd (let z : ◌≡◌ {A = ℕ} 0 1 = cc in omega arith)
 
-summed : (has : Bool) (b : Begin) (a : Answer ℤ) → Beginning.Is b ≡ beginning has a → (a ≡ is b.time) × (b.has ≡ has)
-summed has b (is t) e =
-    let v : b ≡ record { has = has; time = t } = cc in
-    (ap is (sym (ap (λ (x : Begin). x.time) v)), ap (λ (x : Begin). x.has) v)
-summed has b (refused i p) e = is-not e
+-- nothing more
+sum-none : (place : ℕ) (base : ℤ) → SFits w64 base → sum place base (pos 0) ≡ is base
+unfolding sum
+sum-none place base f = ap (sum_answer place) (ap checked (plus-none base) ∙ checked-fits base f.sfits)
+  where
+    plus-none : (z : ℤ) → z +ℤ pos 0 ≡ z
+    plus-none (pos n) = rw (add-zero n)
+    plus-none (negsuc n) = rw (le-leb 1 (suc n) (omega arith)) (ap negsuc (omega arith))
 
-pub begun : (place : ℕ) (base : ℤ) (m : Answer (Option ℤ)) (b : Begin) → Beginning.Is b ≡ begin_from place base m → Begun place base m b
-begun place base (is o) b e =
-    let r = summed (is_some o) b (sum place base (or_zero o)) e in
-    record { begin = o; said = refl; time = r.0; has = r.1 }
-begun place base (refused i p) b e = is-not e
+summed : (b : rust.Option ℤ) (base : ℤ) (a : Answer ℤ) → Ok b ≡ beginning a → (a ≡ is (unwrap_or b base)) × (has.is_some b ≡ true)
+summed b base (is t) e =
+    let v : b ≡ Some t = cc in
+    rw v (refl, refl)
+summed b base (refused i p) e = is-not e
+
+pub begun : (place : ℕ) (base : ℤ) (m : Answer (Option ℤ)) (b : rust.Option ℤ) → SFits w64 base → Ok b ≡ begin_from place base m
+    → Begun place base m b
+begun place base (is (some z)) b f e =
+    let r = summed b base (sum place base z) e in
+    record { begin = some z; said = refl; time = r.0; has = r.1 }
+begun place base (is none) b f e =
+    let v : b ≡ None = cc in
+    record { begin = none; said = refl; time = rw v (sum-none place base f); has = rw v }
+begun place base (refused i p) b f e = is-not e
 
 module _ {A : Type 0} (q : Refusal) where
-  unsummed : (has : Bool) (a : Answer ℤ) (go : ℤ → Answer A) → Beginning.Refused q ≡ beginning has a → (a >>= go) ≡ refused q.number q.place
-  unsummed has (is t) go e = is-not (sym e)
-  unsummed has (refused i p) go e = let v : q ≡ record { number = i; place = p } = cc in rw v
+  unsummed : (a : Answer ℤ) (go : ℤ → Answer A) → Err q ≡ beginning a → (a >>= go) ≡ refused q.number q.place
+  unsummed (is t) go e = is-not (sym e)
+  unsummed (refused i p) go e = let v : q ≡ record { number = i; place = p } = cc in rw v
 
-  unbegun : (place : ℕ) (base : ℤ) (m : Answer (Option ℤ)) (go : Option ℤ → ℤ → Answer A) → Beginning.Refused q ≡ begin_from place base m
+  unbegun : (place : ℕ) (base : ℤ) (m : Answer (Option ℤ)) (go : Option ℤ → ℤ → Answer A) → Err q ≡ begin_from place base m
       → (m >>= λ o. sum place base (or_zero o) >>= go o) ≡ refused q.number q.place
-  unbegun place base (is o) go e = unsummed (is_some o) (sum place base (or_zero o)) (go o) e
+  unbegun place base (is (some z)) go e = unsummed (sum place base z) (go (some z)) e
+  unbegun place base (is none) go e = is-not (sym e)
   unbegun place base (refused i p) go e = let v : q ≡ record { number = i; place = p } = cc in rw v
 
 -- ---- steps of an answer
@@ -176,8 +196,8 @@ module _ (w : Frame) (t u z : List ℕ) (base : ℤ) (ctx : TimingCtx) (ws : WsM
       (earlier : Segments Placed) (before : Before) (own : ℕ) (f : Forest) (m : Answer (Segments Placed)) (v : Before)
       → Holds t u z next own f → next + size f ≡ end → InOrder hi' (spans f) w.limit → Standing w hi first n earlier s y → flag ≡ edge before
       → m ≡ (counted place first (φ earlier) >>= λ g. means first before g (nodes_in z f)) → v ≡ after with_places before (nodes_in z f)
-      → (r : Collecting) → Given place first n hi hi' flag φ s y s' y' r → Outcome w t u z next end first base ctx ws s' y' m v r
-  given-came next end first n hi hi' place flag φ s y s' y' earlier before own f m v h e o st fl me ve (Collecting.Is r) g =
+      → (r : Result Run Refusal) → Given place first n hi hi' flag φ s y s' y' r → Outcome w t u z next end first base ctx ws s' y' m v r
+  given-came next end first n hi hi' place flag φ s y s' y' earlier before own f m v h e o st fl me ve (Ok r) g =
       let x = g.2 w earlier st in
       let fits = counted_is place first (φ earlier) (omega (arith, standing-count x, g.0)) in
       record {
@@ -197,12 +217,12 @@ module _ (w : Frame) (t u z : List ℕ) (base : ℤ) (ctx : TimingCtx) (ws : WsM
         means = me ∙ bind_is _ fits;
         same = ve;
       }
-  given-came next end first n hi hi' place flag φ s y s' y' earlier before own f m v h e o st fl me ve (Collecting.Refused q) g =
+  given-came next end first n hi hi' place flag φ s y s' y' earlier before own f m v h e o st fl me ve (Err q) g =
       rw (g.0, g.1) (me ∙ bind_no _ (counted-no place first (φ earlier) (g.2 w earlier st)))
 
   -- ---- a text or a section
   leaf_came : (kind k own end first hi at p m : ℕ) (run : Run) (g : Forest) (earlier : Segments Placed) (before : Before) (s y s' y' : List ℕ)
-      (r : Collecting) → TextAt t u z kind k own p m g → k + 1 + size g ≡ end → hi ≤ p
+      (r : Result Run Refusal) → TextAt t u z kind k own p m g → k + 1 + size g ≡ end → hi ≤ p
       → InOrder (p + m) (spans g) w.limit
       → Standing w hi first run.rows earlier s y → run.boundary ≡ edge before → node_place t k ≡ at → TextGiven t z k ws run s y s' y' r
       → let f : Nodes Placed = text at (record { place = p; bytes = string_at z p m }) (nodes_in z g) in
@@ -224,14 +244,14 @@ module _ (w : Frame) (t u z : List ℕ) (base : ℤ) (ctx : TimingCtx) (ws : WsM
         Holds t u z k own f × (k + size f ≡ end) × InOrder hi (spans f) w.limit × Standing w hi first run.rows earlier s y
         × (run.boundary ≡ edge before)
 
-    abbrev Result : Forest → (s' y' : List ℕ) → Collecting → Type 0
-    Result f s' y' r =
+    abbrev Gives : Forest → (s' y' : List ℕ) → Result Run Refusal → Type 0
+    Gives f s' y' r =
         Outcome w t u z (get_or t (k * 6 + 1) 0) end first base ctx ws s' y' (means first before earlier (nodes_in z f)) (after with_places before
         (nodes_in z f))
         r
 
-    module _ (s' y' : List ℕ) (r : Collecting) where
-      pub text-came : (f : Forest) → Facts f → k < end → (get_or t (k * 6) 0 ≡ 2 → ⊥) → TextGiven t z k ws run s y s' y' r → Result f s' y' r
+    module _ (s' y' : List ℕ) (r : Result Run Refusal) where
+      pub text-came : (f : Forest) → Facts f → k < end → (get_or t (k * 6) 0 ≡ 2 → ⊥) → TextGiven t z k ws run s y s' y' r → Gives f s' y' r
       unfolding nodes_in size spans
       text-came placed.nil x j ne tg = absurd (omega (arith, x.1))
       text-came (placed.text p m g) x j ne tg =
@@ -246,7 +266,7 @@ module _ (w : Frame) (t u z : List ℕ) (base : ℤ) (ctx : TimingCtx) (ws : WsM
 
       -- ---- a break
       pub break-came : (f : Forest) → Facts f → k < end → (e : Element) → e ≡ element_row t k → is_element t z (ascii "br") k ≡ true
-          → BreakGiven e.place first run.rows ws s y s' y' r → Result f s' y' r
+          → BreakGiven e.place first run.rows ws s y s' y' r → Gives f s' y' r
       unfolding nodes_in size
       break-came placed.nil x j e q b bg = absurd (omega (arith, x.1))
       break-came (placed.text p m g) x j e q b bg = never (sym b ∙ is-element_text z (ascii "br") x.0.stands)
@@ -364,7 +384,7 @@ module _ {w : Frame} {t u z : List ℕ} (k own end first hi : ℕ) (run : Run) (
     abbrev all : Answer (Segments Placed)
     all = segments_in with_places ctx base (space_in ws) before first earlier node
 
-    abbrev ItsOutcome : (s' y' : List ℕ) → Collecting → Type 0
+    abbrev ItsOutcome : (s' y' : List ℕ) → Result Run Refusal → Type 0
     ItsOutcome s' y' r = Outcome w t u z (k + 1 + size c) end first base ctx ws s' y' all (after with_places before node) r
 
     -- what its content means
@@ -373,17 +393,17 @@ module _ {w : Frame} {t u z : List ℕ} (k own end first hi : ℕ) (run : Run) (
     at_count from mode m e = ap (λ v. segments_in with_places ctx from (space_in mode) before v track.done (nodes_in z c)) count ∙ e
 
     -- ---- an unknown element
-    unknown-elem : inline_of with_places name ≡ unknown → (s' y' : List ℕ) (r : Collecting)
+    unknown-elem : inline_of with_places name ≡ unknown → (s' y' : List ℕ) (r : Result Run Refusal)
         → Outcome inner t u z (k + 1 + size c) (k + 1 + size c) run.rows base ctx ws s' y' (meant inside base ctx ws) (behind inside) r
         → ItsOutcome s' y' r
-    unknown-elem i s' y' (Collecting.Is r) a =
+    unknown-elem i s' y' (Ok r) a =
         let d = came_end a in
         came base ctx ws d.hi d.segments s' y' r d.few d.below (omega (arith, standing-count d.standing)) d.standing d.flag all
         (after with_places before node)
         (inside-unknown with_places ctx base (space_in ws) before first earlier p name (attrs_in z l) (nodes_in z c) (nodes_in z g) i
         ∙ bind_is _ (at_count base ws (is d.segments) d.means))
         (after-unknown with_places before p name (attrs_in z l) (nodes_in z c) (nodes_in z g) i)
-    unknown-elem i s' y' (Collecting.Refused q) a =
+    unknown-elem i s' y' (Err q) a =
         inside-unknown with_places ctx base (space_in ws) before first earlier p name (attrs_in z l) (nodes_in z c) (nodes_in z g) i
         ∙ bind_no _ (at_count base ws (refused q.number q.place) a)
 
@@ -403,52 +423,52 @@ module _ {w : Frame} {t u z : List ℕ} (k own end first hi : ℕ) (run : Run) (
           segments_in with_places ctx base (space_in ws) behind-it first given (nodes_in z g))
       span-is = inside-span with_places ctx base (space_in ws) before first earlier p name attrs (nodes_in z c) (nodes_in z g) i
 
-      refused-begin : (q : Refusal) → Beginning.Refused q ≡ begin_from p base said → all ≡ refused q.number q.place
+      refused-begin : (q : Refusal) → Err q ≡ begin_from p base said → all ≡ refused q.number q.place
       refused-begin q b = span-is ∙ unbegun q p base said _ b
 
-      module _ (b : Begin) (it : Begun p base said b) (mode : WsMode) (in-mode : space_in mode ≡ space_of with_places (space_in ws) attrs) where
+      module _ (b : rust.Option ℤ) (it : Begun p base said b) (mode : WsMode) (in-mode : space_in mode ≡ space_of with_places (space_in ws) attrs) where
         abbrev go_on : Segments Placed → Answer (Segments Placed)
         go_on given = segments_in with_places ctx base (space_in ws) behind-it first given (nodes_in z g)
 
         abbrev put_on : Segments Placed → List (Wrapper Placed) → Answer (Segments Placed)
-        put_on content wrappers = counted p first (joined earlier (stamped it.begin b.time (span_of wrappers content))) >>= go_on
+        put_on content wrappers = counted p first (joined earlier (stamped it.begin (unwrap_or b base) (span_of wrappers content))) >>= go_on
 
         abbrev wrap-on : Segments Placed → Answer (Segments Placed)
         wrap-on content = wrappers_of with_places attrs >>= put_on content
 
-        begun_is : all ≡ (segments_in with_places ctx b.time (space_of with_places (space_in ws) attrs) before (first + segment_rows earlier) track.done
+        begun_is : all ≡ (segments_in with_places ctx (unwrap_or b base) (space_of with_places (space_in ws) attrs) before (first + segment_rows earlier) track.done
             (nodes_in z c) >>= wrap-on)
         begun_is = span-is ∙ bind_is _ it.said ∙ bind_is _ it.time
 
-        content_is : (a : Answer (Segments Placed)) → meant inside b.time ctx mode ≡ a
-            → segments_in with_places ctx b.time (space_of with_places (space_in ws) attrs) before (first + segment_rows earlier) track.done
+        content_is : (a : Answer (Segments Placed)) → meant inside (unwrap_or b base) ctx mode ≡ a
+            → segments_in with_places ctx (unwrap_or b base) (space_of with_places (space_in ws) attrs) before (first + segment_rows earlier) track.done
             (nodes_in z c) ≡ a
         content_is a e =
-            ap (λ v. segments_in with_places ctx b.time v before (first + segment_rows earlier) track.done (nodes_in z c)) (sym in-mode)
-            ∙ at_count b.time mode a e
+            ap (λ v. segments_in with_places ctx (unwrap_or b base) v before (first + segment_rows earlier) track.done (nodes_in z c)) (sym in-mode)
+            ∙ at_count (unwrap_or b base) mode a e
 
-        refused-inside : (q : Refusal) → meant inside b.time ctx mode ≡ refused q.number q.place → all ≡ refused q.number q.place
+        refused-inside : (q : Refusal) → meant inside (unwrap_or b base) ctx mode ≡ refused q.number q.place → all ≡ refused q.number q.place
         refused-inside q x = begun_is ∙ bind_no wrap-on (content_is (refused q.number q.place) x)
 
         module _ (s' y' : List ℕ) (d' : Run)
-            (d : Ended inner run.rows s' y' (meant inside b.time ctx mode) (behind inside) d') (s'' : List ℕ) where
+            (d : Ended inner run.rows s' y' (meant inside (unwrap_or b base) ctx mode) (behind inside) d') (s'' : List ℕ) where
           read_is : all ≡ wrap-on d.segments
           read_is = begun_is ∙ bind_is wrap-on (content_is (is d.segments) d.means)
 
           module _ (wr : List (Wrapper Placed)) where
             abbrev left : Segments Placed
-            left = stamped it.begin b.time (span_of wr d.segments)
+            left = stamped it.begin (unwrap_or b base) (span_of wr d.segments)
 
-            left_is : stamped_if b.has b.time (span_of wr d.segments) ≡ left
-            left_is = ap (λ v. stamped_if v b.time (span_of wr d.segments)) it.has ∙ stamped-if it.begin b.time (span_of wr d.segments)
+            left_is : stamped_if (has.is_some b) (unwrap_or b base) (span_of wr d.segments) ≡ left
+            left_is = ap (λ v. stamped_if v (unwrap_or b base) (span_of wr d.segments)) it.has ∙ stamped-if it.begin (unwrap_or b base) (span_of wr d.segments)
 
-          wrapped-is : (a : Answer (List (Wrapper Placed))) → wrappers_of with_places attrs ≡ a → (r : Collecting)
-              → SpanGiven a p run.rows d'.rows d'.boundary b.has b.time s' y' s'' r → ItsOutcome s'' y' r
-          wrapped-is (refused j v) x (Collecting.Is r) a = absurd (let z : ◌≡◌ {A = ℕ} 0 1 = cc in omega arith)
-          wrapped-is (refused j v) x (Collecting.Refused q) a =
+          wrapped-is : (a : Answer (List (Wrapper Placed))) → wrappers_of with_places attrs ≡ a → (r : Result Run Refusal)
+              → SpanGiven a p run.rows d'.rows d'.boundary (has.is_some b) (unwrap_or b base) s' y' s'' r → ItsOutcome s'' y' r
+          wrapped-is (refused j v) x (Ok r) a = absurd (let z : ◌≡◌ {A = ℕ} 0 1 = cc in omega arith)
+          wrapped-is (refused j v) x (Err q) a =
               let u : q ≡ record { number = j; place = v } = cc in
               rw u (read_is ∙ bind_no (put_on d.segments) x)
-          wrapped-is (is wr) x (Collecting.Is r) a =
+          wrapped-is (is wr) x (Ok r) a =
               let st' = rw (left_is wr) at ((a d.hi).2 inner d.segments d.standing) in
               let fits = counted_is p first (joined earlier (left wr))
               (omega (arith, standing-count st', count, (a d.hi).0, rows-together earlier (left wr))) in
@@ -456,7 +476,7 @@ module _ {w : Frame} {t u z : List ℕ} (k own end first hi : ℕ) (run : Run) (
               d.hi).1 ∙ d.flag) all
               (after with_places before node) (read_is ∙ bind_is (put_on d.segments) x ∙ bind_is go_on fits)
               (after-span with_places before p name attrs (nodes_in z c) (nodes_in z g) i)
-          wrapped-is (is wr) x (Collecting.Refused q) a =
+          wrapped-is (is wr) x (Err q) a =
               let over = rw (left_is wr) at ((a d.hi).2 inner d.segments d.standing) in
               let no = counted-no p first (joined earlier (left wr)) (omega (arith, count, over, rows-together earlier (left wr))) in
               rw ((a d.hi).0, (a d.hi).1) (read_is ∙ bind_is (put_on d.segments) x ∙ bind_no go_on no)
@@ -469,11 +489,11 @@ module _ (w : Frame) (t u z : List ℕ) (base : ℤ) (ctx : TimingCtx) (ws : WsM
   abbrev FactsOf : Forest → Type 0
   FactsOf f = Facts w t u z base ctx ws k own end first hi run earlier before s y f
 
-  abbrev ResultOf : Forest → (s' y' : List ℕ) → Collecting → Type 0
-  ResultOf f s' y' r = Result w t u z base ctx ws k own end first hi run earlier before s y f s' y' r
+  abbrev ResultOf : Forest → (s' y' : List ℕ) → Result Run Refusal → Type 0
+  ResultOf f s' y' r = Gives w t u z base ctx ws k own end first hi run earlier before s y f s' y' r
 
   pub unknown-came : (f : Forest) → FactsOf f → get_or t (k * 6) 0 ≡ 2 → is_element t z (ascii "span") k ≡ false
-      → (s' y' : List ℕ) (r : Collecting)
+      → (s' y' : List ℕ) (r : Result Run Refusal)
       → Post t u z (k + 1) e.end run base ctx ws s y s' y' r → ResultOf f s' y' r
   unfolding nodes_in size
   unknown-came placed.nil x kind ns s' y' r post = absurd (omega (arith, x.1))
@@ -490,13 +510,13 @@ module _ (w : Frame) (t u z : List ℕ) (base : ℤ) (ctx : TimingCtx) (ws : WsM
       (inside k own end first hi run earlier before s y p m l c g x.0 x.1 x.2 x.3 x.4)))
 
   module _ (sp : is_element t z (ascii "span") k ≡ true) where
-    abbrev BeginsWith : Beginning → Type 0
+    abbrev BeginsWith : Result (rust.Option ℤ) Refusal → Type 0
     BeginsWith b = OfRows u z e.first e.many (λ l. b ≡ begin_from e.place base (time_of with_places ctx e.place (ascii "begin") l))
 
     abbrev MeansNo : Forest → Refusal → Type 0
     MeansNo f q = segments_in with_places ctx base (space_in ws) before first earlier (nodes_in z f) ≡ refused q.number q.place
 
-    pub span-refused : (f : Forest) → FactsOf f → (q : Refusal) → BeginsWith (Beginning.Refused q) → MeansNo f q
+    pub span-refused : (f : Forest) → FactsOf f → (q : Refusal) → BeginsWith (Err q) → MeansNo f q
     unfolding nodes_in size
     span-refused placed.nil x q b = absurd (omega (arith, x.1))
     span-refused (placed.text p m g) x q b = never (sym sp ∙ is-element_text z (ascii "span") x.0.stands)
@@ -508,9 +528,9 @@ module _ (w : Frame) (t u z : List ℕ) (base : ℤ) (ctx : TimingCtx) (ws : WsM
         (sym (is-element_elem z (ascii "span") x.0.stands) ∙ sp) in
         refused-begin k own end first hi run earlier before s y p m l c g x.0 x.1 x.2 x.3 x.4 base ctx ws i q (b' l a.owned)
 
-    module _ (b : Begin) (begins : BeginsWith (Beginning.Is b)) (mode : WsMode)
+    module _ (b : rust.Option ℤ) (fits : SFits w64 base) (begins : BeginsWith (Ok b)) (mode : WsMode)
         (modes : OfRows u z e.first e.many (λ l. space_in mode ≡ space_of with_places (space_in ws) l)) (s' y' : List ℕ) where
-      pub span-inside : (f : Forest) → FactsOf f → (q : Refusal) → Post t u z (k + 1) e.end run b.time ctx mode s y s' y' (Collecting.Refused q)
+      pub span-inside : (f : Forest) → FactsOf f → (q : Refusal) → Post t u z (k + 1) e.end run (unwrap_or b base) ctx mode s y s' y' (Err q)
           → MeansNo f q
       unfolding nodes_in size
       span-inside placed.nil x q post = absurd (omega (arith, x.1))
@@ -520,19 +540,19 @@ module _ (w : Frame) (t u z : List ℕ) (base : ℤ) (ctx : TimingCtx) (ws : WsM
           let a = holds_elem x.0 in
           let b' = rw (row ∙ a.cells) at begins in
           let modes' = rw (row ∙ a.cells) at modes in
-          let post' = subst (λ (v : Element). Post t u z (k + 1) v.end run b.time ctx mode s y s' y' (Collecting.Refused q))
+          let post' = subst (λ (v : Element). Post t u z (k + 1) v.end run (unwrap_or b base) ctx mode s y s' y' (Err q))
           (row ∙ a.cells) post in
           let i = inline_span z (p + 1) m (sym (is-element_elem z (ascii "br") x.0.stands) ∙ nb)
           (sym (is-element_elem z (ascii "span") x.0.stands) ∙ sp) in
           refused-inside k own end first hi run earlier before s y p m l c g x.0 x.1 x.2 x.3 x.4 base ctx ws i b
-          (begun p base (time_of with_places ctx p (ascii "begin") (attrs_in z l)) b (b' l a.owned)) mode (modes' l a.owned) q
+          (begun p base (time_of with_places ctx p (ascii "begin") (attrs_in z l)) b fits (b' l a.owned)) mode (modes' l a.owned) q
           (post' (inner k own end first hi run earlier before s y p m l c g x.0 x.1 x.2 x.3 x.4)
           (inside k own end first hi run earlier before s y p m l c g x.0 x.1 x.2 x.3 x.4))
 
-      pub span-came : (f : Forest) → FactsOf f → (d : Run) → Post t u z (k + 1) e.end run b.time ctx mode s y s' y' (Collecting.Is d)
-          → (s'' : List ℕ) (r : Collecting)
+      pub span-came : (f : Forest) → FactsOf f → (d : Run) → Post t u z (k + 1) e.end run (unwrap_or b base) ctx mode s y s' y' (Ok d)
+          → (s'' : List ℕ) (r : Result Run Refusal)
           → OfRows u z e.first e.many (λ l. (v : List ℕ)
-          → SpanGiven (wrappers_of with_places l) e.place run.rows d.rows d.boundary b.has b.time s' v s'' r)
+          → SpanGiven (wrappers_of with_places l) e.place run.rows d.rows d.boundary (has.is_some b) (unwrap_or b base) s' v s'' r)
           → ResultOf f s'' y' r
       unfolding nodes_in size
       span-came placed.nil x d post s'' r wraps = absurd (omega (arith, x.1))
@@ -542,7 +562,7 @@ module _ (w : Frame) (t u z : List ℕ) (base : ℤ) (ctx : TimingCtx) (ws : WsM
           let a = holds_elem x.0 in
           let b' = rw (row ∙ a.cells) at begins in
           let modes' = rw (row ∙ a.cells) at modes in
-          let post' = subst (λ (v : Element). Post t u z (k + 1) v.end run b.time ctx mode s y s' y' (Collecting.Is d)) (row ∙ a.cells) post in
+          let post' = subst (λ (v : Element). Post t u z (k + 1) v.end run (unwrap_or b base) ctx mode s y s' y' (Ok d)) (row ∙ a.cells) post in
           let wraps' = rw (row ∙ a.cells) at wraps in
           let i = inline_span z (p + 1) m (sym (is-element_elem z (ascii "br") x.0.stands) ∙ nb)
           (sym (is-element_elem z (ascii "span") x.0.stands) ∙ sp) in
@@ -550,7 +570,7 @@ module _ (w : Frame) (t u z : List ℕ) (base : ℤ) (ctx : TimingCtx) (ws : WsM
           (inside k own end first hi run earlier before s y p m l c g x.0 x.1 x.2 x.3 x.4) in
           rw a.row.end_is
           (wrapped-is k own end first hi run earlier before s y p m l c g x.0 x.1 x.2 x.3 x.4 base ctx ws i b
-          (begun p base (time_of with_places ctx p (ascii "begin") (attrs_in z l)) b (b' l a.owned)) mode (modes' l a.owned) s' y' d
+          (begun p base (time_of with_places ctx p (ascii "begin") (attrs_in z l)) b fits (b' l a.owned)) mode (modes' l a.owned) s' y' d
           (came_end came) s''
           (wrappers_of with_places (attrs_in z l)) refl r (wraps' l a.owned y'))
 
@@ -639,7 +659,7 @@ own-asks {t} {u} {z} {k} {first} {run} {s} {y} e a kind row =
 
 -- rows are added, not too many
 pub post_more : {t u z : List ℕ} {from end : ℕ} {run : Run} {base : ℤ} {ctx : TimingCtx} {ws : WsMode} {s y s' y' : List ℕ} (d : Run)
-    → Asks t u z from end run s y → Post t u z from end run base ctx ws s y s' y' (Collecting.Is d)
+    → Asks t u z from end run s y → Post t u z from end run base ctx ws s y s' y' (Ok d)
     → (run.rows ≤ d.rows) × (d.rows ≤ 16384)
 post_more d a post =
     let x = came_end (post a.frame a.entry) in
@@ -691,7 +711,7 @@ module _ {t u z : List ℕ} {from end : ℕ} {run₀ : Run} {base : ℤ} {ctx : 
     along_next j = node_end (i.goes a.frame a.entry).to j
 
     module _ (j : k < end) (s' y' : List ℕ) where
-      pub along_step : {r : Run} → NodePost t u z k run₀.rows run base ctx ws s y s' y' (Collecting.Is r) → length s' ≡ length s
+      pub along_step : {r : Run} → NodePost t u z k run₀.rows run base ctx ws s y s' y' (Ok r) → length s' ≡ length s
           → length y' ≡ length y
           → Along t u z from end run₀ base ctx ws s₀ y₀ (get_or t (k * 6 + 1) 0) r s' y'
       along_step post c₁ c₂ =
@@ -705,11 +725,11 @@ module _ {t u z : List ℕ} {from end : ℕ} {run₀ : Run} {base : ℤ} {ctx : 
                 record { few = c.few; to = c.to; means = (i.goes w x).means ∙ c.means; same = (i.goes w x).same ∙ c.same };
           }
 
-      pub along_fail : {q : Refusal} → NodePost t u z k run₀.rows run base ctx ws s y s' y' (Collecting.Refused q)
-          → Post t u z from end run₀ base ctx ws s₀ y₀ s' y' (Collecting.Refused q)
+      pub along_fail : {q : Refusal} → NodePost t u z k run₀.rows run base ctx ws s y s' y' (Err q)
+          → Post t u z from end run₀ base ctx ws s₀ y₀ s' y' (Err q)
       along_fail post w x = (i.goes w x).means ∙ post w end (i.goes w x).to j
 
-    pub along_done : end ≤ k → Post t u z from end run₀ base ctx ws s₀ y₀ s y (Collecting.Is run)
+    pub along_done : end ≤ k → Post t u z from end run₀ base ctx ws s₀ y₀ s y (Ok run)
     along_done j w x =
         let c = i.goes w x in
         let e : k ≡ end = omega (arith, c.to.rows) in
@@ -740,18 +760,18 @@ pub content_asks : {t u z : List ℕ} {from end row : ℕ} {s y : List ℕ} → 
 content_asks a = record { roomy = a.roomy; few = a.few; frame = a.frame; entry = content_entry a.content }
 
 pub content_no : {t u z : List ℕ} {from end row : ℕ} {s y : List ℕ} (base : ℤ) (ctx : TimingCtx) (ws : WsMode) (s' y' : List ℕ)
-    (q : Refusal) → Post t u z from end (start_run row) base ctx ws s y s' y' (Collecting.Refused q) → (s'' y'' : List ℕ)
-    → ContentPost t u z from end row base ctx ws s y s'' y'' (Collecting.Refused q)
+    (q : Refusal) → Post t u z from end (start_run row) base ctx ws s y s' y' (Err q) → (s'' y'' : List ℕ)
+    → ContentPost t u z from end row base ctx ws s y s'' y'' (Err q)
 unfolding content_of
 content_no base ctx ws s' y' q post s'' y'' w x = bind_no _ (post w (content_entry x))
 
 module _ {t u z : List ℕ} {from end row : ℕ} {base : ℤ} {ctx : TimingCtx} {ws : WsMode} {s y : List ℕ} where
   pub content_ready : (s' y' : List ℕ) (r : Run) → AsksContent t u z from end row s y
-      → Post t u z from end (start_run row) base ctx ws s y s' y' (Collecting.Is r) → (row ≤ r.rows) × Ready s' y' row r.rows
+      → Post t u z from end (start_run row) base ctx ws s y s' y' (Ok r) → (row ≤ r.rows) × Ready s' y' row r.rows
   content_ready s' y' r a post = break-asks (came_end (post a.frame (content_entry a.content))).standing
 
-  pub content_left : (s₁ s' y₁ y' : List ℕ) (r : Run) → Post t u z from end (start_run row) base ctx ws s y s₁ y₁ (Collecting.Is r)
-      → Ends ws row r.rows s₁ y₁ s' y' → ContentPost t u z from end row base ctx ws s y s' y' (Collecting.Is r)
+  pub content_left : (s₁ s' y₁ y' : List ℕ) (r : Run) → Post t u z from end (start_run row) base ctx ws s y s₁ y₁ (Ok r)
+      → Ends ws row r.rows s₁ y₁ s' y' → ContentPost t u z from end row base ctx ws s y s' y' (Ok r)
   unfolding content_of
   content_left s₁ s' y₁ y' r post e w x =
       let d = came_end (post w (content_entry x)) in

@@ -1,22 +1,22 @@
 // The inline content of a p: its nodes as rows of segments, and their texts.
-ghost use Rattle.std.specs.Prelude.{◌≡◌, ◌||◌, List, ℕ, ◌+◌, ◌-◌, ◌*◌, ◌≤◌, ◌<◌, ◌^◌, length, get_or};
+ghost use Rattle.std.specs.Prelude.{◌≡◌, List, ℕ, ◌+◌, ◌-◌, ◌*◌, ◌≤◌, ◌<◌, ◌^◌, length, get_or};
 ghost use Rattle.scan.specs.Part.{string_at};
 ghost use Rattle.meaning.specs.Kinds.{with_places};
 ghost use Rattle.meaning.specs.Words.{ascii};
-ghost use Rattle.meaning.specs.Timing.{sum, time_of};
+ghost use Rattle.meaning.specs.Timing.{time_of};
 ghost use Rattle.meaning.specs.Styling.{wrappers_of};
-ghost use Rattle.styling.specs.Posts.{HasRows, OfRows, wrappers_in};
+ghost use Rattle.styling.specs.Posts.{Of, wrappers_in};
 ghost use Rattle.inline.specs.Trims.{Ready};
 ghost use Rattle.inline.specs.Wraps.{wrappers_from};
 ghost use Rattle.content.specs.Steps.{Wide, Roomy, added_in, node_place, Writes, TextGiven, Ends, BreakGiven, wrappers_by, SpanGiven};
-ghost use Rattle.content.specs.Steps.{beginning, begin_from, AsksNode, NodePost, AsksSpan, SpanPost, Asks, Post, AsksContent, ContentPost};
+ghost use Rattle.content.specs.Steps.{begin_from, AsksNode, NodePost, AsksSpan, SpanPost, Asks, Post, AsksContent, ContentPost};
 
 use inline::{Collapsed, Wrappers};
-use records::Added;
-use styling::{TimeSaid, Wrapping, WsMode};
-use times::{Sum, TimingCtx};
+use styling::WsMode;
+use times::TimingCtx;
 use track::Span;
 use tree::{ELEMENT, NODE_CELLS, Refusal, SECTION};
+use xml::{Attributes, Tree};
 
 // How many rows of segments there are, and whether what follows stands at a boundary.
 #[derive(Clone, Copy)]
@@ -25,28 +25,14 @@ pub struct Run {
     pub boundary: bool,
 }
 
-#[derive(Clone, Copy)]
-pub enum Collecting {
-    Is(Run),
-    Refused(Refusal),
-}
-
 // The bytes of a section's opening: a section begins before its string.
 const OPENING: usize = 9;
 
-fn refused(number: u32, place: usize) -> Collecting
-    ensures { result ≡ Collecting.Refused (record { number = number; place = place }) }
-{
-    Collecting::Refused(Refusal { number, place })
-}
-
-fn added(a: Added, boundary: bool, place: usize) -> Collecting
+fn added(a: Option<usize>, boundary: bool, place: usize) -> Result<Run, Refusal>
     ensures { result ≡ added_in a boundary place }
 {
-    match a {
-        Added::Next(rows) => Collecting::Is(Run { rows, boundary }),
-        Added::Full => refused(13, place),
-    }
+    let rows = a.ok_or(Refusal { number: 13, place })?;
+    Ok(Run { rows, boundary })
 }
 
 // The place of node k in the text: its first byte.
@@ -55,13 +41,11 @@ fn node_place(nodes: &[u32], k: usize) -> usize
     ensures { result ≡ node_place nodes.now k }
 {
     let place = scan::get(nodes, k * NODE_CELLS + 2);
-    if nodes[k * NODE_CELLS] != SECTION {
-        return place;
+    if nodes[k * NODE_CELLS] == SECTION {
+        place.saturating_sub(OPENING)
+    } else {
+        place
     }
-    if place < OPENING {
-        return 0;
-    }
-    place - OPENING
 }
 
 // The string at a place in its mode, in `texts` from the same place on.
@@ -85,31 +69,30 @@ fn write_text(
 
 // A text or a section: what is left of it is one row, unless that is nothing.
 fn collect_text(
-    nodes: &[u32],
-    strings: &[u8],
+    tree: &Tree<'_>,
     segments: &mut [u32],
     texts: &mut [u8],
     k: usize,
     ws: WsMode,
     run: Run,
-) -> Collecting
-    requires { Roomy strings.now segments.old texts.old × (run.rows ≤ 16384) × (k * 6 + 6 ≤ length nodes.now)
-        × (get_or nodes.now (k * 6 + 2) 0 + get_or nodes.now (k * 6 + 3) 0 ≤ length strings.now) }
-    ensures { TextGiven nodes.now strings.now k ws run
+) -> Result<Run, Refusal>
+    requires { Roomy tree.now.strings.now segments.old texts.old × (run.rows ≤ 16384) × (k * 6 + 6 ≤ length tree.now.nodes.now)
+        × (get_or tree.now.nodes.now (k * 6 + 2) 0 + get_or tree.now.nodes.now (k * 6 + 3) 0 ≤ length tree.now.strings.now) }
+    ensures { TextGiven tree.now.nodes.now tree.now.strings.now k ws run
         segments.old texts.old segments.new texts.new result }
 {
-    let place = scan::get(nodes, k * NODE_CELLS + 2);
-    let len = scan::get(nodes, k * NODE_CELLS + 3);
-    let c = write_text(strings, texts, place, len, ws, run.boundary);
+    let place = scan::get(tree.nodes, k * NODE_CELLS + 2);
+    let len = scan::get(tree.nodes, k * NODE_CELLS + 3);
+    let c = write_text(tree.strings, texts, place, len, ws, run.boundary);
     if c.len == 0 {
-        return Collecting::Is(Run {
+        return Ok(Run {
             rows: run.rows,
             boundary: c.boundary,
         });
     }
     let text = Span { place, len: c.len };
     let a = records::add_text(segments, run.rows, text);
-    added(a, c.boundary, node_place(nodes, k))
+    added(a, c.boundary, node_place(tree.nodes, k))
 }
 
 // In collapse mode the segments in the rows from `first` up to `end` lose a space at their end.
@@ -117,11 +100,8 @@ fn end_siblings(segments: &mut [u32], texts: &mut [u8], ws: WsMode, first: usize
     requires { (first ≤ end) × Ready segments.old texts.old first end }
     ensures { Ends ws first end segments.old texts.old segments.new texts.new }
 {
-    match ws {
-        WsMode::Collapse => {
-            inline::trim_trailing_space(segments, texts, first, end);
-        }
-        WsMode::Preserve => {}
+    if let WsMode::Collapse = ws {
+        inline::trim_trailing_space(segments, texts, first, end);
     }
 }
 
@@ -133,7 +113,7 @@ fn collect_break(
     ws: WsMode,
     first: usize,
     rows: usize,
-) -> Collecting
+) -> Result<Run, Refusal>
     requires { Wide segments.old × (first ≤ rows) × Ready segments.old texts.old first rows }
     ensures { BreakGiven place first rows ws
         segments.old texts.old segments.new texts.new result }
@@ -141,15 +121,6 @@ fn collect_break(
     end_siblings(segments, texts, ws, first, rows);
     let a = records::add_break(segments, rows);
     added(a, true, place)
-}
-
-fn either(a: bool, b: bool) -> bool
-    ensures { result ≡ (a || b) }
-{
-    if a {
-        return true;
-    }
-    b
 }
 
 // The wrappers of an element as they are put around rows.
@@ -160,7 +131,7 @@ pub fn around(w: styling::Wrappers) -> Wrappers
     let font = w.font;
     let color = w.color;
     Wrappers {
-        has_font: either(font.has_family, font.has_size),
+        has_font: font.has_family || font.has_size,
         font,
         has_color: w.has_color,
         color,
@@ -173,70 +144,44 @@ pub fn around(w: styling::Wrappers) -> Wrappers
 
 // A span whose content stands in the rows from `first` on: its timestamp and its wrappers before them.
 fn wrap_with_style(
-    attrs: &[u32],
-    strings: &[u8],
+    attrs: &Attributes<'_>,
     segments: &mut [u32],
-    e: xml::Element,
+    place: usize,
     first: usize,
     inner: Run,
     stamp: bool,
     time: i64,
-) -> Collecting
-    requires { HasRows attrs.now strings.now e.first e.many × (first ≤ inner.rows) × (inner.rows ≤ 16384)
-        × Wide segments.old × (length strings.now < 2 ^ 32) }
-    ensures { OfRows attrs.now strings.now e.first e.many (λ l. (y : List ℕ)
-        → SpanGiven (wrappers_of with_places l) e.place first inner.rows inner.boundary stamp time
+) -> Result<Run, Refusal>
+    requires { (first ≤ inner.rows) × (inner.rows ≤ 16384) × Wide segments.old × (length attrs.now.strings.now < 2 ^ 32) }
+    ensures { Of attrs.now (λ l. (y : List ℕ)
+        → SpanGiven (wrappers_of with_places l) place first inner.rows inner.boundary stamp time
         segments.old y segments.new result) }
 {
-    match styling::wrappers_of(attrs, strings, e.first, e.many) {
-        Wrapping::Refused(r) => Collecting::Refused(r),
-        Wrapping::Is(w) => {
-            let a = inline::put_span(segments, first, inner.rows, stamp, time, around(w));
-            added(a, inner.boundary, e.place)
-        }
-    }
+    let w = styling::wrappers_of(attrs)?;
+    let a = inline::put_span(segments, first, inner.rows, stamp, time, around(w));
+    added(a, inner.boundary, place)
 }
 
 // When a span begins: its own begin, if that is a time, counted from `base`.
-#[derive(Clone, Copy)]
-pub struct Begin {
-    pub has: bool,
-    pub time: i64,
-}
-
-#[derive(Clone, Copy)]
-pub enum Beginning {
-    Is(Begin),
-    Refused(Refusal),
-}
-
-fn counted(base: i64, begin: i64, has: bool, place: usize) -> Beginning
-    ensures { result ≡ beginning has (sum place base begin) }
+fn begin_of(
+    attrs: &Attributes<'_>,
+    place: usize,
+    base: i64,
+    ctx: TimingCtx,
+) -> Result<Option<i64>, Refusal>
+    ensures { Of attrs.now (λ l.
+        result ≡ begin_from place base (time_of with_places ctx place (ascii "begin") l)) }
 {
-    match times::add(base, begin) {
-        Sum::Is(time) => Beginning::Is(Begin { has, time }),
-        Sum::Overflow => Beginning::Refused(Refusal { number: 16, place }),
-    }
-}
-
-fn begin_of(attrs: &[u32], strings: &[u8], e: xml::Element, base: i64, ctx: TimingCtx) -> Beginning
-    requires { HasRows attrs.now strings.now e.first e.many }
-    ensures { OfRows attrs.now strings.now e.first e.many (λ l.
-        result ≡ begin_from e.place base (time_of with_places ctx e.place (ascii "begin") l)) }
-{
-    match styling::time_attr(attrs, strings, e.first, e.many, b"begin", ctx, e.place) {
-        TimeSaid::Refused(r) => Beginning::Refused(r),
-        TimeSaid::Is(t) => counted(base, t, true, e.place),
-        TimeSaid::Nothing => counted(base, 0, false, e.place),
+    match styling::time_attr(attrs, b"begin", ctx, place)? {
+        Some(begin) => Ok(Some(styling::add_times(base, begin, place)?)),
+        None => Ok(None),
     }
 }
 
 // Node k, and what stands inside it. `first` is the first row that its earlier siblings gave.
 #[cycle(collect_node_collect_segments_inner_collect_span)]
 fn collect_node(
-    nodes: &[u32],
-    attrs: &[u32],
-    strings: &[u8],
+    tree: &Tree<'_>,
     segments: &mut [u32],
     texts: &mut [u8],
     k: usize,
@@ -245,44 +190,28 @@ fn collect_node(
     ws: WsMode,
     first: usize,
     run: Run,
-) -> Collecting
-    requires { AsksNode nodes.now attrs.now strings.now k first run segments.old texts.old }
-    ensures { NodePost nodes.now attrs.now strings.now k first run base ctx ws
+) -> Result<Run, Refusal>
+    requires { AsksNode tree.now.nodes.now tree.now.attrs.now tree.now.strings.now k first run segments.old texts.old }
+    ensures { NodePost tree.now.nodes.now tree.now.attrs.now tree.now.strings.now k first run base ctx ws
         segments.old texts.old segments.new texts.new result }
 {
-    if nodes[k * NODE_CELLS] != ELEMENT {
-        return collect_text(nodes, strings, segments, texts, k, ws, run);
+    if tree.nodes[k * NODE_CELLS] != ELEMENT {
+        return collect_text(tree, segments, texts, k, ws, run);
     }
-    let e = xml::element_at(nodes, k);
-    if xml::is_element(nodes, strings, k, b"br") {
+    let e = xml::element_at(tree.nodes, k);
+    if xml::is_element(tree.nodes, tree.strings, k, b"br") {
         return collect_break(segments, texts, e.place, ws, first, run.rows);
     }
-    if xml::is_element(nodes, strings, k, b"span") {
-        return collect_span(
-            nodes, attrs, strings, segments, texts, k, base, ctx, ws, run,
-        );
+    if xml::is_element(tree.nodes, tree.strings, k, b"span") {
+        return collect_span(tree, segments, texts, k, base, ctx, ws, run);
     }
-    collect_segments_inner(
-        nodes,
-        attrs,
-        strings,
-        segments,
-        texts,
-        k + 1,
-        e.end,
-        base,
-        ctx,
-        ws,
-        run,
-    )
+    collect_segments_inner(tree, segments, texts, k + 1, e.end, base, ctx, ws, run)
 }
 
 // A span in row k.
 #[cycle(collect_node_collect_segments_inner_collect_span)]
 fn collect_span(
-    nodes: &[u32],
-    attrs: &[u32],
-    strings: &[u8],
+    tree: &Tree<'_>,
     segments: &mut [u32],
     texts: &mut [u8],
     k: usize,
@@ -290,44 +219,42 @@ fn collect_span(
     ctx: TimingCtx,
     ws: WsMode,
     run: Run,
-) -> Collecting
-    requires { AsksSpan nodes.now attrs.now strings.now k run segments.old texts.old }
-    ensures { SpanPost nodes.now attrs.now strings.now k run base ctx ws
+) -> Result<Run, Refusal>
+    requires { AsksSpan tree.now.nodes.now tree.now.attrs.now tree.now.strings.now k run segments.old texts.old }
+    ensures { SpanPost tree.now.nodes.now tree.now.attrs.now tree.now.strings.now k run base ctx ws
         segments.old texts.old segments.new texts.new result }
 {
-    let e = xml::element_at(nodes, k);
-    match begin_of(attrs, strings, e, base, ctx) {
-        Beginning::Refused(r) => Collecting::Refused(r),
-        Beginning::Is(b) => {
-            let inside = styling::resolve_ws(attrs, strings, e.first, e.many, ws);
-            match collect_segments_inner(
-                nodes,
-                attrs,
-                strings,
-                segments,
-                texts,
-                k + 1,
-                e.end,
-                b.time,
-                ctx,
-                inside,
-                run,
-            ) {
-                Collecting::Refused(r) => Collecting::Refused(r),
-                Collecting::Is(inner) => wrap_with_style(
-                    attrs, strings, segments, e, run.rows, inner, b.has, b.time,
-                ),
-            }
-        }
-    }
+    let e = xml::element_at(tree.nodes, k);
+    let attrs = tree.attributes(e);
+    let begin = begin_of(&attrs, e.place, base, ctx)?;
+    let from = begin.unwrap_or(base);
+    let inside = styling::resolve_ws(&attrs, ws);
+    let inner = collect_segments_inner(
+        tree,
+        segments,
+        texts,
+        k + 1,
+        e.end,
+        from,
+        ctx,
+        inside,
+        run,
+    )?;
+    wrap_with_style(
+        &attrs,
+        segments,
+        e.place,
+        run.rows,
+        inner,
+        begin.is_some(),
+        from,
+    )
 }
 
 // The siblings in the rows from `from` up to `end`: a list of their own.
 #[cycle(collect_node_collect_segments_inner_collect_span)]
 pub fn collect_segments_inner(
-    nodes: &[u32],
-    attrs: &[u32],
-    strings: &[u8],
+    tree: &Tree<'_>,
     segments: &mut [u32],
     texts: &mut [u8],
     from: usize,
@@ -336,35 +263,24 @@ pub fn collect_segments_inner(
     ctx: TimingCtx,
     ws: WsMode,
     run: Run,
-) -> Collecting
-    requires { Asks nodes.now attrs.now strings.now from end run segments.old texts.old }
-    ensures { Post nodes.now attrs.now strings.now from end run base ctx ws
+) -> Result<Run, Refusal>
+    requires { Asks tree.now.nodes.now tree.now.attrs.now tree.now.strings.now from end run segments.old texts.old }
+    ensures { Post tree.now.nodes.now tree.now.attrs.now tree.now.strings.now from end run base ctx ws
         segments.old texts.old segments.new texts.new result }
 {
     let first = run.rows;
     let mut s = run;
     let mut k = from;
     while k < end {
-        match collect_node(
-            nodes, attrs, strings, segments, texts, k, base, ctx, ws, first, s,
-        ) {
-            Collecting::Refused(r) => {
-                return Collecting::Refused(r);
-            }
-            Collecting::Is(t) => {
-                s = t;
-            }
-        }
-        k = scan::get(nodes, k * NODE_CELLS + 1);
+        s = collect_node(tree, segments, texts, k, base, ctx, ws, first, s)?;
+        k = scan::get(tree.nodes, k * NODE_CELLS + 1);
     }
-    Collecting::Is(s)
+    Ok(s)
 }
 
 // The content of a p or of a single cue, from row `rows` on: in collapse mode without a space at its end.
 pub fn collect_segments_timed(
-    nodes: &[u32],
-    attrs: &[u32],
-    strings: &[u8],
+    tree: &Tree<'_>,
     segments: &mut [u32],
     texts: &mut [u8],
     from: usize,
@@ -373,22 +289,16 @@ pub fn collect_segments_timed(
     ctx: TimingCtx,
     ws: WsMode,
     rows: usize,
-) -> Collecting
-    requires { AsksContent nodes.now attrs.now strings.now from end rows segments.old texts.old }
-    ensures { ContentPost nodes.now attrs.now strings.now from end rows base ctx ws
+) -> Result<Run, Refusal>
+    requires { AsksContent tree.now.nodes.now tree.now.attrs.now tree.now.strings.now from end rows segments.old texts.old }
+    ensures { ContentPost tree.now.nodes.now tree.now.attrs.now tree.now.strings.now from end rows base ctx ws
         segments.old texts.old segments.new texts.new result }
 {
     let run = Run {
         rows,
         boundary: true,
     };
-    match collect_segments_inner(
-        nodes, attrs, strings, segments, texts, from, end, base, ctx, ws, run,
-    ) {
-        Collecting::Refused(r) => Collecting::Refused(r),
-        Collecting::Is(s) => {
-            end_siblings(segments, texts, ws, rows, s.rows);
-            Collecting::Is(s)
-        }
-    }
+    let s = collect_segments_inner(tree, segments, texts, from, end, base, ctx, ws, run)?;
+    end_siblings(segments, texts, ws, rows, s.rows);
+    Ok(s)
 }

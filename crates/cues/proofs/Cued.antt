@@ -1,9 +1,12 @@
 -- A p as a cue. Assumes nothing.
 --     p_untimed, p_unsegmented, p_full, p_is             what a p means, by the answers to its times, its segments and its limit
 --     content_more, segments_no, segments_of             what `collect_segments` ensures
---     rows-small, part_small, cue_added                  what `add_paragraph` ensures
+--     rows-small, part_small, full_of, cue_added                  what `add_paragraph` ensures
 --     p_row, p_attrs, p_segments, p_kept, p_after        what the parts of a p ask
 --     no_times, no-segments, cued                        what `collect_paragraph` ensures, by the answers
+use Rattle.std.specs.Option.{ok_or, unwrap_or}
+use Rattle.std.specs.Option as has
+use Rattle.std.specs.Prelude.{Option, Some, None, Result, Ok, Err}
 use Prim.Native.Nat.{ℕ, ◌+◌, ◌-◌, ◌*◌, ◌≤◌, ◌<◌, ◌^◌}
 use mathlib.Core.Path.{◌≡◌, refl, sym, ap, ◌∙◌}
 use mathlib.Core.Bool.{Bool}
@@ -20,11 +23,11 @@ use Rattle.tree.specs.declared.answers.Refusal.{Refusal}
 use Rattle.tree.specs.Trees.{Forest, attr_spans, spans, InOrder}
 use Rattle.tree.specs.Trees as placed
 use Rattle.tree.proofs.Places.{in_lower, in_first, in_rest}
+use Rattle.track.specs.declared.strings.Span.{Span}
 use Rattle.track.specs.declared.values.Rows.{Rows}
 use Rattle.track.specs.declared.values.Cue as declared
 use Rattle.track.specs.Track.{Extra, Segments, Cue}
 use Rattle.track.specs.Layout.{cue_cells}
-use Rattle.records.specs.declared.cells.Added.{Added}
 use Rattle.records.specs.Siblings.{later}
 use Rattle.records.specs.Posts.{SmallSpan, SmallRows, AddPost, TimesPost}
 use Rattle.xml.specs.declared.find.Element.{Element}
@@ -45,16 +48,12 @@ use Rattle.styling.specs.declared.space.WsMode.{WsMode}
 use Rattle.styling.specs.Posts.{HasRows, OfRows, turned, space_in}
 use Rattle.extras.specs.Kept.{rows_from, Lists}
 use Rattle.content.specs.declared.collect.Run.{Run}
-use Rattle.content.specs.declared.collect.Collecting.{Collecting}
 use Rattle.content.specs.Steps.{Content, ContentPost}
 use Rattle.content.proofs.Standings.{standing-count, laid_same}
 use Rattle.cues.specs.declared.lines.Line.{Line}
-use Rattle.cues.specs.declared.lines.Lining.{Lining}
-use Rattle.cues.specs.declared.paragraph.Styled.{Styled}
-use Rattle.cues.specs.declared.paragraph.Part.{Part}
 use Rattle.intervals.specs.declared.Interval.{Interval}
 use Rattle.intervals.specs.Steps.{stopping, interval_from, ended_from, begun_from, interval_of}
-use Rattle.cues.specs.Steps.{onward, StyledGiven, PartIs}
+use Rattle.cues.specs.Steps.{onward, StyledGiven, nowhere, PartIs}
 use Rattle.cues.specs.Steps.{CueTables, Base, Child, AsksChild, ParagraphPost}
 use Rattle.cues.specs.Steps.{segments_of_p, AsksSegments, Segmented, SegmentsPost, cue_row, CueAdded, CueOutcome}
 use Rattle.cues.proofs.Lined.{cue_with, blank_from, blank-later, blank-onward, cue-row, next_frame, lined_frame, wide_cells}
@@ -141,21 +140,21 @@ module _ (ctx : TimingCtx) (reference : ℤ) (inherited : Space) (cues : List (C
 
 module _ {t u z : List ℕ} {k : ℕ} {e : Element} {first : ℕ} {s y : List ℕ} (a : AsksSegments t u z k e first s y) (start : ℤ)
     (ctx : TimingCtx) (ws : WsMode) (s' y' : List ℕ) where
-  pub content_more : (run : Run) → ContentPost t u z (k + 1) e.end first start ctx ws s y s' y' (Collecting.Is run)
+  pub content_more : (run : Run) → ContentPost t u z (k + 1) e.end first start ctx ws s y s' y' (Ok run)
       → (first ≤ run.rows) × (run.rows ≤ 16384)
   content_more run post =
       let x = post a.content.frame a.content.content in
       (omega (arith, standing-count x.standing), x.few)
 
-  pub segments_no : (q : Refusal) → ContentPost t u z (k + 1) e.end first start ctx ws s y s' y' (Collecting.Refused q)
-      → SegmentsPost t u z k e start ctx ws first s y s' y' (Styled.Refused q)
+  pub segments_no : (q : Refusal) → ContentPost t u z (k + 1) e.end first start ctx ws s y s' y' (Err q)
+      → SegmentsPost t u z k e start ctx ws first s y s' y' (Err q)
   segments_no q post w x l o = rw (post w x)
 
-  pub segments_of : (run : Run) → ContentPost t u z (k + 1) e.end first start ctx ws s y s' y' (Collecting.Is run) → (s'' : List ℕ) (r : Styled)
+  pub segments_of : (run : Run) → ContentPost t u z (k + 1) e.end first start ctx ws s y s' y' (Ok run) → (s'' : List ℕ) (r : Result ℕ Refusal)
       → OfRows u z e.first e.many (λ l. (ctx : TimingCtx)
       → StyledGiven (styled with_places ctx e.place first l) first run.rows s' s'' r)
       → SegmentsPost t u z k e start ctx ws first s y s'' y' r
-  segments_of run post s'' (Styled.Is n) given w x l o =
+  segments_of run post s'' (Ok n) given w x l o =
       let c = post w x in
       let d = given l o ctx w.pre (later (run.rows - first) w.rest) c.segments c.standing.rows in
       record {
@@ -170,7 +169,7 @@ module _ {t u z : List ℕ} {k : ℕ} {e : Element} {first : ℕ} {s y : List �
         below = c.below;
         texts = laid_same d.same c.standing.texts;
       }
-  segments_of run post s'' (Styled.Refused q) given w x l o =
+  segments_of run post s'' (Err q) given w x l o =
       let c = post w x in
       rw c.means (given l o ctx w.pre (later (run.rows - first) w.rest) c.segments c.standing.rows)
 
@@ -185,30 +184,36 @@ rows-small {xs} {at} r x many b h =
     let w : n ≤ many = omega (arith, b, x.count) in
     by-test (eqb n 0) (λ q. rw (e, q) (omega arith, omega arith)) (λ q. rw (e, q) (omega arith, omega arith))
 
-pub part_small : {z name : List ℕ} {l : List (Attr Placed)} (r : Part) → PartIs z name l r → length z < 2 ^ 32 → SmallSpan r.span
+pub part_small : {z name : List ℕ} {l : List (Attr Placed)} (r : Option Span) → PartIs z name l r → length z < 2 ^ 32 → SmallSpan (unwrap_or r nowhere)
 part_small r x h = (omega (arith, x.within), omega (arith, x.within))
 
+-- the refusal where there is no room
+pub full_of : {q q' : Refusal} (a : Option ℕ) → Err q ≡ ok_or a q' → a ≡ None → q ≡ q'
+full_of {q} {q'} a e n =
+    let v : ◌≡◌ {A = Result ℕ Refusal} (Err q) (Err q') = e ∙ ap (λ x. ok_or x q') n in
+    cc
+
 -- the row as `add_paragraph` makes it is the p's
-module _ (e : Element) (when : Interval) (ws : WsMode) (line : Line) (rows : ℕ) (l : List (Attr Placed)) where
-  abbrev made : (style region : Part) (preserve : Bool) (kept : Rows) → declared.Cue
+module _ (place many : ℕ) (when : Interval) (ws : WsMode) (line : Line) (rows : ℕ) (l : List (Attr Placed)) where
+  abbrev made : (style region : Option Span) (preserve : Bool) (kept : Rows) → declared.Cue
   made style region preserve kept = record {
     start = when.start;
     end = when.end;
-    has_style = style.has;
-    style = style.span;
-    has_region = region.has;
-    region = region.span;
+    has_style = has.is_some style;
+    style = unwrap_or style nowhere;
+    has_region = has.is_some region;
+    region = unwrap_or region nowhere;
     preserve = preserve;
     segments = record { first = line.rows; count = rows - line.rows };
     extras = kept;
   }
 
-  pub cue_added : {z x x' : List ℕ} (style region : Part) (preserve : Bool) (kept : Rows) (c c' : List ℕ) (m m' : List ℤ) (n : ℕ)
+  pub cue_added : {z x x' : List ℕ} (style region : Option Span) (preserve : Bool) (kept : Rows) (c c' : List ℕ) (m m' : List ℤ) (n : ℕ)
       → PartIs z (ascii "style") l style → PartIs z (ascii "region") l region → preserve ≡ is_preserve (space_in ws)
-      → Lists (inline_extras with_places l) line.extras x x' kept → kept.count ≤ e.many
-      → AddPost 2048 11 (cue_cells (made style region preserve kept)) c c' line.cues (Added.Next n)
-      → TimesPost (line.cues * 2) when.start when.end m m' (Added.Next n)
-      → CueAdded e when ws line rows c c' m m' x x' l
+      → Lists (inline_extras with_places l) line.extras x x' kept → kept.count ≤ many
+      → AddPost 2048 11 (cue_cells (made style region preserve kept)) c c' line.cues (Some n)
+      → TimesPost (line.cues * 2) when.start when.end m m' (Some n)
+      → CueAdded place many when ws line rows c c' m m' x x' l
       (record { cues = n; rows = rows; extras = line.extras + kept.count; end = when.end })
   cue_added style region preserve kept c c' m m' n s r p k few g h =
       let row : made style region preserve kept ≡ cue_row when ws line rows l = rw (s.has, s.span, r.has, r.span, p, k.rows) in
@@ -274,7 +279,7 @@ module _ {t u z : List ℕ} {k : ℕ} {line : Line} {T : CueTables} (a : AsksChi
 
   -- the rows of its segments
   pub p_after : (start : ℤ) (ctx : TimingCtx) (ws : WsMode) (s' y' : List ℕ) (n : ℕ)
-      → SegmentsPost t u z k e start ctx ws line.rows T.segments T.texts s' y' (Styled.Is n) → (line.rows ≤ n) × (n ≤ 16384)
+      → SegmentsPost t u z k e start ctx ws line.rows T.segments T.texts s' y' (Ok n) → (line.rows ≤ n) × (n ≤ 16384)
   p_after start ctx ws s' y' n post =
       let x = post _ (content-of a.child) a.child.attrs (owned a.child) in
       (omega (arith, x.rows.count), x.few)
@@ -283,7 +288,7 @@ module _ {t u z : List ℕ} {k : ℕ} {line : Line} {T : CueTables} (a : AsksChi
 
   module _ (reference : ℤ) (ctx : TimingCtx) (ws : WsMode) (T' : CueTables) where
     pub no_times : (q : Refusal) → OfRows u z e.first e.many (λ l. turned q ≡ interval_of ctx e.place reference l)
-        → ParagraphPost t u z k reference ctx ws line T T' (Lining.Refused q)
+        → ParagraphPost t u z k reference ctx ws line T T' (Err q)
     no_times q h b limit x =
         p_untimed ctx reference (space_in ws) x.earlier x.place (attrs_in z x.attrs) (nodes_in z x.content) q
         (rw (place_is x) at (h x.attrs (owned x)))
@@ -291,7 +296,7 @@ module _ {t u z : List ℕ} {k : ℕ} {line : Line} {T : CueTables} (a : AsksChi
     module _ (when : Interval) (timed : OfRows u z e.first e.many (λ l. is when ≡ interval_of ctx e.place reference l)) (mode : WsMode)
         (modes : OfRows u z e.first e.many (λ l. space_in mode ≡ space_of with_places (space_in ws) l)) where
       -- what `collect_segments` ensured
-      abbrev Post : Styled → Type 0
+      abbrev Post : Result ℕ Refusal → Type 0
       Post r = SegmentsPost t u z k e when.start ctx mode line.rows T.segments T.texts T'.segments T'.texts r
 
       -- its attributes and its content
@@ -309,13 +314,13 @@ module _ {t u z : List ℕ} {k : ℕ} {line : Line} {T : CueTables} (a : AsksChi
             ≡ segments_of_p ctx mode e.place line.rows when.start l c
         same_segments = rw (place_is x, x.standing.made)
 
-      pub no-segments : (q : Refusal) → Post (Styled.Refused q) → ParagraphPost t u z k reference ctx ws line T T' (Lining.Refused q)
+      pub no-segments : (q : Refusal) → Post (Err q) → ParagraphPost t u z k reference ctx ws line T T' (Err q)
       no-segments q post b limit x =
           p_unsegmented ctx reference (space_in ws) x.earlier x.place (l x) (c x) when (when_is x) mode (modes x.attrs (owned x)) q
           (same_segments x ∙ post _ (content-of x) x.attrs (owned x))
 
       -- its segments stand, and its cue is added
-      module _ (n : ℕ) (post : Post (Styled.Is n)) where
+      module _ (n : ℕ) (post : Post (Ok n)) where
         module _ {b : Base} {limit : ℕ} (x : Child b limit t u z k line T) where
           abbrev it : Segmented (next_frame b limit x.hi x.earlier T.texts) line.rows T'.segments T'.texts
               (segments_of_p ctx mode e.place line.rows when.start (l x) (c x)) n
@@ -332,7 +337,7 @@ module _ {t u z : List ℕ} {k : ℕ} {line : Line} {T : CueTables} (a : AsksChi
           abbrev the_cue : Cue Placed
           the_cue = cue_with when mode (l x) it.segments
 
-          next : {r : Line} → CueAdded e when mode line n T.cues T'.cues T.times T'.times T.extras T'.extras (l x) r
+          next : {r : Line} → CueAdded e.place e.many when mode line n T.cues T'.cues T.times T'.times T.extras T'.extras (l x) r
               → Next x.standing the_cue n it.hi T'
           next d = record {
             few = d.few;
@@ -345,11 +350,11 @@ module _ {t u z : List ℕ} {k : ℕ} {line : Line} {T : CueTables} (a : AsksChi
             in_texts = it.texts;
           }
 
-        pub cued : (r : Lining)
+        pub cued : (r : Result Line Refusal)
             → OfRows u z e.first e.many
-            (λ l. CueOutcome e when mode line n T.cues T'.cues T.times T'.times T.extras T'.extras l r)
+            (λ l. CueOutcome e.place e.many when mode line n T.cues T'.cues T.times T'.times T.extras T'.extras l r)
             → ParagraphPost t u z k reference ctx ws line T T' r
-        cued (Lining.Is r) h b limit x =
+        cued (Ok r) h b limit x =
             let d = h x.attrs (owned x) in
             rw d.is (record {
               cues = x.earlier ++ (the_cue x ∷ []);
@@ -360,7 +365,7 @@ module _ {t u z : List ℕ} {k : ℕ} {line : Line} {T : CueTables} (a : AsksChi
               standing = lined_more x.standing (the_cue x) z a.spacious n (it x).hi T' (next x d) when.end;
               few = omega (arith, d.kept, many_is x);
             })
-        cued (Lining.Refused q) h b limit x =
+        cued (Err q) h b limit x =
             let d = h x.attrs (owned x) in
             rw (d.1, place_is x)
             (p_full ctx reference (space_in ws) x.earlier x.place (l x) (c x) when (when_is x) mode (modes x.attrs (owned x))

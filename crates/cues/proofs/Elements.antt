@@ -1,6 +1,7 @@
 -- An element in its row, as the readers of tt and of a single p take it. Assumes nothing.
 --     elem-room, elem-cells, elem-rows, elem-owned, elem-inside, elem-order   what stands in its row, its attributes and its content
 --     elem-none, elem-found                                                   the first of a name in a tree
+use Rattle.std.specs.Prelude.{Option, Some, None}
 use Prim.Native.Nat.{ℕ, ◌+◌, ◌*◌, ◌≤◌}
 use mathlib.Core.Path.{◌≡◌, sym, ◌∙◌}
 use mathlib.Core.List.{List, ◌++◌}
@@ -10,7 +11,6 @@ use lib.ListN.{length}
 use Rattle.tree.specs.Trees.{size, attr_spans, spans, InOrder}
 use Rattle.tree.specs.Trees as placed
 use Rattle.tree.proofs.Places.{in_lower, in_first, in_rest}
-use Rattle.scan.specs.declared.table.Found.{Found}
 use Rattle.xml.specs.declared.find.Element.{Element}
 use Rattle.xml.specs.Find.{Holds, Owned, OfSiblings, ElementAt, element_row, find_row}
 use Rattle.xml.proofs.FindLaws.{holds_elem}
@@ -59,18 +59,18 @@ module _ {t u z : List ℕ} {k : ℕ} (x : Elem t u z k) where
 -- ---- the first of a name
 
 module _ {t u z : List ℕ} {n : ℕ} (x : Tree t u z n) where
-  module _ (name : List ℕ) {r : Found} (o : OfSiblings t 0 n (λ f. r ≡ find_row z name 0 f)) where
+  module _ (name : List ℕ) {r : Option ℕ} (o : OfSiblings t 0 n (λ f. r ≡ find_row z name 0 f)) where
     row_is : r ≡ find_row z name 0 x.forest
     row_is = o 0 x.forest x.holds.stands x.rows
 
-    pub elem-none : r ≡ Found.Nothing → first_element with_places name (nodes_in z x.forest) ≡ none
+    pub elem-none : r ≡ None → first_element with_places name (nodes_in z x.forest) ≡ none
     elem-none e = first-nothing z name 0 x.forest (sym row_is ∙ e)
 
     pub record Firstly (k : ℕ) : Type 0 where
       pub element : Elem t u z k
       pub is : first_element with_places name (nodes_in z x.forest) ≡ some (element_in element)
 
-    pub elem-found : {k : ℕ} → r ≡ Found.Row k → Firstly k
+    pub elem-found : {k : ℕ} → r ≡ Some k → Firstly k
     elem-found {k} e =
         let f : First t u z name 0 x.forest k = first_found x.forest x.holds (sym row_is ∙ e) in
         record {

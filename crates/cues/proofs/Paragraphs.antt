@@ -2,6 +2,8 @@
 --     bare-none, bare-more, bare-other, bare-read                  whether rows are a bare font, read from the first row
 --     par_full, par_more, par_same, par_drop                       what `put_paragraph` ensures, by its ways
 --     wrap-given, styled-some, styled-none                         what a p's attributes make of its content
+use Rattle.std.specs.Prelude.{Option, Some, None, Result, Ok, Err}
+use Rattle.std.specs.Option.{ok_or}
 use Prim.Native.Nat.{ℕ, ◌+◌, ◌-◌, ◌*◌, ◌%◌, ◌≤◌, ◌<◌}
 use mathlib.Core.Path.{◌≡◌, refl, sym, ◌∙◌}
 use mathlib.Core.Bool.{Bool, true, false, cond, ◌&&◌, and-false}
@@ -21,7 +23,6 @@ use Rattle.track.specs.declared.strings.Span.{Span}
 use Rattle.track.specs.Track.{Wrapper, Segments, no_segments, one_segment, segment_rows, is_bare_font, wrapped}
 use Rattle.track.specs.Track as track
 use Rattle.track.specs.Layout.{each, preorder, joined_cells, size_marks, font_cells, segment_cells, wrapper_of}
-use Rattle.records.specs.declared.cells.Added.{Added}
 use Rattle.records.specs.Siblings.{row_cells, cells_of, Stands, later, Dropped}
 use Rattle.records.proofs.SegmentRows.{rows-wrapped}
 use Rattle.records.proofs.Standing.{stands_unwrap}
@@ -37,8 +38,8 @@ use Rattle.inline.specs.Stood.{span_in, spans_in, texts_in}
 use Rattle.inline.proofs.Spanning.{first_rows}
 use Rattle.content.specs.Steps.{wrappers_by}
 use Rattle.content.proofs.Standings.{rows-spans, spans-span, texts_stamped}
-use Rattle.cues.specs.declared.paragraph.Styled.{Styled}
-use Rattle.cues.specs.Steps.{is_bare, TellsBare, onward, Paragraphed, styled_in, StyledGiven, dressing}
+use Rattle.cues.specs.Steps.{is_bare, TellsBare, onward, Paragraphed, StyledGiven, dressing}
+use Rattle.tree.specs.declared.answers.Refusal.{Refusal}
 
 pub never : {A : Type 0} → false ≡ true → A
 never e = absurd (let z : ◌≡◌ {A = ℕ} 0 1 = cc in omega arith)
@@ -235,14 +236,14 @@ unwrapped first end pre rest (track.wrap w c x) t t' s b d =
 module _ (first end : ℕ) (ws : List (Wrapper Span)) (t t₁ : List ℕ) where
   pub par_full : end ≤ 16384
       → ((pre rest : List ℕ) (f : Segments Span) → Stands pre rest first end f t → 16384 < first + segment_rows (wrapped ws f))
-      → Paragraphed first end ws t t₁ Added.Full
+      → Paragraphed first end ws t t₁ None
   par_full few h pre rest f s = full-of first end ws f few s.count (h pre rest f s)
 
   module _ (m : ℕ) (low : end ≤ m) (few : m ≤ 16384) (puts : Puts first end m ws t t₁) where
-    pub par_more : (m ≡ end → ⊥) → Paragraphed first end ws t t₁ (Added.Next m)
+    pub par_more : (m ≡ end → ⊥) → Paragraphed first end ws t t₁ (Some m)
     par_more g = (few, λ pre rest f s. more_of first end m ws pre rest f t₁ low g s.count (puts pre rest f s))
 
-    pub par_same : m ≡ end → TellsBare t₁ first end false → Paragraphed first end ws t t₁ (Added.Next end)
+    pub par_same : m ≡ end → TellsBare t₁ first end false → Paragraphed first end ws t t₁ (Some end)
     par_same k b = (
       omega (arith, k, few),
       λ pre rest f s.
@@ -253,7 +254,7 @@ module _ (first end : ℕ) (ws : List (Wrapper Span)) (t t₁ : List ℕ) where
     )
 
     pub par_drop : m ≡ end → TellsBare t₁ first end true → (t₂ : List ℕ) → Dropped first end t₁ t₂
-        → Paragraphed first end ws t t₂ (Added.Next (end - 1))
+        → Paragraphed first end ws t t₂ (Some (end - 1))
     par_drop k b t₂ d = (
       omega (arith, k, few),
       λ pre rest f s.
@@ -322,9 +323,9 @@ texts_par (w ∷ l) f = texts_stamped false (pos 0) (w ∷ l) f
 
 -- ---- what a p's attributes make of its content
 
-wrap-given : (ws : List (Wrapper Placed)) (place first end : ℕ) (s s' : List ℕ) (a : Added) → Paragraphed first end (wrappers_by ws) s s' a
-    → StyledGiven (λ f. counted place first (paragraph_of ws f)) first end s s' (styled_in a place)
-wrap-given ws place first end s s' (Added.Next m) h =
+wrap-given : (ws : List (Wrapper Placed)) (place first end : ℕ) (s s' : List ℕ) (a : Option ℕ) → Paragraphed first end (wrappers_by ws) s s' a
+    → StyledGiven (λ f. counted place first (paragraph_of ws f)) first end s s' (ok_or a (record { number = 13; place = place }))
+wrap-given ws place first end s s' (Some m) h =
     λ pre rest f x.
     let r = rw (spans-par ws f) at (h.1 pre rest (spans_in f) x) in
     let n : first + segment_rows (paragraph_of ws f) ≤ 16384 = omega (arith, h.0, r.count, rows-spans (paragraph_of ws f)) in
@@ -335,19 +336,19 @@ wrap-given ws place first end s s' (Added.Next m) h =
       same = texts_par ws f;
       rows = r;
     }
-wrap-given ws place first end s s' Added.Full h =
+wrap-given ws place first end s s' None h =
     λ pre rest f x.
     let r = rw (spans-par ws f, rows-spans (paragraph_of ws f)) at (h pre rest (spans_in f) x) in
     rw (lt-leb (first + segment_rows (paragraph_of ws f)) 16384 r)
 
-pub wrap-dressed : (l : List (Attr Placed)) (ws : List (Wrapper Placed)) (place first end : ℕ) (s s' : List ℕ) (a : Added)
+pub wrap-dressed : (l : List (Attr Placed)) (ws : List (Wrapper Placed)) (place first end : ℕ) (s s' : List ℕ) (a : Option ℕ)
     → is ws ≡ wrappers_of with_places l → Paragraphed first end (wrappers_by ws) s s' a
-    → StyledGiven (dressing place first l) first end s s' (styled_in a place)
-wrap-dressed l ws place first end s s' (Added.Next m) e h =
+    → StyledGiven (dressing place first l) first end s s' (ok_or a (record { number = 13; place = place }))
+wrap-dressed l ws place first end s s' (Some m) e h =
     λ pre rest f x.
-    let g = wrap-given ws place first end s s' (Added.Next m) h pre rest f x in
+    let g = wrap-given ws place first end s s' (Some m) h pre rest f x in
     record { few = g.few; segments = g.segments; means = rw (← e) g.means; same = g.same; rows = g.rows }
-wrap-dressed l ws place first end s s' Added.Full e h = λ pre rest f x. rw (← e) (wrap-given ws place first end s s' Added.Full h pre rest f x)
+wrap-dressed l ws place first end s s' None e h = λ pre rest f x. rw (← e) (wrap-given ws place first end s s' None h pre rest f x)
 
 styled-dressing : (ctx : TimingCtx) (place made : ℕ) (l : List (Attr Placed)) (f : Segments Placed) → is_modelled with_places l ≡ true
     → styled with_places ctx place made l f ≡ dressing place made l f
@@ -360,9 +361,9 @@ unfolding styled
 styled-plain ctx place made l f e = rw (e, styled)
 
 module _ (ctx : TimingCtx) (place first end : ℕ) (l : List (Attr Placed)) (s : List ℕ) where
-  pub styled-some : is_modelled with_places l ≡ true → (s' : List ℕ) (r : Styled) → StyledGiven (dressing place first l) first end s s' r
+  pub styled-some : is_modelled with_places l ≡ true → (s' : List ℕ) (r : Result ℕ Refusal) → StyledGiven (dressing place first l) first end s s' r
       → StyledGiven (styled with_places ctx place first l) first end s s' r
-  styled-some e s' (Styled.Is n) h = λ pre rest f x.
+  styled-some e s' (Ok n) h = λ pre rest f x.
       let g = h pre rest f x in
       record {
         few = g.few;
@@ -371,9 +372,9 @@ module _ (ctx : TimingCtx) (place first end : ℕ) (l : List (Attr Placed)) (s :
         same = g.same;
         rows = g.rows;
       }
-  styled-some e s' (Styled.Refused q) h = λ pre rest f x. styled-dressing ctx place first l f e ∙ h pre rest f x
+  styled-some e s' (Err q) h = λ pre rest f x. styled-dressing ctx place first l f e ∙ h pre rest f x
 
-  pub styled-none : is_modelled with_places l ≡ false → end ≤ 16384 → StyledGiven (styled with_places ctx place first l) first end s s (Styled.Is end)
+  pub styled-none : is_modelled with_places l ≡ false → end ≤ 16384 → StyledGiven (styled with_places ctx place first l) first end s s (Ok end)
   styled-none e few = λ pre rest f x.
       let z : end - end ≡ 0 = omega arith in
       record { few = few; segments = f; means = styled-plain ctx place first l f e; same = refl; rows = rw z x }

@@ -7,14 +7,21 @@
 --     child-div, child-p, child-unknown                         a child by its name
 --     headed, passed                                            the first of siblings is an element, or not
 --     Walked, walked_start, walked_row, walked_next, walked_asks, walked_pass, walked_step, walked_fail, walked_done    the loop over siblings
+--     max-later                                                 the later of two times
 --     body_child, body_asks, body_none, body_refused, body_came                                                         the body
+use Rattle.std.specs.Prelude as rust
+use Rattle.std.specs.Prelude.{Some, None, Result, Ok, Err}
 use Prim.Native.Nat.{ℕ, ◌+◌, ◌-◌, ◌*◌, ◌≤◌, ◌<◌}
 use mathlib.Core.Path.{◌≡◌, refl, sym, ap, ◌∙◌, subst}
-use mathlib.Core.Bool.{Bool, true, false}
+use mathlib.Core.Bool.{Bool, true, false, cond}
 use mathlib.Core.List.{List, [], ◌++◌}
 use mathlib.Core.Option.{Option, some}
 use native.Mathlib.Omega.{arith}
-use lib.IntN.{ℤ}
+use lib.IntN.{ℤ, pos, negsuc}
+use lib.Dec.{ltb}
+use borrow.Author.Tests.{ltb-true, ltb-false, le-ltb}
+use Rattle.std.specs.Int.{int_max}
+use Rattle.scan.proofs.Every.{by-test}
 use lib.ListN.{length, get_or, length-append}
 use Rattle.scan.specs.Part.{string_at}
 use Rattle.times.specs.declared.offset.TimingCtx.{TimingCtx}
@@ -23,7 +30,6 @@ use Rattle.tree.specs.Trees.{Forest, size, attrs_of, Span, attr_spans, spans, In
 use Rattle.tree.specs.Trees as placed
 use Rattle.tree.proofs.Places.{in_lower, in_first, in_rest}
 use Rattle.track.specs.Track.{Cue}
-use Rattle.scan.specs.declared.table.Found.{Found}
 use Rattle.xml.specs.declared.find.Element.{Element}
 use Rattle.xml.specs.Find.{named, Holds, OfSiblings, find_row, is_element, HasRow, element_row, ElementAt}
 use Rattle.xml.specs.Reading.{Placed}
@@ -40,12 +46,10 @@ use Rattle.meaning.specs.Cues.{a_div, a_p, unknown, timed_of, div_of, cues_in, l
 use Rattle.meaning.specs.Cues as meaning
 use Rattle.meaning.specs.Meaning.{body_of}
 use Rattle.styling.specs.declared.space.WsMode.{WsMode}
-use Rattle.styling.specs.Posts.{HasRows, OfRows, space_in}
+use Rattle.styling.specs.Posts.{HasRows, OfRows, moment_said, space_in}
 use Rattle.content.proofs.Reading.{bind_is, bind_no, no_size, row-end}
 use Rattle.cues.specs.declared.lines.Line.{Line}
-use Rattle.cues.specs.declared.lines.Lining.{Lining}
-use Rattle.intervals.specs.declared.Moment.{Moment}
-use Rattle.intervals.specs.Steps.{moment_said, begin_from, start_from, end_from}
+use Rattle.intervals.specs.Steps.{begin_from, start_from, end_from}
 use Rattle.cues.specs.Steps.{CueTables, Spacious, Base, Lined, Child, Children, AsksChild, AsksCues}
 use Rattle.cues.specs.Steps.{Came, Outcome, ParagraphPost, within, ContainerPost, div_in, DivPost, Closes, child_in, ElementPost}
 use Rattle.cues.specs.Steps.{following, CuesPost, no_line, Bodies, AsksBody, BodyOutcome, BodyPost}
@@ -153,9 +157,9 @@ lined_end c m e x = record {
 
 module _ (b : Base) (limit : ℕ) (line : Line) (T : CueTables) where
   -- of fewer attributes
-  outcome_same : {many more : ℕ} {m m' : Answer (meaning.Line Placed)} (r : Lining) → m' ≡ m → many ≤ more → Outcome b limit line many T m r
+  outcome_same : {many more : ℕ} {m m' : Answer (meaning.Line Placed)} (r : Result Line Refusal) → m' ≡ m → many ≤ more → Outcome b limit line many T m r
       → Outcome b limit line more T m' r
-  outcome_same (Lining.Is r) e h x = record {
+  outcome_same (Ok r) e h x = record {
     cues = x.cues;
     means = e ∙ x.means;
     hi = x.hi;
@@ -163,7 +167,7 @@ module _ (b : Base) (limit : ℕ) (line : Line) (T : CueTables) where
     standing = x.standing;
     few = omega (arith, x.few);
   }
-  outcome_same (Lining.Refused q) e h x = e ∙ x
+  outcome_same (Err q) e h x = e ∙ x
 
 -- ---- what a child's row says
 
@@ -241,14 +245,14 @@ InMode u z e ws mode = OfRows u z e.first e.many (λ l. space_in mode ≡ space_
 
 module _ (t u z : List ℕ) (k : ℕ) (ctx : TimingCtx) (ws : WsMode) (line : Line) (T T' : CueTables) (e : Element) (row : e ≡ element_row t k) where
   -- what the content of a child came to
-  inner_post : (seq : Bool) (begin : ℤ) (mode : WsMode) (r : Lining) → CuesPost t u z (k + 1) e.end seq begin ctx mode line T T' r
+  inner_post : (seq : Bool) (begin : ℤ) (mode : WsMode) (r : Result Line Refusal) → CuesPost t u z (k + 1) e.end seq begin ctx mode line T T' r
       → (b : Base) (limit : ℕ) (x : Child b limit t u z k line T) → Outcome b limit line (length (attrs_of x.content)) T'
       (cues_in with_places ctx seq (space_in mode) begin begin begin x.earlier (nodes_in z x.content)) r
   inner_post seq begin mode r post b limit x =
       let g = subst (λ (v : Element). CuesPost t u z (k + 1) v.end seq begin ctx mode line T T' r) (child-is x e row) post in
       g b limit (inner x)
 
-  pub container_came : (seq : Bool) (begin : ℤ) (mode : WsMode) (r : Lining) → Says u z e (λ l. seq ≡ is_seq with_places l) → InMode u z e ws mode
+  pub container_came : (seq : Bool) (begin : ℤ) (mode : WsMode) (r : Result Line Refusal) → Says u z e (λ l. seq ≡ is_seq with_places l) → InMode u z e ws mode
       → CuesPost t u z (k + 1) e.end seq begin ctx mode line T T' r → ContainerPost t u z k begin ctx ws line T T' r
   container_came seq begin mode r kinds modes post b limit x =
       let a = child-said x e row (λ l. seq ≡ is_seq with_places l) kinds in
@@ -257,7 +261,7 @@ module _ (t u z : List ℕ) (k : ℕ) (ctx : TimingCtx) (ws : WsMode) (line : Li
 
   -- ---- a div
   module _ (reference : ℤ) where
-    abbrev pub Starts : Moment → Type 0
+    abbrev pub Starts : Result ℤ Refusal → Type 0
     Starts m = OfRows u z e.first e.many (λ l. moment_said m ≡ start_from ctx e.place reference l)
 
     module _ {b : Base} {limit : ℕ} (x : Child b limit t u z k line T) where
@@ -273,7 +277,7 @@ module _ (t u z : List ℕ) (k : ℕ) (ctx : TimingCtx) (ws : WsMode) (line : Li
       abbrev close : ℤ → meaning.Line Placed → Answer (meaning.Line Placed)
       close start inner = end_from ctx x.place start inner.end attrs >>= λ end. is (record { cues = inner.cues; end = end })
 
-      started : (m : Moment) → Starts m → moment_said m ≡ start_from ctx x.place reference attrs
+      started : (m : Result ℤ Refusal) → Starts m → moment_said m ≡ start_from ctx x.place reference attrs
       started m h =
           let g = child-said x e row (λ l. moment_said m ≡ start_from ctx e.place reference l) h in
           rw (ap (λ (v : Element). v.place) (child-is x e row)) at g
@@ -281,22 +285,22 @@ module _ (t u z : List ℕ) (k : ℕ) (ctx : TimingCtx) (ws : WsMode) (line : Li
       all_is : all ≡ (start_from ctx x.place reference attrs >>= λ start. children start >>= close start)
       all_is = div_is ctx reference x.place attrs children
 
-    pub div_refused : (q : Refusal) → Starts (Moment.Refused q) → DivPost t u z k reference ctx ws line T T' (Lining.Refused q)
-    div_refused q h b limit x = all_is x ∙ bind_no _ (sym (started x (Moment.Refused q) h))
+    pub div_refused : (q : Refusal) → Starts (Err q) → DivPost t u z k reference ctx ws line T T' (Err q)
+    div_refused q h b limit x = all_is x ∙ bind_no _ (sym (started x (Err q) h))
 
-    module _ (start : ℤ) (h : Starts (Moment.Is start)) where
+    module _ (start : ℤ) (h : Starts (Ok start)) where
       begun : {b : Base} {limit : ℕ} (x : Child b limit t u z k line T) → all x ≡ (children x start >>= close x start)
-      begun x = all_is x ∙ bind_is _ (sym (started x (Moment.Is start) h))
+      begun x = all_is x ∙ bind_is _ (sym (started x (Ok start) h))
 
-      pub div_inside : (q : Refusal) → ContainerPost t u z k start ctx ws line T T' (Lining.Refused q)
-          → DivPost t u z k reference ctx ws line T T' (Lining.Refused q)
+      pub div_inside : (q : Refusal) → ContainerPost t u z k start ctx ws line T T' (Err q)
+          → DivPost t u z k reference ctx ws line T T' (Err q)
       div_inside q post b limit x = begun x ∙ bind_no _ (post b limit x)
 
-      ended : {b : Base} {limit : ℕ} (x : Child b limit t u z k line T) (inner : Line) (r : Lining)
+      ended : {b : Base} {limit : ℕ} (x : Child b limit t u z k line T) (inner : Line) (r : Result Line Refusal)
           → Came b limit line (length x.attrs + length (attrs_of x.content)) T' (children x start) inner
           → Closes ctx x.place start inner (attrs x) r
           → Outcome b limit line (length x.attrs + length (attrs_of x.content)) T' (all x) r
-      ended x inner (Lining.Is r) c h = record {
+      ended x inner (Ok r) c h = record {
         cues = c.cues;
         means = begun x ∙ bind_is (close x start) c.means ∙ bind_is _ h.0;
         hi = c.hi;
@@ -304,17 +308,17 @@ module _ (t u z : List ℕ) (k : ℕ) (ctx : TimingCtx) (ws : WsMode) (line : Li
         standing = lined_end h.1 h.2 h.3 c.standing;
         few = omega (arith, c.few, h.3);
       }
-      ended x inner (Lining.Refused q) c h = begun x ∙ bind_is (close x start) c.means ∙ bind_no _ h
+      ended x inner (Err q) c h = begun x ∙ bind_is (close x start) c.means ∙ bind_no _ h
 
-      pub div_came : (inner : Line) → ContainerPost t u z k start ctx ws line T T' (Lining.Is inner)
-          → (r : Lining) → Says u z e (λ l. Closes ctx e.place start inner l r) → DivPost t u z k reference ctx ws line T T' r
+      pub div_came : (inner : Line) → ContainerPost t u z k start ctx ws line T T' (Ok inner)
+          → (r : Result Line Refusal) → Says u z e (λ l. Closes ctx e.place start inner l r) → DivPost t u z k reference ctx ws line T T' r
       div_came inner post r closes b limit x =
           let g = child-said x e row (λ l. Closes ctx e.place start inner l r) closes in
           let at = ap (λ (v : Element). v.place) (child-is x e row) in
           ended x inner r (post b limit x) (subst (λ v. Closes ctx v start inner (attrs_in z x.attrs) r) at g)
 
 -- a child by its name
-module _ (t u z : List ℕ) (k : ℕ) (ctx : TimingCtx) (ws : WsMode) (line : Line) (T T' : CueTables) (seq : Bool) (reference : ℤ) (r : Lining) where
+module _ (t u z : List ℕ) (k : ℕ) (ctx : TimingCtx) (ws : WsMode) (line : Line) (T T' : CueTables) (seq : Bool) (reference : ℤ) (r : Result Line Refusal) where
   its_name : (name : List ℕ) (h : Bool) → is_element t z name k ≡ h → {b : Base} {limit : ℕ} (x : Child b limit t u z k line T)
       → named name (string_at z (x.place + 1) x.len) ≡ h
   its_name name h e x = sym (is-element_elem z name x.holds.stands) ∙ e
@@ -582,7 +586,7 @@ module _ {t u z : List ℕ} {from end : ℕ} {seq : Bool} {begin : ℤ} {ctx : T
           ∙ cues_element ctx seq ws begin reference latest c.earlier c.place (name_in z (c.place + 1) c.len) (attrs_in z c.attrs)
           (nodes_in z c.content) (nodes_in z h.others)
 
-      pub walked_step : {r : Line} (T' : CueTables) → SameLengths T T' → ElementPost t u z k seq reference ctx ws s T T' (Lining.Is r)
+      pub walked_step : {r : Line} (T' : CueTables) → SameLengths T T' → ElementPost t u z k seq reference ctx ws s T T' (Ok r)
           → WalkedTo (get_or t (k * 6 + 1) 0) r (later latest r.end) (following seq begin r.end) T'
       walked_step {r} T' same post = record {
         low = omega (arith, i.low, (walked_next j).0);
@@ -609,14 +613,14 @@ module _ {t u z : List ℕ} {from end : ℕ} {seq : Bool} {begin : ℤ} {ctx : T
             };
       }
 
-      pub walked_fail : {q : Refusal} (T' : CueTables) → ElementPost t u z k seq reference ctx ws s T T' (Lining.Refused q)
-          → CuesPost t u z from end seq begin ctx ws line T₀ T' (Lining.Refused q)
+      pub walked_fail : {q : Refusal} (T' : CueTables) → ElementPost t u z k seq reference ctx ws s T T' (Err q)
+          → CuesPost t u z from end seq begin ctx ws line T₀ T' (Err q)
       walked_fail T' post b limit x =
           let h = headed (i.goes b limit x).to j kind in
           element-is x h ∙ bind_no _ (post b h.mid h.child)
 
   pub walked_done : end ≤ k
-      → CuesPost t u z from end seq begin ctx ws line T₀ T (Lining.Is (record { cues = s.cues; rows = s.rows; extras = s.extras; end = latest }))
+      → CuesPost t u z from end seq begin ctx ws line T₀ T (Ok (record { cues = s.cues; rows = s.rows; extras = s.extras; end = latest }))
   unfolding nodes_in spans attrs_of
   walked_done j b limit x =
       let g = i.goes b limit x in
@@ -634,19 +638,19 @@ module _ {t u z : List ℕ} {from end : ℕ} {seq : Bool} {begin : ℤ} {ctx : T
 -- ---- the body
 
 module _ {b : Base} {limit : ℕ} {t u z : List ℕ} {from end rows : ℕ} {T : CueTables} (x : Bodies b limit t u z from end rows T) where
-  abbrev body_row : Found
+  abbrev body_row : rust.Option ℕ
   body_row = find_row z (ascii "body") from x.forest
 
   abbrev body_meant : TimingCtx → WsMode → Answer (List (Cue Placed))
   body_meant ctx ws = body_of with_places ctx (space_in ws) (first_element with_places (ascii "body") (nodes_in z x.forest))
 
   -- what the search for a row answered
-  found-is : (r : Found) → OfSiblings t from end (λ f. r ≡ find_row z (ascii "body") from f) → body_row ≡ r
+  found-is : (r : rust.Option ℕ) → OfSiblings t from end (λ f. r ≡ find_row z (ascii "body") from f) → body_row ≡ r
   found-is r h = sym (h x.own x.forest x.holds.stands x.size)
 
-  module _ {k : ℕ} (h : OfSiblings t from end (λ f. Found.Row k ≡ find_row z (ascii "body") from f)) where
+  module _ {k : ℕ} (h : OfSiblings t from end (λ f. Some k ≡ find_row z (ascii "body") from f)) where
     pub its_row : First t u z (ascii "body") from x.forest k
-    its_row = first_found x.forest x.holds (found-is (Found.Row k) h)
+    its_row = first_found x.forest x.holds (found-is (Some k) h)
 
     abbrev pub body_child : Child b limit t u z k (no_line rows) T
     body_child =
@@ -666,23 +670,23 @@ module _ {b : Base} {limit : ℕ} {t u z : List ℕ} {from end rows : ℕ} {T : 
         }
 
 pub body_asks : {t u z : List ℕ} {from end rows k : ℕ} {T : CueTables} (a : AsksBody t u z from end rows T)
-    → OfSiblings t from end (λ f. Found.Row k ≡ find_row z (ascii "body") from f) → AsksChild t u z k (no_line rows) T
+    → OfSiblings t from end (λ f. Some k ≡ find_row z (ascii "body") from f) → AsksChild t u z k (no_line rows) T
 body_asks a h = record { spacious = a.spacious; base = a.base; limit = a.limit; child = body_child a.bodies h }
 
 module _ (t u z : List ℕ) (from end : ℕ) (ctx : TimingCtx) (ws : WsMode) (rows : ℕ) (T : CueTables) where
-  pub body_none : OfSiblings t from end (λ f. Found.Nothing ≡ find_row z (ascii "body") from f)
-      → BodyPost t u z from end ctx ws rows T T (Lining.Is (no_line rows))
+  pub body_none : OfSiblings t from end (λ f. None ≡ find_row z (ascii "body") from f)
+      → BodyPost t u z from end ctx ws rows T T (Ok (no_line rows))
   unfolding body_of
   body_none h b limit x = record {
     cues = [];
-    means = ap (body_of with_places ctx (space_in ws)) (first-nothing z (ascii "body") from x.forest (found-is x Found.Nothing h));
+    means = ap (body_of with_places ctx (space_in ws)) (first-nothing z (ascii "body") from x.forest (found-is x None h));
     hi = 0;
     below = omega arith;
     standing = x.standing;
   }
 
-  module _ (k : ℕ) (h : OfSiblings t from end (λ f. Found.Row k ≡ find_row z (ascii "body") from f)) (e : Element) (row : e ≡ element_row t k) where
-    abbrev pub Begins : Moment → Type 0
+  module _ (k : ℕ) (h : OfSiblings t from end (λ f. Some k ≡ find_row z (ascii "body") from f)) (e : Element) (row : e ≡ element_row t k) where
+    abbrev pub Begins : Result ℤ Refusal → Type 0
     Begins m = OfRows u z e.first e.many (λ l. moment_said m ≡ begin_from ctx e.place l)
 
     module _ {b : Base} {limit : ℕ} (x : Bodies b limit t u z from end rows T) where
@@ -692,7 +696,7 @@ module _ (t u z : List ℕ) (from end : ℕ) (ctx : TimingCtx) (ws : WsMode) (ro
       abbrev its_children : ℤ → Answer (meaning.Line Placed)
       its_children begin = within ctx ws begin [] its_attrs (nodes_in z (body_child x h).content)
 
-      body_begins : (m : Moment) → Begins m → body_meant x ctx ws ≡ (moment_said m >>= λ begin. its_children begin >>= λ line. is line.cues)
+      body_begins : (m : Result ℤ Refusal) → Begins m → body_meant x ctx ws ≡ (moment_said m >>= λ begin. its_children begin >>= λ line. is line.cues)
       body_begins m g =
           let y = body_child x h in
           let s = child-said y e row (λ l. moment_said m ≡ begin_from ctx e.place l) g in
@@ -701,22 +705,38 @@ module _ (t u z : List ℕ) (from end : ℕ) (ctx : TimingCtx) (ws : WsMode) (ro
           ∙ body_is ctx ws (record { at = y.place; attrs = its_attrs; content = nodes_in z y.content })
           ∙ ap (λ v. v >>= λ begin. its_children begin >>= λ line. is line.cues) (sym s')
 
-    pub body_refused : (T' : CueTables) (q : Refusal) → Begins (Moment.Refused q) → BodyPost t u z from end ctx ws rows T T' (Lining.Refused q)
-    body_refused T' q g b limit x = body_begins x (Moment.Refused q) g
+    pub body_refused : (T' : CueTables) (q : Refusal) → Begins (Err q) → BodyPost t u z from end ctx ws rows T T' (Err q)
+    body_refused T' q g b limit x = body_begins x (Err q) g
 
-    module _ (T' : CueTables) (begin : ℤ) (g : Begins (Moment.Is begin)) where
-      body_outcome : {b : Base} {limit : ℕ} (x : Bodies b limit t u z from end rows T) (many : ℕ) (r : Lining)
+    module _ (T' : CueTables) (begin : ℤ) (g : Begins (Ok begin)) where
+      body_outcome : {b : Base} {limit : ℕ} (x : Bodies b limit t u z from end rows T) (many : ℕ) (r : Result Line Refusal)
           → Outcome b limit (no_line rows) many T' (its_children x begin) r → BodyOutcome b limit T' (body_meant x ctx ws) r
-      body_outcome x many (Lining.Is r) c = record {
+      body_outcome x many (Ok r) c = record {
         cues = c.cues;
-        means = body_begins x (Moment.Is begin) g ∙ bind_is _ c.means;
+        means = body_begins x (Ok begin) g ∙ bind_is _ c.means;
         hi = c.hi;
         below = c.below;
         standing = c.standing;
       }
-      body_outcome x many (Lining.Refused q) c = body_begins x (Moment.Is begin) g ∙ bind_no _ c
+      body_outcome x many (Err q) c = body_begins x (Ok begin) g ∙ bind_no _ c
 
-      pub body_came : (r : Lining) → ContainerPost t u z k begin ctx ws (no_line rows) T T' r → BodyPost t u z from end ctx ws rows T T' r
+      pub body_came : (r : Result Line Refusal) → ContainerPost t u z k begin ctx ws (no_line rows) T T' r → BodyPost t u z from end ctx ws rows T T' r
       body_came r post b limit x =
           let y = body_child x h in
           body_outcome x (length y.attrs + length (attrs_of y.content)) r (post b limit y)
+
+-- ---- the later of two times, as `max` says it
+
+either-way : (a b : ℕ) (x y : ℤ) → (a ≡ b → x ≡ y) → cond (ltb b a) x y ≡ cond (ltb a b) y x
+either-way a b x y same = by-test (ltb a b)
+    (λ h. let l : a < b = ltb-true a b h in rw (h, le-ltb b a (omega arith)))
+    (λ h. by-test (ltb b a) (λ k. rw (h, k))
+    (λ k. let e : a ≡ b = omega (arith, ltb-false a b h, ltb-false b a k) in
+    rw (h, k) (sym (same e))))
+
+pub max-later : (a b : ℤ) → int_max a b ≡ later a b
+unfolding later
+max-later (pos a) (pos b) = either-way a b (pos a) (pos b) (ap pos)
+max-later (pos a) (negsuc b) = refl
+max-later (negsuc a) (pos b) = refl
+max-later (negsuc a) (negsuc b) = either-way b a (negsuc a) (negsuc b) (λ e. ap negsuc (sym e))

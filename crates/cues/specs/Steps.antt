@@ -1,5 +1,8 @@
 -- What the readers of cues ask and ensure. This file need not be believed: `parse` promises what is left in the end.
+use Rattle.std.specs.Prelude.{Option, Some, None, Result, Ok, Err}
 use Rattle.std.specs.Prelude.{ℕ, ◌+◌, ◌-◌, ◌*◌, ◌≤◌, ◌<◌, ◌^◌, ◌≡◌, Bool, false, cond, ◌&&◌, List, [], ◌∷◌, ◌++◌, ℤ, pos, length, replicate}
+use Rattle.std.specs.Option.{unwrap_or}
+use Rattle.std.specs.Option as has
 use Rattle.std.proofs.lemmas.List.Edits.{sets}
 use Rattle.scan.specs.Part.{string_at}
 use Rattle.times.specs.declared.offset.TimingCtx.{TimingCtx}
@@ -12,7 +15,6 @@ use Rattle.track.specs.Track as track
 use Rattle.track.specs.Tables.{Lengths}
 use Rattle.track.specs.Layout.{preorder, is_some, span_or, PlacedCue, filled, filled_times, joined_cells, cue_cells, cue_times, all_segments}
 use Rattle.track.specs.Layout as placing
-use Rattle.records.specs.declared.cells.Added.{Added}
 use Rattle.records.specs.Siblings.{Stands, cells_of, later}
 use Rattle.xml.specs.declared.find.Element.{Element}
 use Rattle.xml.specs.Find.{Holds}
@@ -39,9 +41,7 @@ use Rattle.content.specs.Steps.{Roomy, Frame, Content, AsksContent}
 use Rattle.intervals.specs.declared.Interval.{Interval}
 use Rattle.intervals.specs.Steps.{end_from}
 use Rattle.cues.specs.declared.lines.Line.{Line}
-use Rattle.cues.specs.declared.lines.Lining.{Lining}
-use Rattle.cues.specs.declared.paragraph.Styled.{Styled}
-use Rattle.cues.specs.declared.paragraph.Part.{Part}
+use Rattle.tree.specs.declared.answers.Refusal.{Refusal}
 
 -- ---- what a p's attributes put around its rows
 
@@ -69,16 +69,12 @@ onward end m x = later (m - end) (cleared (end - m) x)
 
 -- The rows `first` up to `end` of the table t, whatever segments stand there, are now a p around these, up to row m; or there would be more
 -- than 16,384 rows.
-abbrev pub Paragraphed : (first end : ℕ) → List (Wrapper Span) → (t t' : List ℕ) → Added → Type 0
-Paragraphed first end ws t t' (Added.Next m) =
+abbrev pub Paragraphed : (first end : ℕ) → List (Wrapper Span) → (t t' : List ℕ) → Option ℕ → Type 0
+Paragraphed first end ws t t' (Some m) =
     (m ≤ 16384)
     × ((pre rest : List ℕ) (f : Segments Span) → Stands pre rest first end f t → Stands pre (onward end m rest) first m (paragraph_of ws f) t')
-Paragraphed first end ws t t' Added.Full =
+Paragraphed first end ws t t' None =
     (pre rest : List ℕ) (f : Segments Span) → Stands pre rest first end f t → 16384 < first + segment_rows (paragraph_of ws f)
-
-abbrev pub styled_in : Added → (place : ℕ) → Styled
-styled_in (Added.Next m) p = Styled.Is m
-styled_in Added.Full p = Styled.Refused (record { number = 13; place = p })
 
 -- m is what a p's attributes make of its content f, which stood in the rows `first` up to `end`: it stands in these up to n, its texts the same
 pub record Dressed (m : Answer (Segments Placed)) (first end n : ℕ) (f : Segments Placed) (pre rest s' : List ℕ) : Type 0 where
@@ -88,10 +84,10 @@ pub record Dressed (m : Answer (Segments Placed)) (first end n : ℕ) (f : Segme
   pub same : texts_in segments ≡ texts_in f
   pub rows : Stands pre (onward end n rest) first n (spans_in segments) s'
 
-abbrev pub StyledGiven : (Segments Placed → Answer (Segments Placed)) → (first end : ℕ) → (s s' : List ℕ) → Styled → Type 0
-StyledGiven m first end s s' (Styled.Is n) =
+abbrev pub StyledGiven : (Segments Placed → Answer (Segments Placed)) → (first end : ℕ) → (s s' : List ℕ) → Result ℕ Refusal → Type 0
+StyledGiven m first end s s' (Ok n) =
     (pre rest : List ℕ) (f : Segments Placed) → Stands pre rest first end (spans_in f) s → Dressed (m f) first end n f pre rest s'
-StyledGiven m first end s s' (Styled.Refused q) =
+StyledGiven m first end s s' (Err q) =
     (pre rest : List ℕ) (f : Segments Placed) → Stands pre rest first end (spans_in f) s → m f ≡ turned q
 
 -- `styled`, where an attribute is one that segments show
@@ -100,11 +96,15 @@ dressing place made l f = wrappers_of with_places l >>= λ ws. counted place mad
 
 -- ---- values
 
+-- where there is none
+abbrev pub nowhere : Span
+nowhere = record { place = 0; len = 0 }
+
 -- the value of the first attribute of this name, as a cue's row has it
-pub record PartIs (z name : List ℕ) (l : List (Attr Placed)) (r : Part) : Type 0 where
-  pub has : r.has ≡ is_some (valued with_places name l)
-  pub span : r.span ≡ span_or (option_by span_in (valued with_places name l))
-  pub within : r.span.place + r.span.len ≤ length z
+pub record PartIs (z name : List ℕ) (l : List (Attr Placed)) (r : Option Span) : Type 0 where
+  pub has : has.is_some r ≡ is_some (valued with_places name l)
+  pub span : unwrap_or r nowhere ≡ span_or (option_by span_in (valued with_places name l))
+  pub within : (unwrap_or r nowhere).place + (unwrap_or r nowhere).len ≤ length z
 
 -- ---- the tables that cues stand in
 
@@ -177,12 +177,12 @@ module _ (w : Frame) (first : ℕ) (s y : List ℕ) (m : Answer (Segments Placed
     pub below : hi ≤ w.limit
     pub texts : Laid segments [] w.base y w.lo hi
 
-  abbrev pub SegmentsOutcome : Styled → Type 0
-  SegmentsOutcome (Styled.Is n) = Segmented n
-  SegmentsOutcome (Styled.Refused q) = m ≡ turned q
+  abbrev pub SegmentsOutcome : Result ℕ Refusal → Type 0
+  SegmentsOutcome (Ok n) = Segmented n
+  SegmentsOutcome (Err q) = m ≡ turned q
 
 abbrev pub SegmentsPost : (t u z : List ℕ) (k : ℕ) (e : Element) (start : ℤ) → TimingCtx → WsMode → (first : ℕ) (s y s' y' : List ℕ)
-    → Styled → Type 0
+    → Result ℕ Refusal → Type 0
 SegmentsPost t u z k e start ctx ws first s y s' y' r =
     (w : Frame) (x : Content w t u z (k + 1) e.end first s y)
     → OfRows u z e.first e.many (λ l. SegmentsOutcome w first s' y' (segments_of_p ctx ws e.place first start l (nodes_in z x.forest)) r)
@@ -202,22 +202,21 @@ cue_row when ws line rows l = record {
 }
 
 -- there is room for it and for its extras
-pub record AsksCue (u z : List ℕ) (e : Element) (line : Line) (rows : ℕ) (cues : List ℕ) (times : List ℤ) (extras : List ℕ) : Type 0 where
-  pub attrs : HasRows u z e.first e.many
+pub record AsksCue (z : List ℕ) (many : ℕ) (line : Line) (rows : ℕ) (cues : List ℕ) (times : List ℤ) (extras : List ℕ) : Type 0 where
   pub small : length z < 2 ^ 32
   pub after : line.rows ≤ rows
   pub few : rows ≤ 16384
-  pub kept : line.extras + e.many ≤ 8192
+  pub kept : line.extras + many ≤ 8192
   pub in-cues : 22528 ≤ length cues
   pub in_times : 4096 ≤ length times
   pub in_extras : 24576 ≤ length extras
 
 -- the tables of cues, times and extras, with its cue and its extras; or there are 2,048 cues already
-module _ (e : Element) (when : Interval) (ws : WsMode) (line : Line) (rows : ℕ) (c c' : List ℕ) (m m' : List ℤ) (x x' : List ℕ)
+module _ (place many : ℕ) (when : Interval) (ws : WsMode) (line : Line) (rows : ℕ) (c c' : List ℕ) (m m' : List ℤ) (x x' : List ℕ)
     (l : List (Attr Placed)) where
   pub record CueAdded (r : Line) : Type 0 where
     pub few : line.cues < 2048
-    pub kept : length (inline_extras with_places l) ≤ e.many
+    pub kept : length (inline_extras with_places l) ≤ many
     pub is : r ≡ record {
       cues = line.cues + 1;
       rows = rows;
@@ -228,9 +227,9 @@ module _ (e : Element) (when : Interval) (ws : WsMode) (line : Line) (rows : ℕ
     pub in_times : m' ≡ sets m (line.cues * 2) (when.start ∷ when.end ∷ [])
     pub in_extras : x' ≡ sets x (line.extras * 3) (placed_cells (inline_extras with_places l))
 
-  abbrev pub CueOutcome : Lining → Type 0
-  CueOutcome (Lining.Is r) = CueAdded r
-  CueOutcome (Lining.Refused q) = (2048 ≤ line.cues) × (q ≡ record { number = 13; place = e.place })
+  abbrev pub CueOutcome : Result Line Refusal → Type 0
+  CueOutcome (Ok r) = CueAdded r
+  CueOutcome (Err q) = (2048 ≤ line.cues) × (q ≡ record { number = 13; place = place })
 
 -- ---- timed elements
 
@@ -283,20 +282,21 @@ module _ (b : Base) (limit : ℕ) (line : Line) (many : ℕ) (T' : CueTables) (m
     pub standing : Lined b hi cues r T'
     pub few : r.extras ≤ line.extras + many
 
-  abbrev pub Outcome : Lining → Type 0
-  Outcome (Lining.Is r) = Came r
-  Outcome (Lining.Refused q) = m ≡ turned q
+  abbrev pub Outcome : Result Line Refusal → Type 0
+  Outcome (Ok r) = Came r
+  Outcome (Err q) = m ≡ turned q
 
 -- what the element in row k means, m by its place, name, attributes and content
 abbrev pub ChildPost : ((cues : List (Cue Placed)) (at : ℕ) (name : Placed) → List (Attr Placed) → Nodes Placed → Answer (meaning.Line Placed))
-    → (t u z : List ℕ) (k : ℕ) (line : Line) (T T' : CueTables) → Lining → Type 0
+    → (t u z : List ℕ) (k : ℕ) (line : Line) (T T' : CueTables) → Result Line Refusal → Type 0
 ChildPost m t u z k line T T' r =
     (b : Base) (limit : ℕ) (x : Child b limit t u z k line T)
     → Outcome b limit line (length x.attrs + length (attrs_of x.content)) T'
     (m x.earlier x.place (record { place = x.place + 1; bytes = string_at z (x.place + 1) x.len }) (attrs_in z x.attrs)
     (nodes_in z x.content)) r
 
-abbrev pub ParagraphPost : (t u z : List ℕ) (k : ℕ) (reference : ℤ) → TimingCtx → WsMode → (line : Line) (T T' : CueTables) → Lining → Type 0
+abbrev pub ParagraphPost : (t u z : List ℕ) (k : ℕ) (reference : ℤ) → TimingCtx → WsMode → (line : Line) (T T' : CueTables)
+    → Result Line Refusal → Type 0
 ParagraphPost t u z k reference ctx ws line T T' r =
     ChildPost (λ cues at name l c. p_of with_places ctx reference (space_in ws) cues at l c) t u z k line T T' r
 
@@ -304,20 +304,20 @@ ParagraphPost t u z k reference ctx ws line T T' r =
 abbrev pub within : TimingCtx → WsMode → (begin : ℤ) → List (Cue Placed) → List (Attr Placed) → Nodes Placed → Answer (meaning.Line Placed)
 within ctx ws begin cues l c = cues_in with_places ctx (is_seq with_places l) (space_of with_places (space_in ws) l) begin begin begin cues c
 
-abbrev pub ContainerPost : (t u z : List ℕ) (k : ℕ) (begin : ℤ) → TimingCtx → WsMode → (line : Line) (T T' : CueTables) → Lining → Type 0
+abbrev pub ContainerPost : (t u z : List ℕ) (k : ℕ) (begin : ℤ) → TimingCtx → WsMode → (line : Line) (T T' : CueTables) → Result Line Refusal → Type 0
 ContainerPost t u z k begin ctx ws line T T' r = ChildPost (λ cues at name l c. within ctx ws begin cues l c) t u z k line T T' r
 
 abbrev pub div_in : TimingCtx → WsMode → (reference : ℤ) → List (Cue Placed) → ℕ → List (Attr Placed) → Nodes Placed → Answer (meaning.Line Placed)
 div_in ctx ws reference cues at l c = div_of with_places ctx reference at l (λ start. within ctx ws start cues l c)
 
-abbrev pub DivPost : (t u z : List ℕ) (k : ℕ) (reference : ℤ) → TimingCtx → WsMode → (line : Line) (T T' : CueTables) → Lining → Type 0
+abbrev pub DivPost : (t u z : List ℕ) (k : ℕ) (reference : ℤ) → TimingCtx → WsMode → (line : Line) (T T' : CueTables) → Result Line Refusal → Type 0
 DivPost t u z k reference ctx ws line T T' r = ChildPost (λ cues at name l c. div_in ctx ws reference cues at l c) t u z k line T T' r
 
 -- with its children's line known
-abbrev pub Closes : TimingCtx → (place : ℕ) → (start : ℤ) → (inner : Line) → List (Attr Placed) → Lining → Type 0
-Closes ctx place start inner l (Lining.Is r) =
+abbrev pub Closes : TimingCtx → (place : ℕ) → (start : ℤ) → (inner : Line) → List (Attr Placed) → Result Line Refusal → Type 0
+Closes ctx place start inner l (Ok r) =
     (end_from ctx place start inner.end l ≡ is r.end) × (r.cues ≡ inner.cues) × (r.rows ≡ inner.rows) × (r.extras ≡ inner.extras)
-Closes ctx place start inner l (Lining.Refused q) = end_from ctx place start inner.end l ≡ turned q
+Closes ctx place start inner l (Err q) = end_from ctx place start inner.end l ≡ turned q
 
 -- an element of a container: `cues_in` says this of each
 abbrev pub child_in : TimingCtx → (seq : Bool) → WsMode → (reference : ℤ) → List (Cue Placed) → ℕ → Placed → List (Attr Placed) → Nodes Placed
@@ -328,16 +328,16 @@ child_in ctx seq ws reference cues at n l c = elim (timed_of with_places n) [
   | unknown ↦ cues_in with_places ctx seq (space_of with_places (space_in ws) l) reference reference reference cues c
 ]
 
-abbrev pub ElementPost : (t u z : List ℕ) (k : ℕ) (seq : Bool) (reference : ℤ) → TimingCtx → WsMode → (line : Line) (T T' : CueTables) → Lining
-    → Type 0
+abbrev pub ElementPost : (t u z : List ℕ) (k : ℕ) (seq : Bool) (reference : ℤ) → TimingCtx → WsMode → (line : Line) (T T' : CueTables)
+    → Result Line Refusal → Type 0
 ElementPost t u z k seq reference ctx ws line T T' r = ChildPost (child_in ctx seq ws reference) t u z k line T T' r
 
 -- what the next child counts from
 abbrev pub following : Bool → (begin end : ℤ) → ℤ
 following seq begin end = cond seq end begin
 
-abbrev pub CuesPost : (t u z : List ℕ) (from end : ℕ) (seq : Bool) (begin : ℤ) → TimingCtx → WsMode → (line : Line) (T T' : CueTables) → Lining
-    → Type 0
+abbrev pub CuesPost : (t u z : List ℕ) (from end : ℕ) (seq : Bool) (begin : ℤ) → TimingCtx → WsMode → (line : Line) (T T' : CueTables)
+    → Result Line Refusal → Type 0
 CuesPost t u z from end seq begin ctx ws line T T' r =
     (b : Base) (limit : ℕ) (x : Children b limit t u z from end line T)
     → Outcome b limit line (length (attrs_of x.forest)) T'
@@ -373,11 +373,11 @@ module _ (b : Base) (limit : ℕ) (T' : CueTables) (m : Answer (List (Cue Placed
     pub below : hi ≤ limit
     pub standing : Lined b hi cues r T'
 
-  abbrev pub BodyOutcome : Lining → Type 0
-  BodyOutcome (Lining.Is r) = Bodied r
-  BodyOutcome (Lining.Refused q) = m ≡ turned q
+  abbrev pub BodyOutcome : Result Line Refusal → Type 0
+  BodyOutcome (Ok r) = Bodied r
+  BodyOutcome (Err q) = m ≡ turned q
 
-abbrev pub BodyPost : (t u z : List ℕ) (from end : ℕ) → TimingCtx → WsMode → (rows : ℕ) (T T' : CueTables) → Lining → Type 0
+abbrev pub BodyPost : (t u z : List ℕ) (from end : ℕ) → TimingCtx → WsMode → (rows : ℕ) (T T' : CueTables) → Result Line Refusal → Type 0
 BodyPost t u z from end ctx ws rows T T' r =
     (b : Base) (limit : ℕ) (x : Bodies b limit t u z from end rows T)
     → BodyOutcome b limit T' (body_of with_places ctx (space_in ws) (first_element with_places (ascii "body") (nodes_in z x.forest))) r

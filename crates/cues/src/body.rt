@@ -1,17 +1,15 @@
 // The body.
 ghost use Rattle.cues.specs.Steps.{five, AsksBody, BodyPost};
 
-use crate::lines::{Line, Lining};
-use intervals::Moment;
+use crate::lines::Line;
 use styling::WsMode;
 use times::TimingCtx;
-use xml::Found;
+use tree::Refusal;
+use xml::Tree;
 
 // The cues of the first body among the siblings in the rows from `from` up to `end`, where `rows` extras stand.
 pub fn collect_body(
-    nodes: &[u32],
-    attrs: &[u32],
-    strings: &[u8],
+    tree: &Tree<'_>,
     cues: &mut [u32],
     times: &mut [i64],
     segments: &mut [u32],
@@ -22,10 +20,10 @@ pub fn collect_body(
     ctx: TimingCtx,
     ws: WsMode,
     rows: usize,
-) -> Lining
-    requires { AsksBody nodes.now attrs.now strings.now from end rows
+) -> Result<Line, Refusal>
+    requires { AsksBody tree.now.nodes.now tree.now.attrs.now tree.now.strings.now from end rows
         (five cues.old times.old segments.old extras.old texts.old) }
-    ensures { BodyPost nodes.now attrs.now strings.now from end ctx ws rows
+    ensures { BodyPost tree.now.nodes.now tree.now.attrs.now tree.now.strings.now from end ctx ws rows
         (five cues.old times.old segments.old extras.old texts.old)
         (five cues.new times.new segments.new extras.new texts.new) result }
 {
@@ -35,14 +33,12 @@ pub fn collect_body(
         extras: rows,
         end: 0,
     };
-    match xml::find_element(nodes, strings, from, end, b"body") {
-        Found::Nothing => Lining::Is(line),
-        Found::Row(k) => match intervals::begin_of(attrs, strings, xml::element_at(nodes, k), ctx) {
-            Moment::Refused(r) => Lining::Refused(r),
-            Moment::Is(begin) => crate::collect::collect_container(
-                nodes, attrs, strings, cues, times, segments, extras, texts, k, begin, ctx, ws,
-                line,
-            ),
-        },
-    }
+    let Some(k) = xml::find_element(tree.nodes, tree.strings, from, end, b"body") else {
+        return Ok(line);
+    };
+    let e = xml::element_at(tree.nodes, k);
+    let begin = intervals::begin_of(&tree.attributes(e), e.place, ctx)?;
+    crate::collect::collect_container(
+        tree, cues, times, segments, extras, texts, k, begin, ctx, ws, line,
+    )
 }

@@ -1,64 +1,39 @@
 // The cues of timed elements: div and p, and unknown elements around them.
 ghost use Rattle.std.specs.Prelude.{◌≡◌};
-ghost use Rattle.meaning.specs.Cues.{later};
-ghost use Rattle.styling.specs.Posts.{HasRows, OfRows};
+ghost use Rattle.styling.specs.Posts.{Of};
 ghost use Rattle.cues.specs.Steps.{five, following, Closes, AsksChild, ContainerPost, DivPost, ElementPost, AsksCues, CuesPost};
 
-use crate::lines::{Line, Lining};
-use intervals::Moment;
+use crate::lines::Line;
 use styling::WsMode;
 use times::TimingCtx;
-use tree::{ELEMENT, NODE_CELLS};
-
-// The later of two times.
-fn later(a: i64, b: i64) -> i64
-    ensures { result ≡ later a b }
-{
-    if a < b {
-        return b;
-    }
-    a
-}
+use tree::{ELEMENT, NODE_CELLS, Refusal};
+use xml::{Attributes, Tree};
 
 // What the next child counts from: in a seq container the end of this one.
 fn following(seq: bool, begin: i64, end: i64) -> i64
     ensures { result ≡ following seq begin end }
 {
-    if seq {
-        return end;
-    }
-    begin
+    if seq { end } else { begin }
 }
 
 // A div whose children gave this line: its dur is evaluated after them.
 fn close_div(
-    attrs: &[u32],
-    strings: &[u8],
-    e: xml::Element,
+    attrs: &Attributes<'_>,
+    place: usize,
     ctx: TimingCtx,
     start: i64,
     inner: Line,
-) -> Lining
-    requires { HasRows attrs.now strings.now e.first e.many }
-    ensures { OfRows attrs.now strings.now e.first e.many (λ l. Closes ctx e.place start inner l result) }
+) -> Result<Line, Refusal>
+    ensures { Of attrs.now (λ l. Closes ctx place start inner l result) }
 {
-    match intervals::lasting_to(attrs, strings, e, ctx, start, inner.end) {
-        Moment::Refused(r) => Lining::Refused(r),
-        Moment::Is(end) => Lining::Is(Line {
-            cues: inner.cues,
-            rows: inner.rows,
-            extras: inner.extras,
-            end,
-        }),
-    }
+    let end = intervals::lasting_to(attrs, place, ctx, start, inner.end)?;
+    Ok(Line { end, ..inner })
 }
 
 // The container in row k, div or body, which begins at `begin`.
 #[cycle(collect_container_collect_cues_collect_div_collect_element)]
 pub fn collect_container(
-    nodes: &[u32],
-    attrs: &[u32],
-    strings: &[u8],
+    tree: &Tree<'_>,
     cues: &mut [u32],
     times: &mut [i64],
     segments: &mut [u32],
@@ -69,20 +44,19 @@ pub fn collect_container(
     ctx: TimingCtx,
     ws: WsMode,
     line: Line,
-) -> Lining
-    requires { AsksChild nodes.now attrs.now strings.now k line
+) -> Result<Line, Refusal>
+    requires { AsksChild tree.now.nodes.now tree.now.attrs.now tree.now.strings.now k line
         (five cues.old times.old segments.old extras.old texts.old) }
-    ensures { ContainerPost nodes.now attrs.now strings.now k begin ctx ws line
+    ensures { ContainerPost tree.now.nodes.now tree.now.attrs.now tree.now.strings.now k begin ctx ws line
         (five cues.old times.old segments.old extras.old texts.old)
         (five cues.new times.new segments.new extras.new texts.new) result }
 {
-    let e = xml::element_at(nodes, k);
-    let seq = styling::is_seq_container(attrs, strings, e.first, e.many);
-    let inside = styling::resolve_ws(attrs, strings, e.first, e.many, ws);
+    let e = xml::element_at(tree.nodes, k);
+    let attrs = tree.attributes(e);
+    let seq = styling::is_seq_container(&attrs);
+    let inside = styling::resolve_ws(&attrs, ws);
     collect_cues(
-        nodes,
-        attrs,
-        strings,
+        tree,
         cues,
         times,
         segments,
@@ -101,9 +75,7 @@ pub fn collect_container(
 // The div in row k, which counts from `reference`.
 #[cycle(collect_container_collect_cues_collect_div_collect_element)]
 fn collect_div(
-    nodes: &[u32],
-    attrs: &[u32],
-    strings: &[u8],
+    tree: &Tree<'_>,
     cues: &mut [u32],
     times: &mut [i64],
     segments: &mut [u32],
@@ -114,31 +86,26 @@ fn collect_div(
     ctx: TimingCtx,
     ws: WsMode,
     line: Line,
-) -> Lining
-    requires { AsksChild nodes.now attrs.now strings.now k line
+) -> Result<Line, Refusal>
+    requires { AsksChild tree.now.nodes.now tree.now.attrs.now tree.now.strings.now k line
         (five cues.old times.old segments.old extras.old texts.old) }
-    ensures { DivPost nodes.now attrs.now strings.now k reference ctx ws line
+    ensures { DivPost tree.now.nodes.now tree.now.attrs.now tree.now.strings.now k reference ctx ws line
         (five cues.old times.old segments.old extras.old texts.old)
         (five cues.new times.new segments.new extras.new texts.new) result }
 {
-    let e = xml::element_at(nodes, k);
-    match intervals::start_of(attrs, strings, e, ctx, reference) {
-        Moment::Refused(r) => Lining::Refused(r),
-        Moment::Is(start) => match collect_container(
-            nodes, attrs, strings, cues, times, segments, extras, texts, k, start, ctx, ws, line,
-        ) {
-            Lining::Refused(r) => Lining::Refused(r),
-            Lining::Is(inner) => close_div(attrs, strings, e, ctx, start, inner),
-        },
-    }
+    let e = xml::element_at(tree.nodes, k);
+    let attrs = tree.attributes(e);
+    let start = intervals::start_of(&attrs, e.place, ctx, reference)?;
+    let inner = collect_container(
+        tree, cues, times, segments, extras, texts, k, start, ctx, ws, line,
+    )?;
+    close_div(&attrs, e.place, ctx, start, inner)
 }
 
 // The element in row k, which counts from `reference`. An unknown one is a container that begins there, of the kind around it.
 #[cycle(collect_container_collect_cues_collect_div_collect_element)]
 fn collect_element(
-    nodes: &[u32],
-    attrs: &[u32],
-    strings: &[u8],
+    tree: &Tree<'_>,
     cues: &mut [u32],
     times: &mut [i64],
     segments: &mut [u32],
@@ -150,31 +117,28 @@ fn collect_element(
     ctx: TimingCtx,
     ws: WsMode,
     line: Line,
-) -> Lining
-    requires { AsksChild nodes.now attrs.now strings.now k line
+) -> Result<Line, Refusal>
+    requires { AsksChild tree.now.nodes.now tree.now.attrs.now tree.now.strings.now k line
         (five cues.old times.old segments.old extras.old texts.old) }
-    ensures { ElementPost nodes.now attrs.now strings.now k seq reference ctx ws line
+    ensures { ElementPost tree.now.nodes.now tree.now.attrs.now tree.now.strings.now k seq reference ctx ws line
         (five cues.old times.old segments.old extras.old texts.old)
         (five cues.new times.new segments.new extras.new texts.new) result }
 {
-    if xml::is_element(nodes, strings, k, b"div") {
+    if xml::is_element(tree.nodes, tree.strings, k, b"div") {
         return collect_div(
-            nodes, attrs, strings, cues, times, segments, extras, texts, k, reference, ctx, ws,
-            line,
+            tree, cues, times, segments, extras, texts, k, reference, ctx, ws, line,
         );
     }
-    if xml::is_element(nodes, strings, k, b"p") {
+    if xml::is_element(tree.nodes, tree.strings, k, b"p") {
         return crate::cue::collect_paragraph(
-            nodes, attrs, strings, cues, times, segments, extras, texts, k, reference, ctx, ws,
-            line,
+            tree, cues, times, segments, extras, texts, k, reference, ctx, ws, line,
         );
     }
-    let e = xml::element_at(nodes, k);
-    let inside = styling::resolve_ws(attrs, strings, e.first, e.many, ws);
+    let e = xml::element_at(tree.nodes, k);
+    let attrs = tree.attributes(e);
+    let inside = styling::resolve_ws(&attrs, ws);
     collect_cues(
-        nodes,
-        attrs,
-        strings,
+        tree,
         cues,
         times,
         segments,
@@ -193,9 +157,7 @@ fn collect_element(
 // The children of a container that begins at `begin`, in the rows from `from` up to `end`. Its line ends when the last of them does.
 #[cycle(collect_container_collect_cues_collect_div_collect_element)]
 pub fn collect_cues(
-    nodes: &[u32],
-    attrs: &[u32],
-    strings: &[u8],
+    tree: &Tree<'_>,
     cues: &mut [u32],
     times: &mut [i64],
     segments: &mut [u32],
@@ -208,10 +170,10 @@ pub fn collect_cues(
     ctx: TimingCtx,
     ws: WsMode,
     line: Line,
-) -> Lining
-    requires { AsksCues nodes.now attrs.now strings.now from end line
+) -> Result<Line, Refusal>
+    requires { AsksCues tree.now.nodes.now tree.now.attrs.now tree.now.strings.now from end line
         (five cues.old times.old segments.old extras.old texts.old) }
-    ensures { CuesPost nodes.now attrs.now strings.now from end seq begin ctx ws line
+    ensures { CuesPost tree.now.nodes.now tree.now.attrs.now tree.now.strings.now from end seq begin ctx ws line
         (five cues.old times.old segments.old extras.old texts.old)
         (five cues.new times.new segments.new extras.new texts.new) result }
 {
@@ -220,30 +182,17 @@ pub fn collect_cues(
     let mut reference = begin;
     let mut k = from;
     while k < end {
-        let next = scan::get(nodes, k * NODE_CELLS + 1);
-        if nodes[k * NODE_CELLS] != ELEMENT {
+        let next = scan::get(tree.nodes, k * NODE_CELLS + 1);
+        if tree.nodes[k * NODE_CELLS] != ELEMENT {
             k = next;
             continue;
         }
-        match collect_element(
-            nodes, attrs, strings, cues, times, segments, extras, texts, k, seq, reference, ctx,
-            ws, s,
-        ) {
-            Lining::Refused(r) => {
-                return Lining::Refused(r);
-            }
-            Lining::Is(t) => {
-                reference = following(seq, begin, t.end);
-                latest = later(latest, t.end);
-                s = t;
-            }
-        }
+        s = collect_element(
+            tree, cues, times, segments, extras, texts, k, seq, reference, ctx, ws, s,
+        )?;
+        reference = following(seq, begin, s.end);
+        latest = latest.max(s.end);
         k = next;
     }
-    Lining::Is(Line {
-        cues: s.cues,
-        rows: s.rows,
-        extras: s.extras,
-        end: latest,
-    })
+    Ok(Line { end: latest, ..s })
 }

@@ -9,5 +9,5 @@ mod paragraph;
 pub use body::collect_body;
 pub use collect::collect_cues;
 pub use cue::collect_paragraph;
-pub use lines::{Line, Lining};
-pub use paragraph::{Part, is_preserve, value_of};
+pub use lines::Line;
+pub use paragraph::{is_preserve, value_of};

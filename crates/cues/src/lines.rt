@@ -9,9 +9,3 @@ pub struct Line {
     pub extras: usize,
     pub end: i64,
 }
-
-#[derive(Clone, Copy)]
-pub enum Lining {
-    Is(Line),
-    Refused(Refusal),
-}

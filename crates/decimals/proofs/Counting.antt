@@ -173,3 +173,10 @@ module _ (before : ℕ) (s : List ℕ) (a : ℕ) where
 
     pub running_out : length s ≤ i → Ran before s a (record { end = i; value = v })
     running_out l = record { ends = ends-out digit_byte s a i g.after g.same g.within l; value_of = g.value_of; small = g.small }
+
+-- what the loops over digits need
+pub ruleset going = (going_start, going_asks, going_step, going_done)
+
+pub ruleset running = (running_start, running_stop, running_out, digit_bounds)
+
+pub ruleset run_ends = (run_on, ends-here, ends-out)

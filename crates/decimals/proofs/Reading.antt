@@ -1,17 +1,17 @@
 -- Decimals as they are read. Assumes nothing.
---     digits_none, digits_are        only digits from a place on
---     is-first, is-second, is-neither   one of two bytes
---     word_first, word-second, word-last   inf, infinity, nan
---     exponent_none, exponent_off, exponent_signed, exponent_bare   an exponent from a place on
+--     digits_are                     only digits
+--     rest_part                      what stands from a place on
+--     exponent_signed                an exponent with a sign
 --     shape_point, shape_bare        a text's digits, by the places that the program finds
 --     shape_empty, shape_rest, shape_whole, shape_digital           what they spell
 --     limited-far, limited-long, limited-is                         what keeps the limits
 --     ran_room, ran_is               few digits, read in one pass
---     decimal-none, decimal-minus, decimal-bare, decimal-signed     the sign
+--     decimal-none, decimal-minus, decimal-plus, decimal-bare       the sign
 --     value-limit, decimal-limits    a decimal is within the limits that it was read by
+use Rattle.std.specs.Prelude.{Ok, Err}
 use Rattle.std.proofs.Common.{◌≡◌, ℕ, suc, ◌+◌, ◌-◌, ◌*◌, ◌^◌, ◌<◌, ◌≤◌, Bool, true, false, cond, ◌&&◌, ◌||◌, eqb, ltb, leb, List, [], ◌∷◌, ◌++◌, length, get_or, take, drop, sym, refl, ap, ◌∙◌, mul-le-mul_right, mul_assoc, mul_comm, pow-suc, mul-one, mul_left_comm, add-one, arith, lit≤, length-append, length-drop, drop_of_length-le, length-take, take_all, drop-cons, drop-drop, ltb-false, ltb-true, lt-ltb, eq-eqb, ne_eqb, eqb-true, le-leb, leb-true}
-use mathlib.Core.Bool.{and-false, or-true, and-eq-true_iff}
-use native.Mathlib.Nat.{one-le-pow, pow-le-pow_right}
+use mathlib.Core.Bool.{and-false, and-eq-true_iff}
+use native.Mathlib.Nat.{zero-add, one-le-pow, pow-le-pow_right}
 use borrow.Author.Tests.{eqb-false, lt-leb}
 use Rattle.scan.specs.Bytes.{digit_byte, run_length_of, run_end_of}
 use Rattle.scan.specs.Every.{every}
@@ -20,94 +20,43 @@ use Rattle.scan.specs.Part.{part}
 use Rattle.scan.specs.Posts.{Ends}
 use Rattle.scan.proofs.Every.{every_append}
 use Rattle.scan.proofs.Runs.{run_length, run-all, run-high, run-here, run_out}
-use Rattle.scan.proofs.Splits.{whole_part}
 use Rattle.numerals.specs.Numerals.{value_from, digit_of}
-use Rattle.numerals.proofs.Numerals.{digit-byte, after-sign, value-append}
+use Rattle.numerals.proofs.Numerals.{digit-byte, value-append}
 use Rattle.decimals.proofs.Counting.{digit_bounds}
 use Rattle.decimals.specs.declared.read.Count.{Count}
 use Rattle.decimals.specs.declared.read.Digits.{Digits}
 use Rattle.decimals.specs.declared.read.Run.{Run}
-use Rattle.decimals.specs.declared.read.Decimal.TheVariants.{Is, Nothing, Beyond}
 use Rattle.decimals.specs.Decimal.{only_digits, is_exponent, is_word, unsigned, negative, fraction, after_fraction, all_digits, rest_of, scale_of}
-use Rattle.decimals.specs.Decimal.{is_sign, digits_at, after_digits, significant, limited, unsigned_decimal, decimal_of}
+use Rattle.decimals.specs.Decimal.{digits_at, after_digits, significant, limited, unsigned_decimal, decimal_of}
 use Rattle.decimals.specs.Steps.{Counted, Further, Digital, PointAt, Room, Ran}
+use Rattle.decimals.specs.declared.read.DecimalError.{DecimalError}
 
 -- ---- only digits
-module _ (s : List ℕ) (p : ℕ) where
-  pub digits_none : length s ≤ p → only_digits (drop p s) ≡ false
-  unfolding only_digits
-  digits_none h = rw (drop_of_length-le s h)
+pub digits_are : (s : List ℕ) (r : ℕ) → 0 < length s → r ≡ run_end_of digit_byte s 0 → eqb r (length s) ≡ only_digits s
+unfolding only_digits
+digits_are s r h e =
+    let w : r ≡ run_length_of digit_byte s = e ∙ run_length digit_byte s 0 (omega arith) ∙ zero-add (run_length_of digit_byte s) in
+    rw (lt-ltb 0 (length s) h, w)
 
-  pub digits_are : (r : ℕ) → p < length s → r ≡ run_end_of digit_byte s p → eqb r (length s) ≡ only_digits (drop p s)
-  unfolding only_digits
-  digits_are r h e =
-      let n : length (drop p s) ≡ length s - p = length-drop p s in
-      let k : 0 < length (drop p s) = omega arith in
-      let w : r ≡ p + run_length_of digit_byte (drop p s) = e ∙ run_length digit_byte s p (omega arith) in
-      rw (lt-ltb 0 (length (drop p s)) k) (by (eqb (run_length_of digit_byte (drop p s)) (length (drop p s))) refl n w)
-    where
-      by : (t : Bool) → eqb (run_length_of digit_byte (drop p s)) (length (drop p s)) ≡ t → length (drop p s) ≡ length s - p
-          → r ≡ p + run_length_of digit_byte (drop p s) → eqb r (length s) ≡ t
-      by true z n w = eq-eqb r (length s) (omega (arith, eqb-true (run_length_of digit_byte (drop p s)) (length (drop p s)) z))
-      by false z n w = ne_eqb r (length s) (λ g. eqb-false (run_length_of digit_byte (drop p s)) (length (drop p s)) z (omega arith))
-
--- ---- one of two bytes
-module _ (b x y : ℕ) where
-  pub is-first : b ≡ x → (eqb b x || eqb b y) ≡ true
-  is-first e = rw (eq-eqb b x e)
-
-  pub is-second : eqb b y ≡ true → (eqb b x || eqb b y) ≡ true
-  is-second e = rw e (or-true (eqb b x))
-
-  pub is-neither : (b ≡ x → ⊥) → eqb b y ≡ false → (eqb b x || eqb b y) ≡ false
-  is-neither n e = rw (ne_eqb b x n, e)
-
--- ---- inf, infinity, nan
-module _ (s : List ℕ) where
-  pub word_first : same_folded s (105 ∷ 110 ∷ 102 ∷ []) ≡ true → is_word s ≡ true
-  unfolding is_word
-  word_first e = rw e
-
-  pub word-second : same_folded s (105 ∷ 110 ∷ 102 ∷ 105 ∷ 110 ∷ 105 ∷ 116 ∷ 121 ∷ []) ≡ true → is_word s ≡ true
-  unfolding is_word
-  word-second e = rw (e, or-true)
-
-  pub word-last : same_folded s (105 ∷ 110 ∷ 102 ∷ []) ≡ false → same_folded s (105 ∷ 110 ∷ 102 ∷ 105 ∷ 110 ∷ 105 ∷ 116 ∷ 121 ∷ []) ≡ false
-      → is_word s ≡ same_folded s (110 ∷ 97 ∷ 110 ∷ [])
-  unfolding is_word
-  word-last e f = rw (e, f)
+-- what `&s[k..]` has
+pub rest_part : (s : List ℕ) (k : ℕ) → take (length s - k) (drop k s) ≡ drop k s
+rest_part s k = take_all (length s - k) (drop k s) (simp length-drop (omega arith))
 
 -- ---- an exponent
-unsigned-at : (s : List ℕ) (p : ℕ) → (p < length s → (eqb (get_or s p 0) 43 || eqb (get_or s p 0) 45) ≡ false) → unsigned (drop p s) ≡ drop p s
-unfolding unsigned
-unsigned-at s p n = by (ltb p (length s)) refl
+either : (b x y : ℕ) → ((b ≡ x → ⊥) → b ≡ y) → (eqb b x || eqb b y) ≡ true
+either b x y e = by (eqb b x) refl
   where
-    by : (t : Bool) → ltb p (length s) ≡ t → unsigned (drop p s) ≡ drop p s
-    by true e = let l : p < length s = ltb-true p (length s) e in rw (drop-cons s p 0 l, n l)
-    by false e = rw (drop_of_length-le s (ltb-false p (length s) e))
+    by : (t : Bool) → eqb b x ≡ t → (t || eqb b y) ≡ true
+    by true z = refl
+    by false z = eq-eqb b y (e (eqb-false b x z))
 
-module _ (s : List ℕ) (p : ℕ) where
-  pub exponent_none : length s ≤ p → is_exponent (drop p s) ≡ false
-  unfolding is_exponent
-  exponent_none h = rw (drop_of_length-le s h)
-
-  pub exponent_off : p < length s → (get_or s p 0 ≡ 101 → ⊥) → (get_or s p 0 ≡ 69 → ⊥) → is_exponent (drop p s) ≡ false
-  unfolding is_exponent
-  exponent_off h m n = rw (drop-cons s p 0 h, ne_eqb (get_or s p 0) 101 m, ne_eqb (get_or s p 0) 69 n)
-
-  module _ (h : p < length s) (m : (eqb (get_or s p 0) 101 || eqb (get_or s p 0) 69) ≡ true) where
-    exponent_on : is_exponent (drop p s) ≡ only_digits (unsigned (drop (p + 1) s))
-    unfolding is_exponent
-    exponent_on = rw (drop-cons s p 0 h, m, add-one p)
-
-    pub exponent_signed : p + 1 < length s → (eqb (get_or s (p + 1) 0) 43 || eqb (get_or s (p + 1) 0) 45) ≡ true
-        → is_exponent (drop p s) ≡ only_digits (drop (p + 1 + 1) s)
-    unfolding unsigned
-    exponent_signed l e = exponent_on ∙ rw (drop-cons s (p + 1) 0 l, e, add-one (p + 1))
-
-    pub exponent_bare : (p + 1 < length s → (eqb (get_or s (p + 1) 0) 43 || eqb (get_or s (p + 1) 0) 45) ≡ false)
-        → is_exponent (drop p s) ≡ only_digits (drop (p + 1) s)
-    exponent_bare n = exponent_on ∙ ap only_digits (unsigned-at s (p + 1) n)
+-- an e, a sign and what follows them
+pub exponent_signed : (s : List ℕ) → 2 ≤ length s → ((get_or s 0 0 ≡ 101 → ⊥) → get_or s 0 0 ≡ 69)
+    → ((get_or s 1 0 ≡ 43 → ⊥) → get_or s 1 0 ≡ 45) → is_exponent s ≡ only_digits (drop 2 s)
+unfolding is_exponent unsigned
+exponent_signed [] h e f = absurd (omega arith)
+exponent_signed (a ∷ []) h e f = absurd (omega arith)
+exponent_signed (a ∷ b ∷ s) h e f = rw (either a 101 69 e, either b 43 45 f)
 
 -- ---- the digits, by the places that the program finds: those before the point end at `whole`, those behind it stand from `from` to `end`
 pub record Shape (s : List ℕ) (whole from end : ℕ) : Type 0 where
@@ -190,7 +139,7 @@ module _ (minus : Bool) (s : List ℕ) (digits decimals whole from end : ℕ) (f
   rest-long : length (rest_of s) ≡ length s - end
   rest-long = ap length rest-are ∙ length-drop end s
 
-  pub shape_empty : whole ≡ 0 → end ≡ from → unsigned_decimal minus s digits decimals ≡ cond (is_word s) Beyond Nothing
+  pub shape_empty : whole ≡ 0 → end ≡ from → unsigned_decimal minus s digits decimals ≡ cond (is_word s) (Err DecimalError.Beyond) (Err DecimalError.Invalid)
   unfolding unsigned_decimal
   shape_empty a b = rw (eq-eqb (length (all_digits s)) 0 (omega (arith, all_long)))
 
@@ -198,7 +147,7 @@ module _ (minus : Bool) (s : List ℕ) (digits decimals whole from end : ℕ) (f
     some : eqb (length (all_digits s)) 0 ≡ false
     some = ne_eqb (length (all_digits s)) 0 (λ z. n (omega (arith, all_long)) (omega (arith, all_long, f.after)))
 
-    pub shape_rest : end < length s → unsigned_decimal minus s digits decimals ≡ cond (is_exponent (drop end s)) Beyond Nothing
+    pub shape_rest : end < length s → unsigned_decimal minus s digits decimals ≡ cond (is_exponent (drop end s)) (Err DecimalError.Beyond) (Err DecimalError.Invalid)
     unfolding unsigned_decimal
     shape_rest h = rw (some, ne_eqb (length (rest_of s)) 0 (λ z. omega (arith, rest-long)), rest-are)
 
@@ -222,16 +171,16 @@ module _ (minus : Bool) (s : List ℕ) (digits decimals whole from end : ℕ) (f
 
 -- ---- the limits
 module _ (minus : Bool) (ds : List ℕ) (scale digits decimals : ℕ) where
-  pub limited-far : decimals < scale → limited minus ds scale digits decimals ≡ Beyond
+  pub limited-far : decimals < scale → limited minus ds scale digits decimals ≡ Err DecimalError.Beyond
   unfolding limited
   limited-far h = rw (lt-leb scale decimals h, and-false)
 
-  pub limited-long : digits < significant ds → limited minus ds scale digits decimals ≡ Beyond
+  pub limited-long : digits < significant ds → limited minus ds scale digits decimals ≡ Err DecimalError.Beyond
   unfolding limited
   limited-long h = rw (lt-leb (significant ds) digits h)
 
   pub limited-is : significant ds ≤ digits → scale ≤ decimals
-      → limited minus ds scale digits decimals ≡ Is (record { negative = minus; digits = value_from 10 0 ds; scale = scale })
+      → limited minus ds scale digits decimals ≡ Ok (record { negative = minus; digits = value_from 10 0 ds; scale = scale })
   unfolding limited
   limited-is h l = rw (le-leb (significant ds) digits h, le-leb scale decimals l)
 
@@ -301,7 +250,7 @@ module _ (s : List ℕ) (first : Run) (from : ℕ) (a : Ran 0 s 0 first) (f : Po
           simp (length-append, length-take, length-drop) (omega (arith, whole, a.ends.within, b.ends.within, f.within))
 
       pub ran_is : 0 < first.end + (last.end - from) → first.end + (last.end - from) ≤ digits → last.end - from ≤ decimals
-          → Is (record { negative = minus; digits = last.value; scale = last.end - from }) ≡ unsigned_decimal minus s digits decimals
+          → Ok (record { negative = minus; digits = last.value; scale = last.end - from }) ≡ unsigned_decimal minus s digits decimals
       ran_is n h l =
           let ds : List ℕ = take first.end s ++ drop from s in
           let k : length s - from ≡ last.end - from = omega (arith, whole, b.ends.within) in
@@ -312,7 +261,7 @@ module _ (s : List ℕ) (first : Run) (from : ℕ) (a : Ran 0 s 0 first) (f : Po
 
 -- ---- the sign
 module _ (digits decimals : ℕ) where
-  pub decimal-none : (s : List ℕ) → length s ≡ 0 → decimal_of s digits decimals ≡ Nothing
+  pub decimal-none : (s : List ℕ) → length s ≡ 0 → decimal_of s digits decimals ≡ Err DecimalError.Invalid
   unfolding decimal_of run_length_of same_folded
   decimal-none [] h = refl
   decimal-none (b ∷ s) h = absurd (omega arith)
@@ -328,17 +277,10 @@ module _ (digits decimals : ℕ) where
   decimal-bare [] h m n = absurd (omega arith)
   decimal-bare (b ∷ s) h m n = rw (ne_eqb b 43 m, ne_eqb b 45 n)
 
-  -- a sign of the width k, or none, and what follows it
-  pub decimal-signed : (s : List ℕ) (k : ℕ) → 1 ≤ length s → k ≡ cond (is_sign (get_or s 0 0)) 1 0
-      → unsigned_decimal (eqb (get_or s 0 0) 45) (take (length s - k) (drop k s)) digits decimals ≡ decimal_of s digits decimals
+  pub decimal-plus : (s : List ℕ) → 1 ≤ length s → get_or s 0 0 ≡ 43 → decimal_of s digits decimals ≡ unsigned_decimal false (drop 1 s) digits decimals
   unfolding decimal_of
-  decimal-signed [] k h e = absurd (omega arith)
-  decimal-signed (b ∷ s) k h e = by (is_sign b) refl
-    where
-      by : (t : Bool) → is_sign b ≡ t
-          → unsigned_decimal (eqb b 45) (take (length (b ∷ s) - k) (drop k (b ∷ s))) digits decimals ≡ decimal_of (b ∷ s) digits decimals
-      by true t = let o : k ≡ 1 = rw t at e in rw (o, after-sign (b ∷ s), t)
-      by false t = let o : k ≡ 0 = rw t at e in rw (o, whole_part (b ∷ s), t)
+  decimal-plus [] h e = absurd (omega arith)
+  decimal-plus (b ∷ s) h e = rw (eq-eqb b 43 e, ne_eqb b 45 (λ w. omega arith))
 
 -- ---- a decimal is within its limits
 every-run : (s : List ℕ) → every digit_byte (digits_at s) ≡ true
@@ -394,13 +336,13 @@ pub record Within (digits decimals : ℕ) (d : Digits) : Type 0 where
   pub near : d.scale ≤ decimals
 
 module _ (digits decimals : ℕ) where
-  limited-within : (minus : Bool) (ds : List ℕ) (scale : ℕ) {d : Digits} → every digit_byte ds ≡ true → limited minus ds scale digits decimals ≡ Is d
+  limited-within : (minus : Bool) (ds : List ℕ) (scale : ℕ) {d : Digits} → every digit_byte ds ≡ true → limited minus ds scale digits decimals ≡ Ok d
       → Within digits decimals d
   unfolding limited
   limited-within minus ds scale {d} v e = by (leb (significant ds) digits) (leb scale decimals) refl refl e
     where
       by : (t u : Bool) → leb (significant ds) digits ≡ t → leb scale decimals ≡ u
-          → cond (t && u) (Is (record { negative = minus; digits = value_from 10 0 ds; scale = scale })) Beyond ≡ Is d → Within digits decimals d
+          → cond (t && u) (Ok (record { negative = minus; digits = value_from 10 0 ds; scale = scale })) (Err DecimalError.Beyond) ≡ Ok d → Within digits decimals d
       by true true t u e =
           let w : record { negative = minus; digits = value_from 10 0 ds; scale = scale } ≡ d = cc in
           let a : value_from 10 0 ds ≡ d.digits = ap (λ (x : Digits). x.digits) w in
@@ -409,12 +351,12 @@ module _ (digits decimals : ℕ) where
       by true false t u e = let z : ◌≡◌ {A = ℕ} 0 1 = cc in absurd (omega arith)
       by false u t _ e = let z : ◌≡◌ {A = ℕ} 0 1 = cc in absurd (omega arith)
 
-  unsigned-within : (minus : Bool) (s : List ℕ) {d : Digits} → unsigned_decimal minus s digits decimals ≡ Is d → Within digits decimals d
+  unsigned-within : (minus : Bool) (s : List ℕ) {d : Digits} → unsigned_decimal minus s digits decimals ≡ Ok d → Within digits decimals d
   unfolding unsigned_decimal
   unsigned-within minus s {d} e = by (eqb (length (all_digits s)) 0) (is_word s) (eqb (length (rest_of s)) 0) (is_exponent (rest_of s)) e
     where
-      by : (a w r x : Bool) → cond a (cond w Beyond Nothing)
-          (cond r (limited minus (all_digits s) (scale_of s) digits decimals) (cond x Beyond Nothing)) ≡ Is d → Within digits decimals d
+      by : (a w r x : Bool) → cond a (cond w (Err DecimalError.Beyond) (Err DecimalError.Invalid))
+          (cond r (limited minus (all_digits s) (scale_of s) digits decimals) (cond x (Err DecimalError.Beyond) (Err DecimalError.Invalid))) ≡ Ok d → Within digits decimals d
       by true true r x e = let z : ◌≡◌ {A = ℕ} 0 1 = cc in absurd (omega arith)
       by true false r x e = let z : ◌≡◌ {A = ℕ} 0 1 = cc in absurd (omega arith)
       by false w true x e = limited-within minus (all_digits s) (scale_of s)
@@ -422,6 +364,6 @@ module _ (digits decimals : ℕ) where
       by false w false true e = let z : ◌≡◌ {A = ℕ} 0 1 = cc in absurd (omega arith)
       by false w false false e = let z : ◌≡◌ {A = ℕ} 0 1 = cc in absurd (omega arith)
 
-  pub decimal-limits : (s : List ℕ) {d : Digits} → decimal_of s digits decimals ≡ Is d → Within digits decimals d
+  pub decimal-limits : (s : List ℕ) {d : Digits} → decimal_of s digits decimals ≡ Ok d → Within digits decimals d
   unfolding decimal_of
   decimal-limits s e = unsigned-within (negative s) (unsigned s) e

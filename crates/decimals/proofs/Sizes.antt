@@ -1,8 +1,6 @@
 -- Sizes. Assumes nothing.
---     reduced-more, reduced-stop, reduced-end, reduced-least, reduced-is   a decimal without zeros at its end
---     within-not, within_by, within-says        which digits and scale are within the limits
---     spelling-not, spelling-even, spelling-end which are a spelling
---     value_not, value-spelled, spelled-finite  what it means
+--     reduced-end, reduced-stop, reduced-least, reduced-is   a decimal without zeros at its end
+--     value-spelled, spelled-finite             what a spelling means
 --     size_is, size-not, size-spelled           which cells are a size
 --     same_true, same_itself, bits_same         the same float, and the same bits
 --     round_finite                              a rounded fraction is no NaN
@@ -10,23 +8,24 @@
 --     begun_minus, begun_plain, room-lead, put_whole, room-point, put_parts   a spelling written piece by piece
 --     size-made, size-says, size-again          what a decimal makes is a size; a size is what its spelling means
 --     reduced-value                             the zeros cut off change no value
-use Rattle.std.proofs.Common.{◌≡◌, ℕ, zero, suc, ◌+◌, ◌-◌, ◌*◌, ◌/◌, ◌%◌, ◌^◌, ◌<◌, ◌≤◌, Bool, true, false, cond, not, ◌&&◌, ◌||◌, eqb, ltb, leb, List, [], ◌∷◌, ◌++◌, length, set, ℤ, pos, negsuc, sym, refl, ap, ◌∙◌, append_assoc, append-nil, arith, lit≤, length-append, length-set, ltb-false, ltb-true, eq-eqb, ne_eqb, eqb-true, le-leb, leb-true}
+use Rattle.std.proofs.Common.{◌≡◌, ℕ, zero, suc, ◌+◌, ◌*◌, ◌/◌, ◌%◌, ◌^◌, ◌<◌, ◌≤◌, Bool, true, false, cond, not, ◌&&◌, ◌||◌, eqb, ltb, leb, List, [], ◌∷◌, ◌++◌, length, set, ℤ, pos, negsuc, sym, refl, ap, ◌∙◌, append_assoc, append-nil, arith, lit≤, length-append, length-set, ltb-false, ltb-true, eq-eqb, ne_eqb, eqb-true, le-leb, leb-true}
 use mathlib.Core.Bool.{beq, and-eq-true_iff}
 use native.Mathlib.Nat.{pow-le-pow_right}
 use lib.Seq.{sets, length-sets}
 use lib.Ieee.{Float, nan, inf, fin, Format, binary32, prec, emax, low, odd, units, round, is_nan, ne, to_bits, of_bits, fits}
 use lib.Ieee.Bits.{of_bits-to_bits}
-use lib.Ieee.Compare.{differs_from_itself, nan_differs}
-use borrow.Author.Tests.{eqb-false, lt-leb}
+use lib.Ieee.Compare.{nan_differs}
+use borrow.Author.Tests.{eqb-false}
 use Rattle.scan.specs.Posts.{Appended}
 use Rattle.scan.proofs.Stores.{sets_on}
 use Rattle.numerals.specs.Written.{padded, decimal_width}
 use Rattle.numerals.proofs.Writing.{padded-length}
+use Rattle.decimals.proofs.Tests.{no}
 use Rattle.decimals.proofs.Values.{value-zero}
 use Rattle.decimals.specs.declared.read.Digits.{Digits}
 use Rattle.decimals.specs.declared.size.Size.{Size}
 use Rattle.decimals.specs.Floats.{value_in_of, same_exponent, same_float}
-use Rattle.decimals.specs.Size.{spelled, reduced_from, reduced, sized, size_of, within_size, is_spelling, is_size, spelled_value, spelling}
+use Rattle.decimals.specs.Size.{spelled, reduced_from, reduced, sized, size_of, is_spelling, is_size, spelled_value, spelling}
 
 pub small_power : (k : ℕ) → k ≤ 10 → 10 ^ k ≤ 10 ^ 10
 small_power k h = pow-le-pow_right (lit≤ tt) h
@@ -42,11 +41,6 @@ module _ (minus : Bool) (digits : ℕ) where
   unfolding reduced_from
   reduced-stop zero h n = refl
   reduced-stop (suc k) h n = rw (ne_eqb (digits % 10) 0 n)
-
-  pub reduced-more : (k : ℕ) → 0 < k → digits % 10 ≡ 0 → reduced_from minus digits k ≡ reduced_from minus (digits / 10) (k - 1)
-  unfolding reduced_from
-  reduced-more zero h e = absurd (omega arith)
-  reduced-more (suc k) h e = let z : suc k - 1 ≡ k = omega arith in rw (z, eq-eqb (digits % 10) 0 e)
 
 -- what is left is no more than there was, and has no zero at its end behind the point
 pub record Least (minus : Bool) (digits scale : ℕ) (d : Digits) : Type 0 where
@@ -129,9 +123,11 @@ same_itself (fin true m (negsuc a)) h = rw (eq-eqb m m refl, eq-eqb a a refl)
 same_itself (fin false m (pos a)) h = rw (eq-eqb m m refl, eq-eqb a a refl)
 same_itself (fin false m (negsuc a)) h = rw (eq-eqb m m refl, eq-eqb a a refl)
 
-pub same_nan : (x y : Float) → ne x x ≡ true → same_float x y ≡ false
-unfolding same_float
-same_nan x y e = rw (differs_from_itself x (rw e tt))
+pub same_nan : (x y : Float) → is_nan x ≡ true → same_float x y ≡ false
+unfolding same_float is_nan
+same_nan nan y e = refl
+same_nan (inf s) y e = no (sym e)
+same_nan (fin s m d) y e = no (sym e)
 
 pub bits_same : (a b : Float) → fits binary32 a ≡ true → fits binary32 b ≡ true → is_nan a ≡ false
     → eqb (to_bits binary32 a) (to_bits binary32 b) ≡ same_float b a
@@ -147,32 +143,7 @@ bits_same a b f g n = by (same_float b a) refl
 
 -- ---- which cells are a size
 module _ (digits scale : ℕ) where
-  pub within-not : 999999 < digits → within_size digits scale ≡ false
-  within-not h = rw (lt-leb digits 999999 h)
-
-  pub within_by : digits ≤ 999999 → within_size digits scale ≡ leb scale 10
-  within_by h = rw (le-leb digits 999999 h)
-
-  pub within-says : within_size digits scale ≡ true → (digits ≤ 999999) × (scale ≤ 10)
-  within-says e =
-      let z = (and-eq-true_iff (leb digits 999999) (leb scale 10)).0 e in
-      (leb-true digits 999999 z.0, leb-true scale 10 z.1)
-
-  pub spelling-not : within_size digits scale ≡ false → is_spelling digits scale ≡ false
-  spelling-not e = rw e
-
-  module _ (w : within_size digits scale ≡ true) where
-    pub spelling-even : scale ≡ 0 → is_spelling digits scale ≡ true
-    spelling-even e = rw (w, eq-eqb scale 0 e)
-
-    pub spelling-end : (scale ≡ 0 → ⊥) → is_spelling digits scale ≡ not (eqb (digits % 10) 0)
-    spelling-end n = rw (w, ne_eqb scale 0 n)
-
   module _ (negative : Bool) where
-    pub value_not : within_size digits scale ≡ false → spelled_value negative digits scale ≡ fin false 0 (pos 0)
-    unfolding spelled_value
-    value_not e = rw e
-
     pub value-spelled : digits ≤ 999999 → scale ≤ 10 → spelled_value negative digits scale ≡ value_in_of binary32 negative digits scale
     unfolding spelled_value
     value-spelled a b = rw (le-leb digits 999999 a, le-leb scale 10 b)
@@ -207,6 +178,9 @@ module _ (s : Size) where
       let y = (and-eq-true_iff (leb s.digits 999999 && leb s.scale 10) (eqb s.scale 0 || not (eqb (s.digits % 10) 0))).0 e in
       let z = (and-eq-true_iff (leb s.digits 999999) (leb s.scale 10)).0 y.0 in
       rw (e, value-spelled s.digits s.scale s.negative (leb-true s.digits 999999 z.0) (leb-true s.scale 10 z.1))
+
+-- what a test of a size needs
+pub ruleset size_tests = (size-not, size-spelled, spelled-finite)
 
 -- ---- a spelling's pieces: a minus, the digits before the point, and those behind it
 abbrev pub lead : Bool → List ℕ

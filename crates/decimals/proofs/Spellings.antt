@@ -1,5 +1,6 @@
 -- A spelling read back. Assumes nothing.
 --     read-back    the decimal that a spelling spells is the one that was spelled
+use Rattle.std.specs.Prelude.{Ok}
 use Rattle.std.proofs.Common.{◌≡◌, ℕ, suc, ◌+◌, ◌-◌, ◌*◌, ◌/◌, ◌%◌, ◌^◌, ◌<◌, ◌≤◌, Bool, true, false, cond, eqb, leb, List, [], ◌∷◌, ◌++◌, length, get_or, refl, ap, ◌∙◌, append_assoc, append-nil, mul-le-mul_right, mod-lt, mul_assoc, mul_comm, add-mul, pow-suc, div-add-mod', div-le_self, mul_left_comm, arith, lit≤, length-append, ne_eqb, eqb-true, leb-false, leb-true}
 use mathlib.Core.Bool.{and-eq-true_iff}
 use native.Mathlib.Nat.{pow-le-pow_right, one-le-pow}
@@ -14,7 +15,6 @@ use Rattle.numerals.specs.Numerals.{value_from, digit_of}
 use Rattle.numerals.specs.Written.{padded, decimal_width}
 use Rattle.numerals.proofs.Numerals.{value-append, digit-byte}
 use Rattle.numerals.proofs.Writing.{padded-length, padded-byte, padded-value, width_fits, width_some}
-use Rattle.decimals.specs.declared.read.Decimal.TheVariants.{Is}
 use Rattle.decimals.specs.Decimal.{fraction, after_fraction, all_digits, rest_of, scale_of, digits_at, after_digits, significant, limited}
 use Rattle.decimals.specs.Decimal.{unsigned_decimal, decimal_of}
 use Rattle.decimals.specs.Size.{spelled, spelling}
@@ -153,7 +153,7 @@ module _ (digits scale : ℕ) where
 
 module _ (minus : Bool) (digits scale limit decimals : ℕ) (wide : digits < 2 ^ 64) (few : digits < 10 ^ limit) (near : scale ≤ decimals) where
   limited-all : limited minus (before digits scale ++ behind digits scale) (length (behind digits scale)) limit decimals
-      ≡ Is (spelled minus digits scale)
+      ≡ Ok (spelled minus digits scale)
   limited-all =
       let ds : List ℕ = before digits scale ++ behind digits scale in
       let e : every digit_byte ds ≡ true =
@@ -162,7 +162,7 @@ module _ (minus : Bool) (digits scale limit decimals : ℕ) (wide : digits < 2 ^
       (omega (arith, long_behind digits scale))
       ∙ rw (value-is digits scale wide, long_behind digits scale)
 
-  unsigned_is : unsigned_decimal minus (plain digits scale) limit decimals ≡ Is (spelled minus digits scale)
+  unsigned_is : unsigned_decimal minus (plain digits scale) limit decimals ≡ Ok (spelled minus digits scale)
   unsigned_is = by (eqb scale 0) refl ∙ limited-all
     where
       by : (t : Bool) → eqb scale 0 ≡ t → unsigned_decimal minus (before digits scale ++ cond t [] ((46 ∷ []) ++ behind digits scale)) limit decimals
@@ -176,7 +176,7 @@ module _ (minus : Bool) (digits scale limit decimals : ℕ) (wide : digits < 2 ^
           (every-behind digits scale) (some digits scale)
 
 pub read_back : (minus : Bool) (digits scale limit decimals : ℕ) → digits < 2 ^ 64 → digits < 10 ^ limit → scale ≤ decimals
-    → decimal_of (spelling minus digits scale) limit decimals ≡ Is (spelled minus digits scale)
+    → decimal_of (spelling minus digits scale) limit decimals ≡ Ok (spelled minus digits scale)
 read_back true digits scale limit decimals wide few near =
     rw (spelling-is true digits scale)
     (decimal-minus limit decimals (45 ∷ plain digits scale) (omega arith) refl ∙ unsigned_is true digits scale limit decimals wide few near)

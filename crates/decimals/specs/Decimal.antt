@@ -3,15 +3,15 @@
 --     Float  ::= Sign? ( 'inf' | 'infinity' | 'nan' | Number )
 --     Number ::= ( Digit+ | Digit+ '.' Digit* | Digit* '.' Digit+ ) Exp?
 --     Exp    ::= 'e' Sign? Digit+
-use Rattle.std.specs.Prelude.{◌≡◌, ℕ, Bool, false, cond, not, ◌&&◌, ◌||◌, List, [], ◌∷◌, ◌++◌, length, take, drop, ◌==◌, nat_le, nat_lt}
+use Rattle.std.specs.Prelude.{Result, Ok, Err, ◌≡◌, ℕ, Bool, false, cond, not, ◌&&◌, ◌||◌, ◌==◌, nat_le, nat_lt}
+use Rattle.std.specs.Prelude.{List, [], ◌∷◌, ◌++◌, length, take, drop}
 use Rattle.std.proofs.Math.Option.{Option, none, some}
 use Rattle.scan.specs.Bytes.{digit_byte, run_length_of}
 use Rattle.scan.specs.Names.{same_folded}
 use Rattle.scan.specs.Text.{ascii}
 use Rattle.numerals.specs.Numerals.{value_from}
 use Rattle.decimals.specs.declared.read.Digits.{Digits}
-use Rattle.decimals.specs.declared.read.Decimal.{Decimal}
-use Rattle.decimals.specs.declared.read.Decimal.TheVariants.{Is, Nothing, Beyond}
+use Rattle.decimals.specs.declared.read.DecimalError.{DecimalError}
 
 -- ---- the parts of a number
 
@@ -77,41 +77,41 @@ significant (b ∷ s) = cond (b == 48) (significant s) (length (b ∷ s))
 
 -- a number that keeps the limits is its sign, its digits as a whole number and how many of them stand behind the point; one that does not
 -- is beyond them
-unfoldable pub limited : Bool → List ℕ → ℕ → ℕ → ℕ → Decimal
+unfoldable pub limited : Bool → List ℕ → ℕ → ℕ → ℕ → Result Digits DecimalError
 unfolding significant
 limited minus ds scale digits decimals =
     cond (nat_le (significant ds) digits && nat_le scale decimals)
-    (Is (record { negative = minus; digits = value_from 10 0 ds; scale = scale }))
-    Beyond
+    (Ok (record { negative = minus; digits = value_from 10 0 ds; scale = scale }))
+    (Err DecimalError.Beyond)
 
 -- A text without its sign. `digits` and `decimals` are the limits: 15 and 22 for times and rates, 6 and 10 for sizes. What Rust's parser
--- takes and document 01 does not is Beyond: past the limits, an exponent, inf, nan (number 14).
-unfoldable pub unsigned_decimal : Bool → List ℕ → ℕ → ℕ → Decimal
+-- takes and document 01 does not is (Err DecimalError.Beyond): past the limits, an exponent, inf, nan (number 14).
+unfoldable pub unsigned_decimal : Bool → List ℕ → ℕ → ℕ → Result Digits DecimalError
 unfolding fraction after_fraction is_exponent is_word limited
 unsigned_decimal minus s digits decimals =
     cond (length (all_digits s) == 0)
-    (cond (is_word s) Beyond Nothing)
+    (cond (is_word s) (Err DecimalError.Beyond) (Err DecimalError.Invalid))
     (cond (length (rest_of s) == 0)
     (limited minus (all_digits s) (scale_of s) digits decimals)
-    (cond (is_exponent (rest_of s)) Beyond Nothing))
+    (cond (is_exponent (rest_of s)) (Err DecimalError.Beyond) (Err DecimalError.Invalid)))
 
 -- the decimal that the whole text spells
-unfoldable pub decimal_of : List ℕ → ℕ → ℕ → Decimal
+unfoldable pub decimal_of : List ℕ → ℕ → ℕ → Result Digits DecimalError
 unfolding negative unsigned unsigned_decimal
 decimal_of s digits decimals = unsigned_decimal (negative s) (unsigned s) digits decimals
 
 -- ---- each answer's number and value
 
 -- document 01's number for each answer, 0 where it has none, and the decimal, where there is one
-abbrev pub number_of : Decimal → ℕ
-number_of (Is d) = 0
-number_of Nothing = 0
-number_of Beyond = 14
+abbrev pub number_of : Result Digits DecimalError → ℕ
+number_of (Ok d) = 0
+number_of (Err DecimalError.Invalid) = 0
+number_of (Err DecimalError.Beyond) = 14
 
-abbrev pub value_of : Decimal → Option Digits
-value_of (Is d) = some d
-value_of Nothing = none
-value_of Beyond = none
+abbrev pub value_of : Result Digits DecimalError → Option Digits
+value_of (Ok d) = some d
+value_of (Err DecimalError.Invalid) = none
+value_of (Err DecimalError.Beyond) = none
 
 -- Rust's parser takes the text
 unfoldable pub parses : List ℕ → Bool
@@ -134,7 +134,7 @@ unfolding negative unsigned fraction
 digits_of s = record { negative = negative s; digits = value_from 10 0 (all_digits (unsigned s)); scale = scale_of (unsigned s) }
 
 -- What `read_decimal` ensures: number 14 exactly where Rust's parser takes the text and the limits do not, and a decimal exactly where they do.
-pub record Reads (s : List ℕ) (digits decimals : ℕ) (r : Decimal) : Type 0 where
+pub record Reads (s : List ℕ) (digits decimals : ℕ) (r : Result Digits DecimalError) : Type 0 where
   pub is : r ≡ decimal_of s digits decimals
   pub number : number_of r ≡ cond (parses s && not (keeps_limits s digits decimals)) 14 0
   pub value : value_of r ≡ cond (keeps_limits s digits decimals) (some (digits_of s)) none

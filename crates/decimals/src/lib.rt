@@ -6,5 +6,5 @@ mod read;
 mod size;
 
 pub use floats::{to_f32, to_f64, truncate};
-pub use read::{Decimal, Digits, read_decimal};
+pub use read::{DecimalError, Digits, read_decimal};
 pub use size::{Size, is_size, is_spelling, size_of, spell, spelled_bits, spelled_value};

@@ -15,11 +15,11 @@ pub struct Digits {
     pub scale: u32,
 }
 
+// Why a text is no decimal.
 #[derive(Clone, Copy)]
-pub enum Decimal {
-    Is(Digits),
+pub enum DecimalError {
     // Rust's parser takes no such text
-    Nothing,
+    Invalid,
     // Rust's parser takes it, and the limits do not
     Beyond,
 }
@@ -43,7 +43,7 @@ fn count_digit(before: Count, b: u8) -> Count
     requires { (48 ≤ b) × (b ≤ 57) × (before.value < 10 ^ before.significant) × (before.significant < 2 ^ 63) }
     ensures { OneMore before b result }
 {
-    let d = (b - 48) as u64;
+    let d = (b - b'0') as u64;
     if before.significant == 0 && d == 0 {
         return before;
     }
@@ -61,64 +61,53 @@ fn count_digit(before: Count, b: u8) -> Count
 }
 
 // The digits from one place to another, after those read so far.
+#[tactic(auto, using(crate::proofs::Counting::going))]
 fn count_digits(text: &[u8], from: usize, to: usize, before: Count) -> Count
     requires { Room before text.now from to }
     ensures { Further before text.now from to result }
 {
     let mut count = before;
-    let mut i = from;
-    while i < to {
+    for i in from..to {
         count = count_digit(count, text[i]);
-        i += 1;
     }
     count
 }
 
-// Where the digits from the place on end.
+// Where the digits from the place on end: by a loop of its own, since a decimal has few digits, and a call of
+// `scan::over` costs more than they do.
+#[tactic(auto, using(crate::proofs::Counting::run_ends))]
 fn digits_end(text: &[u8], from: usize) -> usize
     requires { from ≤ length text.now }
     ensures { Ends digit_byte text.now from result }
 {
-    let mut i = from;
-    while i < text.len() {
+    for i in from..text.len() {
         if !scan::is_of(Class::Digit, text[i]) {
             return i;
         }
-        i += 1;
     }
-    i
+    text.len()
 }
 
-// One digit or more, from the place to the end, and nothing else?
-fn only_digits(text: &[u8], from: usize) -> bool
-    requires { from ≤ length text.now }
-    ensures { result ≡ only_digits (drop from text.now) }
+// One digit or more, and nothing else?
+#[tactic(auto, using(crate::proofs::Reading::digits_are), unfolding(crate::specs::Decimal::only_digits))]
+fn only_digits(text: &[u8]) -> bool
+    ensures { result ≡ only_digits text.now }
 {
-    if text.len() <= from {
-        return false;
-    }
-    digits_end(text, from) == text.len()
+    !text.is_empty() && digits_end(text, 0) == text.len()
 }
 
-fn is_exponent(text: &[u8], from: usize) -> bool
-    requires { from ≤ length text.now }
-    ensures { result ≡ is_exponent (drop from text.now) }
+#[tactic(auto, unfolding(crate::specs::Decimal::is_exponent, crate::specs::Decimal::unsigned))]
+fn is_exponent(text: &[u8]) -> bool
+    ensures { result ≡ is_exponent text.now }
 {
-    if text.len() <= from {
-        return false;
+    match text {
+        [b'e' | b'E', b'+' | b'-', digits @ ..] => only_digits(digits),
+        [b'e' | b'E', digits @ ..] => only_digits(digits),
+        _ => false,
     }
-    if text[from] != b'e' && text[from] != b'E' {
-        return false;
-    }
-    let digits = from + 1;
-    if digits < text.len() {
-        if text[digits] == b'+' || text[digits] == b'-' {
-            return only_digits(text, digits + 1);
-        }
-    }
-    only_digits(text, digits)
 }
 
+#[tactic(auto, unfolding(crate::specs::Decimal::is_word))]
 fn is_word(text: &[u8]) -> bool
     ensures { result ≡ is_word text.now }
 {
@@ -135,14 +124,14 @@ fn limit(
     from: usize,
     digits: usize,
     decimals: usize,
-) -> Decimal
+) -> Result<Digits, DecimalError>
     requires { Digital text.now whole from × (digits ≤ 18) × (decimals < 2 ^ 32) }
     ensures { result ≡ limited negative (take whole text.now ++ drop from text.now)
         (length text.now - from) digits decimals }
 {
     let scale = text.len() - from;
     if decimals < scale {
-        return Decimal::Beyond;
+        return Err(DecimalError::Beyond);
     }
     let none = Count {
         value: 0,
@@ -150,9 +139,9 @@ fn limit(
     };
     let count = count_digits(text, from, text.len(), count_digits(text, 0, whole, none));
     if digits < count.significant {
-        return Decimal::Beyond;
+        return Err(DecimalError::Beyond);
     }
-    Decimal::Is(Digits {
+    Ok(Digits {
         negative,
         digits: count.value,
         scale: scale as u32,
@@ -164,73 +153,79 @@ fn fraction_start(text: &[u8], whole: usize) -> usize
     requires { whole ≤ length text.now }
     ensures { PointAt text.now whole result }
 {
-    if whole < text.len() {
-        if text[whole] == b'.' {
-            return whole + 1;
-        }
+    if whole < text.len() && text[whole] == b'.' {
+        whole + 1
+    } else {
+        whole
     }
-    whole
 }
 
 // A decimal without its sign, whatever it is.
-fn read_any(text: &[u8], negative: bool, digits: usize, decimals: usize) -> Decimal
+fn read_any(
+    text: &[u8],
+    negative: bool,
+    digits: usize,
+    decimals: usize,
+) -> Result<Digits, DecimalError>
     requires { (digits ≤ 18) × (decimals < 2 ^ 32) }
     ensures { result ≡ unsigned_decimal negative text.now digits decimals }
 {
     let whole = digits_end(text, 0);
     let from = fraction_start(text, whole);
-    let mut end = whole;
-    if whole < from {
-        end = digits_end(text, from);
-    }
+    let end = if whole < from {
+        digits_end(text, from)
+    } else {
+        whole
+    };
     if whole == 0 && end == from {
-        if is_word(&text[0..]) {
-            return Decimal::Beyond;
+        if is_word(text) {
+            return Err(DecimalError::Beyond);
         }
-        return Decimal::Nothing;
+        return Err(DecimalError::Invalid);
     }
     if end < text.len() {
-        if is_exponent(text, end) {
-            return Decimal::Beyond;
+        if is_exponent(&text[end..]) {
+            return Err(DecimalError::Beyond);
         }
-        return Decimal::Nothing;
+        return Err(DecimalError::Invalid);
     }
     limit(text, negative, whole, from, digits, decimals)
 }
 
 // The digits from the place on, read after those of a value: in a text that is so short that a u64 holds them.
+#[tactic(auto, using(crate::proofs::Counting::running))]
 fn few_digits(text: &[u8], from: usize, before: u64) -> Run
     requires { (from ≤ length text.now) × (length text.now ≤ 18) × (before < 10 ^ from) }
     ensures { Ran before text.now from result }
 {
     let mut value = before;
-    let mut i = from;
-    while i < text.len() {
+    for i in from..text.len() {
         let b = text[i];
         if !scan::is_of(Class::Digit, b) {
             return Run { end: i, value };
         }
-        value = value * 10 + (b - 48) as u64;
-        i += 1;
+        value = value * 10 + (b - b'0') as u64;
     }
-    Run { end: i, value }
+    Run {
+        end: text.len(),
+        value,
+    }
 }
 
 // Is there a digit, and are they, and those behind the point, within the limits?
 fn is_within(count: usize, scale: usize, digits: usize, decimals: usize) -> bool
     ensures { result ≡ nat_lt 0 count && (nat_le count digits && nat_le scale decimals) }
 {
-    if count == 0 {
-        return false;
-    }
-    if digits < count {
-        return false;
-    }
-    scale <= decimals
+    0 < count && count <= digits && scale <= decimals
 }
 
 // A decimal without its sign. One of few digits and nothing else, as most are, is read in one pass.
-fn read_unsigned(text: &[u8], negative: bool, digits: usize, decimals: usize) -> Decimal
+fn read_unsigned(
+    text: &[u8],
+    negative: bool,
+    digits: usize,
+    decimals: usize,
+) -> Result<Digits, DecimalError>
     requires { (digits ≤ 18) × (decimals < 2 ^ 32) }
     ensures { result ≡ unsigned_decimal negative text.now digits decimals }
 {
@@ -243,7 +238,7 @@ fn read_unsigned(text: &[u8], negative: bool, digits: usize, decimals: usize) ->
         if text.len() <= end {
             let scale = end - from;
             if is_within(whole + scale, scale, digits, decimals) {
-                return Decimal::Is(Digits {
+                return Ok(Digits {
                     negative,
                     digits: last.value,
                     scale: scale as u32,
@@ -254,26 +249,16 @@ fn read_unsigned(text: &[u8], negative: bool, digits: usize, decimals: usize) ->
     read_any(&text[0..], negative, digits, decimals)
 }
 
-// How many bytes a sign has that begins with the byte.
-fn sign_width(b: u8) -> usize
-    ensures { (result ≡ (if is_sign b then 1 else 0)) × (result ≤ 1) }
-{
-    match b {
-        b'+' | b'-' => 1,
-        _ => 0,
-    }
-}
-
 // The decimal that the whole text spells, with at most so many digits after leading zeros and so
 // many behind the point.
-pub fn read_decimal(text: &[u8], digits: usize, decimals: usize) -> Decimal
+pub fn read_decimal(text: &[u8], digits: usize, decimals: usize) -> Result<Digits, DecimalError>
     requires { (digits ≤ 18) × (decimals < 2 ^ 32) }
     ensures { Reads text.now digits decimals result }
 {
-    if text.len() == 0 {
-        return Decimal::Nothing;
+    match text {
+        [] => Err(DecimalError::Invalid),
+        [b'-', rest @ ..] => read_unsigned(rest, true, digits, decimals),
+        [b'+', rest @ ..] => read_unsigned(rest, false, digits, decimals),
+        _ => read_unsigned(text, false, digits, decimals),
     }
-    let sign = text[0];
-    let from = sign_width(sign);
-    read_unsigned(&text[from..], sign == b'-', digits, decimals)
 }

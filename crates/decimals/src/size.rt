@@ -5,7 +5,6 @@ ghost use Rattle.decimals.specs.Floats.{same_float};
 ghost use Rattle.decimals.specs.Size.{reduced, size_of, within_size, is_spelling, is_size, spelled_value, spelled_bits, spelling};
 
 use crate::read::Digits;
-use scan::Written;
 
 // The spelling is that of digits / 10^scale, with no zero at the end behind the point.
 #[derive(Clone, Copy)]
@@ -17,28 +16,17 @@ pub struct Size {
 }
 
 // The decimal without zeros at its end behind the point.
+#[tactic(auto, unfolding(crate::specs::Size::reduced))]
 fn reduce(d: Digits) -> Digits
     requires { d.scale ≤ 10 }
     ensures { result ≡ reduced d }
 {
-    let mut digits = d.digits;
-    let mut scale = d.scale;
-    while 0 < scale {
-        if digits % 10 != 0 {
-            return Digits {
-                negative: d.negative,
-                digits,
-                scale,
-            };
-        }
-        digits /= 10;
-        scale -= 1;
+    let mut least = d;
+    while 0 < least.scale && least.digits % 10 == 0 {
+        least.digits /= 10;
+        least.scale -= 1;
     }
-    Digits {
-        negative: d.negative,
-        digits,
-        scale,
-    }
+    least
 }
 
 // The size that a decimal of at most 6 digits, at most 10 of them behind the point, means.
@@ -59,40 +47,34 @@ pub fn size_of(d: Digits) -> Size
 fn within_size(digits: u32, scale: u32) -> bool
     ensures { result ≡ within_size digits scale }
 {
-    if 999999 < digits {
-        return false;
-    }
-    scale <= 10
+    digits <= 999999 && scale <= 10
 }
 
 // Is it a spelling: within the limits, with no zero at its end behind the point?
 pub fn is_spelling(digits: u32, scale: u32) -> bool
     ensures { result ≡ is_spelling digits scale }
 {
-    if !within_size(digits, scale) {
-        return false;
-    }
-    if scale == 0 {
-        return true;
-    }
-    digits % 10 != 0
+    within_size(digits, scale) && (scale == 0 || digits % 10 != 0)
 }
 
 // The f32 that a spelling means; 0 past the limits.
+#[tactic(auto, unfolding(crate::specs::Size::spelled_value))]
 pub fn spelled_value(negative: bool, digits: u32, scale: u32) -> f32
     ensures { result ≡ spelled_value negative digits scale }
 {
-    if !within_size(digits, scale) {
-        return 0.0;
+    if within_size(digits, scale) {
+        crate::floats::to_f32(Digits {
+            negative,
+            digits: digits as u64,
+            scale,
+        })
+    } else {
+        0.0
     }
-    crate::floats::to_f32(Digits {
-        negative,
-        digits: digits as u64,
-        scale,
-    })
 }
 
 // Its bits.
+#[tactic(auto, using(crate::proofs::Sizes::size_tests), unfolding(crate::specs::Size::spelled_bits))]
 pub fn spelled_bits(negative: bool, digits: u32, scale: u32) -> u32
     ensures { result ≡ spelled_bits negative digits scale }
 {
@@ -100,24 +82,21 @@ pub fn spelled_bits(negative: bool, digits: u32, scale: u32) -> u32
 }
 
 // Is it a size: a spelling, and its f32?
+#[tactic(auto, using(crate::proofs::Sizes::size_tests))]
 pub fn is_size(s: Size) -> bool
     ensures { result ≡ is_size s }
 {
-    if !is_spelling(s.digits, s.scale) {
-        return false;
-    }
-    same_bits(spelled_value(s.negative, s.digits, s.scale), s.value)
+    is_spelling(s.digits, s.scale)
+        && same_bits(spelled_value(s.negative, s.digits, s.scale), s.value)
 }
 
 // Are the two the same f32, the sign of zero counting?
+#[tactic(auto, using(crate::proofs::Sizes::same_nan, crate::proofs::Sizes::bits_same))]
 fn same_bits(a: f32, b: f32) -> bool
     requires { is_nan a ≡ false }
     ensures { result ≡ same_float b a }
 {
-    if b != b {
-        return false;
-    }
-    f32::to_bits(a) == f32::to_bits(b)
+    !b.is_nan() && f32::to_bits(a) == f32::to_bits(b)
 }
 
 // How many bytes the spelling has.
@@ -125,37 +104,25 @@ fn spelling_width(s: Size) -> usize
     requires { s.scale ≤ 10 }
     ensures { result ≡ length (spelling s.negative s.digits s.scale) }
 {
-    let sign = if s.negative { 1 } else { 0 };
-    let whole = numerals::decimal_width(s.digits as u64 / power(s.scale));
+    let sign = usize::from(s.negative);
+    let whole = numerals::decimal_width(s.digits as u64 / 10_u64.pow(s.scale));
     if s.scale == 0 {
         return sign + whole;
     }
     sign + whole + 1 + s.scale as usize
 }
 
-fn power(scale: u32) -> u64
-    requires { scale ≤ 10 }
-    ensures { result ≡ 10 ^ scale }
-{
-    let mut p = 1;
-    let mut i = 0;
-    while i < scale {
-        p *= 10;
-        i += 1;
-    }
-    p
-}
-
 fn put_size(out: &mut [u8], at: usize, s: Size) -> usize
     requires { (at + length (spelling s.negative s.digits s.scale) ≤ length out.old) × (s.scale ≤ 10) }
     ensures { Appended (spelling s.negative s.digits s.scale) at out.old out.new result }
 {
-    let mut start = at;
-    if s.negative {
+    let start = if s.negative {
         out[at] = b'-';
-        start = at + 1;
-    }
-    let p = power(s.scale);
+        at + 1
+    } else {
+        at
+    };
+    let p = 10_u64.pow(s.scale);
     let whole = s.digits as u64 / p;
     let end = numerals::put_digits(out, start, whole, 10, numerals::decimal_width(whole));
     if s.scale == 0 {
@@ -166,12 +133,12 @@ fn put_size(out: &mut [u8], at: usize, s: Size) -> usize
 }
 
 // The spelling written at a place, if it fits.
-pub fn spell(out: &mut [u8], at: usize, s: Size) -> Written
+pub fn spell(out: &mut [u8], at: usize, s: Size) -> Option<usize>
     requires { (at ≤ length out.old) × (s.scale ≤ 10) }
     ensures { Wrote (spelling s.negative s.digits s.scale) at out.old out.new result }
 {
     if out.len() - at < spelling_width(s) {
-        return Written::Full;
+        return None;
     }
-    Written::At(put_size(out, at, s))
+    Some(put_size(out, at, s))
 }

@@ -24,7 +24,7 @@ use Rattle.records.proofs.FoundRows.{styles_named}
 use Rattle.writer.specs.Rows.{ExtrasReady}
 use Rattle.writer.proofs.Accepting.{extras_ready, cue_ready, there, long, rest, low, fewer_strings}
 use Rattle.document.specs.Styles.{StyleRow, StylesReady}
-use Rattle.document.specs.Regions.{region_tables, RegionReady}
+use Rattle.document.specs.Regions.{RegionReady}
 use Rattle.document.specs.Roots.{ParamReady, RootReady, WholeReady}
 
 -- a size that is there is written with at most ten digits after the point
@@ -88,7 +88,7 @@ module _ (T : Tables) (f : is_full T ≡ true) (h : is_track T ≡ true) where
           extras_ready RegionAttr T.extras z' T.strings (cell 4 T.regions i 2) (cell 4 T.regions i 3) region_is.extras
           (long T f h).extras few
 
-      region_row : RegionReady (region_tables T.regions T.extras T.strings) i
+      region_row : RegionReady T i
       unfolding region_at
       region_row = record {
         row = omega (arith, (low T f h).regions, (long T f h).regions);
@@ -96,7 +96,7 @@ module _ (T : Tables) (f : is_full T ≡ true) (h : is_track T ≡ true) where
         extras = region_kept;
       }
 
-  styles_ready : StylesReady T.styles T.sizes T.extras T.strings (style_count T.head)
+  styles_ready : StylesReady T (style_count T.head)
   styles_ready = record {
     named =
         styles_named T.styles T.sizes T.extras z' T.strings (style_count T.head) (style_ok T h)
@@ -106,7 +106,7 @@ module _ (T : Tables) (f : is_full T ≡ true) (h : is_track T ≡ true) where
     rows = style_row;
   }
 
-  root_ready : RootReady T.head T.params T.styles T.regions T.cues T.extras T.strings
+  root_ready : RootReady T
   unfolding optional cell cue_at
   root_ready = record {
     head = (long T f h).head;

@@ -1,11 +1,11 @@
 -- Regions as they are written. Assumes nothing.
---     region_is, region_puts       one, and of what the program has read
+--     region_is, region_writes       one, and of what the program has read
 --     layout-none, layout-some     their part of the head
+use Rattle.std.specs.Prelude.{Option, ⊤}
 use Prim.Native.Nat.{ℕ, zero, suc}
 use mathlib.Core.Path.{◌≡◌, refl, ap, ◌∙◌}
 use mathlib.Core.Bool.{true}
-use mathlib.Core.List.{List, [], ◌++◌, append_assoc}
-use Rattle.scan.specs.declared.table.Written.{Written}
+use mathlib.Core.List.{[], ◌++◌, append_assoc}
 use Rattle.entities.specs.Escape.{escaped}
 use Rattle.names.specs.declared.tables.Listed.TheVariants.{RegionAttr}
 use Rattle.track.specs.declared.values.Region.{Region}
@@ -16,7 +16,8 @@ use Rattle.track.specs.Meaning.{bytes_at, region_in}
 use Rattle.scan.specs.Text.{ascii}
 use Rattle.written.specs.Attributes.{attrs_text, region_attrs}
 use Rattle.written.specs.Written.{region_text, lines, layout_lines}
-use Rattle.writer.specs.Puts.{quoted, Puts}
+use Rattle.writer.specs.declared.buffer.Out.{Out}
+use Rattle.writer.specs.Puts.{quoted, Writes}
 use Rattle.writer.specs.Rows.{over, extra_text}
 use Rattle.writer.proofs.AttrLaws.{attrs-extras}
 
@@ -34,10 +35,10 @@ module _ (T : Tables) (i : ℕ) where
       ap (λ (l : Bytes). (opening x ++ l) ++ ascii "/>") (attrs-extras T RegionAttr x.extras.count x.extras.first)
       ∙ append_assoc (opening x) (kept x) (ascii "/>")
 
-  pub region_puts :
-      (x : Region) → x ≡ region_at T.regions i → (s r : Written) (o o' : List ℕ) → Puts (opening x ++ (kept x ++ ascii "/>")) s o o' r
-      → Puts (region_text (region_in T i)) s o o' r
-  region_puts x e s r o o' p = rw region_is (rw e at p)
+  pub region_writes :
+      (x : Region) → x ≡ region_at T.regions i → (o o' : Out) (r : Option ⊤) → Writes (opening x ++ (kept x ++ ascii "/>")) o o' r
+      → Writes (region_text (region_in T i)) o o' r
+  region_writes x e o o' r p = rw region_is (rw e at p)
 
 -- ---- all of them
 pub layout-none : (f : ℕ → track.Region Bytes) (n : ℕ) → n ≡ 0 → layout_lines (rows_from f n 0) ≡ []

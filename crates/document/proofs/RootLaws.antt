@@ -83,7 +83,7 @@ module _ (T : Tables) where
       some_rows (λ (x : track.Cue Bytes). holds_itts InlineExtra x.extras) (cue_in T) (cue_count T.head) 0
       ∙ some_same _ _ (λ (i : ℕ). rows-hold T InlineExtra (cell 11 T.cues i 10) (cell 11 T.cues i 9)) (cue_count T.head) 0
 
-  itts_is : uses_itts (track_at T) ≡ itts_text T.head T.styles T.regions T.cues T.extras T.strings
+  itts_is : uses_itts (track_at T) ≡ itts_text T
   unfolding uses_itts itts_text
   itts_is = rw (styles-in T, regions-in T, cues-in T) (ap₂ ◌||◌ (ap₂ ◌||◌ style_rows region_rows) cue_rows)
 
@@ -121,8 +121,7 @@ module _ (T : Tables) where
   abbrev start : Bytes
   start = ascii "<tt xmlns=\"http://www.w3.org/ns/ttml\" xmlns:tts=\"http://www.w3.org/ns/ttml#styling\""
 
-  pub root_is : tag "tt" (root_attrs (track_at T)) ++ ascii ">\n"
-      ≡ root_text T.head T.params T.styles T.regions T.cues T.extras T.strings
+  pub root_is : tag "tt" (root_attrs (track_at T)) ++ ascii ">\n" ≡ root_text T
   unfolding root_attrs root_text namespaces escaped
   root_is =
       ap (λ (w : Bytes). (ascii "<tt" ++ w) ++ ascii ">\n")
@@ -137,7 +136,7 @@ module _ (T : Tables) where
       (cond (some_row (λ (i : ℕ). flagged false (imsc_row T.params T.strings i)) (param_count T.head) 0) (declared "ttp" "#parameter") [])
       (cond (some_row (λ (i : ℕ). flagged true (imsc_row T.params T.strings i)) (param_count T.head) 0)
       (declared "ittp" "/profile/imsc1#parameter") [])
-      (cond (itts_text T.head T.styles T.regions T.cues T.extras T.strings) (declared "itts" "/profile/imsc1#styling") [])
+      (cond (itts_text T) (declared "itts" "/profile/imsc1#styling") [])
       (over (param_text T.params T.strings) (param_count T.head) 0) (lang_text T.head T.strings) (ascii ">\n")
 
 -- ---- the head

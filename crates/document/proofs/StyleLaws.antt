@@ -1,7 +1,8 @@
 -- Named styles as they are written. Assumes nothing.
---     style_is, style_puts           one, and of what the program has read
+--     style_is, style_writes         one, and of what the program has read
 --     styling_none, styling_some     their part of the head
 --     row_within                     the row that is found
+use Rattle.std.specs.Prelude.{Option, Some, None, ⊤}
 use Prim.Native.Nat.{ℕ, zero, suc, ◌+◌, ◌*◌, ◌≤◌, ◌<◌}
 use mathlib.Core.Path.{◌≡◌, refl, ap, ◌∙◌}
 use mathlib.Core.Bool.{Bool, true, false, cond, not}
@@ -9,9 +10,7 @@ use mathlib.Core.List.{List, [], ◌++◌, append-nil, append_assoc}
 use native.Mathlib.Omega.{arith}
 use lib.ListN.{length, get_or}
 use lib.Dec.{eqb}
-use lib.Ieee.{Float}
 use borrow.Author.Tests.{not-true}
-use Rattle.scan.specs.declared.table.Written.{Written}
 use Rattle.entities.specs.Escape.{escaped}
 use Rattle.colors.specs.declared.read.Rgba.{Rgba}
 use Rattle.colors.specs.Written.{rgba_text}
@@ -27,19 +26,19 @@ use Rattle.track.specs.Track as track
 use Rattle.track.specs.Tables.{Tables, cell, style_at, rows_from}
 use Rattle.track.specs.Meaning.{bytes_at, style_in, look_in_of}
 use Rattle.track.specs.Meaning as meaning
-use Rattle.scan.specs.declared.table.Found.{Found}
 use Rattle.records.specs.Find.{is_named, first_with, find_chain, find_extras, chain_from, extras_from, found_in}
 use Rattle.records.proofs.FoundRows.{with_first, chain_found, extras_found}
 use Rattle.scan.specs.Text.{ascii}
 use Rattle.written.specs.Attributes.{attrs_text, optional, extra_attrs, size_text, align_attrs, style_attrs}
 use Rattle.written.specs.Written.{style_text, lines, styling_lines}
 use Rattle.written.proofs.Values.{rgba-itself, size-itself}
-use Rattle.writer.specs.Puts.{quoted, Puts}
+use Rattle.writer.specs.declared.buffer.Out.{Out}
+use Rattle.writer.specs.Puts.{quoted, Writes}
 use Rattle.writer.proofs.AttrLaws.{attrs-joined, attrs-last, attrs-one, attrs-given, attrs-optional, attrs-extras}
 use Rattle.document.specs.Styles.{look_text, align_text, flags_text, chain_text, kept_text, StylesReady}
 
 -- ---- what is found
-module _ (t z name : List ℕ) (needed n j : ℕ) (e : first_with t z name 27 needed n 0 ≡ Found.Row j) where
+module _ (t z name : List ℕ) (needed n j : ℕ) (e : first_with t z name 27 needed n 0 ≡ Some j) where
   pub row_within : j < n
   row_within = let a = (with_first t z name 27 n needed j e).within in omega arith
 
@@ -49,25 +48,25 @@ module _ (t z name : List ℕ) (needed n j : ℕ) (e : first_with t z name 27 ne
       (both {a = not (eqb (get_or t (j * 27 + needed) 0) 0)} {b = is_named t z name (j * 27)} (with_first t z name 27 n needed j e).passes).0
 
 module _ (T : Tables) (name : Bytes) (n : ℕ) where
-  abbrev chain_row_lem : Found
+  abbrev chain_row_lem : Option ℕ
   chain_row_lem = first_with T.styles T.strings name 27 3 n 0
 
-  abbrev kept_row_lem : Found
+  abbrev kept_row_lem : Option ℕ
   kept_row_lem = first_with T.styles T.strings name 27 26 n 0
 
-  chain_row : (f : Found) → chain_row_lem ≡ f → attrs_text (optional (attr (ascii "style")) (chain_from (found_in (style_in T) f))) ≡ chain_text T.styles
+  chain_row : (f : Option ℕ) → chain_row_lem ≡ f → attrs_text (optional (attr (ascii "style")) (chain_from (found_in (style_in T) f))) ≡ chain_text T.styles
       T.strings f
   unfolding chain_text style_in style_at cell optional attrs_text
-  chain_row Found.Nothing e = refl
-  chain_row (Found.Row j) e = rw (row_has T.styles T.strings name 3 n j e) (append-nil _)
+  chain_row None e = refl
+  chain_row (Some j) e = rw (row_has T.styles T.strings name 3 n j e) (append-nil _)
 
   chain_attrs : attrs_text (optional (attr (ascii "style")) (find_chain name (rows_from (style_in T) n 0))) ≡ chain_text T.styles T.strings chain_row_lem
   chain_attrs = rw (chain_found T name n) (chain_row chain_row_lem refl)
 
-  kept_row : (f : Found) → attrs_text (extra_attrs StyleExtra (extras_from (found_in (style_in T) f))) ≡ kept_text T.styles T.extras T.strings f
+  kept_row : (f : Option ℕ) → attrs_text (extra_attrs StyleExtra (extras_from (found_in (style_in T) f))) ≡ kept_text T.styles T.extras T.strings f
   unfolding kept_text style_in style_at cell extra_attrs attrs_text
-  kept_row Found.Nothing = refl
-  kept_row (Found.Row j) = attrs-extras T StyleExtra (cell 27 T.styles j 26) (cell 27 T.styles j 25)
+  kept_row None = refl
+  kept_row (Some j) = attrs-extras T StyleExtra (cell 27 T.styles j 26) (cell 27 T.styles j 25)
 
   kept_attrs : attrs_text (extra_attrs StyleExtra (find_extras name (rows_from (style_in T) n 0))) ≡ kept_text T.styles T.extras T.strings kept_row_lem
   kept_attrs = rw (extras_found T name n) (kept_row kept_row_lem)
@@ -144,9 +143,9 @@ module _ (T : Tables) (n i : ℕ) where
       (cond l.bold (ascii " tts:fontWeight=\"bold\"") []) (cond l.italic (ascii " tts:fontStyle=\"italic\"") [])
       (cond l.underline (ascii " tts:textDecoration=\"underline\"") []) (align_text l.align) (kept x) (ascii "/>")
 
-  pub style_puts : (x : Style) → x ≡ style_at T.styles T.sizes i → (s r : Written) (o o' : List ℕ) → Puts (whole x) s o o' r
-      → Puts (style_text all (style_in T i)) s o o' r
-  style_puts x e s r o o' p = rw style_is (rw e at p)
+  pub style_writes : (x : Style) → x ≡ style_at T.styles T.sizes i → (o o' : Out) (r : Option ⊤) → Writes (whole x) o o' r
+      → Writes (style_text all (style_in T i)) o o' r
+  style_writes x e o o' r p = rw style_is (rw e at p)
 
 -- ---- all of them
 pub styling_none : (f : ℕ → track.Style Bytes) (n : ℕ) → n ≡ 0 → styling_lines (rows_from f n 0) ≡ []
@@ -160,7 +159,7 @@ styling_some f zero h = absurd (h refl)
 styling_some f (suc n) h = refl
 
 -- a name stands within the strings
-pub name_within : (t : List ℕ) (f : List Float) (e z : List ℕ) (n : ℕ) → StylesReady t f e z n → (i : ℕ) → i < n
-    → (style_at t f i).name.place + (style_at t f i).name.len ≤ length z
+pub name_within : (T : Tables) (n : ℕ) → StylesReady T n → (i : ℕ) → i < n
+    → (style_at T.styles T.sizes i).name.place + (style_at T.styles T.sizes i).name.len ≤ length T.strings
 unfolding style_at cell
-name_within t f e z n r i h = let q : i * 27 + 0 ≡ i * 27 = omega arith in rw q (r.named.within i h)
+name_within T n r i h = let q : i * 27 + 0 ≡ i * 27 = omega arith in rw q (r.named.within i h)

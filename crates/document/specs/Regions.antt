@@ -1,24 +1,8 @@
 -- Steps of the program that writes regions: nothing here need be believed.
-use Rattle.std.specs.Prelude.{ℕ, ◌+◌, ◌*◌, ◌≤◌, ◌<◌, List, [], length}
+use Rattle.std.specs.Prelude.{ℕ, ◌+◌, ◌*◌, ◌≤◌, ◌<◌, length}
 use Rattle.names.specs.declared.tables.Listed.TheVariants.{RegionAttr}
 use Rattle.track.specs.Tables.{Tables, region_at}
 use Rattle.writer.specs.Rows.{ExtrasReady}
-
--- the tables that a region is made of
-abbrev pub region_tables : (regions extras strings : List ℕ) → Tables
-region_tables g e z = record {
-  head = [];
-  params = [];
-  styles = [];
-  regions = g;
-  cues = [];
-  times = [];
-  segments = [];
-  sizes = [];
-  extras = e;
-  strings = z;
-  texts = [];
-}
 
 -- row i can be written
 pub record RegionReady (T : Tables) (i : ℕ) : Type 0 where

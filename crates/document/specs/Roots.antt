@@ -15,9 +15,9 @@ use Rattle.written.specs.Attributes.{contains}
 use Rattle.written.specs.Written.{styling_lines, layout_lines}
 use Rattle.writer.specs.Puts.{quoted}
 use Rattle.writer.specs.Rows.{over, extra_text, ExtrasReady}
-use Rattle.writer.specs.Cues.{cue_tables, CuesReady}
+use Rattle.writer.specs.Cues.{CuesReady}
 use Rattle.document.specs.Styles.{StylesReady}
-use Rattle.document.specs.Regions.{region_tables, RegionsReady}
+use Rattle.document.specs.Regions.{RegionsReady}
 
 -- one of n rows from row i on passes the test
 unfoldable pub some_row : (ℕ → Bool) → (n i : ℕ) → Bool
@@ -81,11 +81,12 @@ pub record OwnersReady (list : Listed) (t e z : List ℕ) (w at n : ℕ) : Type 
   pub two : at + 2 ≤ w
   pub extras : (i : ℕ) → i < n → ExtrasReady list e z (cell w t i at) (cell w t i (at + 1))
 
-unfoldable pub itts_text : (head styles regions cues extras strings : List ℕ) → Bool
+unfoldable pub itts_text : Tables → Bool
 unfolding some_row itts_row
-itts_text h s r c e z =
-    some_row (itts_row StyleExtra s e z 27 25) (style_count h) 0 || some_row (itts_row RegionAttr r e z 4 2) (region_count h) 0
-    || some_row (itts_row InlineExtra c e z 11 9) (cue_count h) 0
+itts_text T =
+    some_row (itts_row StyleExtra T.styles T.extras T.strings 27 25) (style_count T.head) 0
+    || some_row (itts_row RegionAttr T.regions T.extras T.strings 4 2) (region_count T.head) 0
+    || some_row (itts_row InlineExtra T.cues T.extras T.strings 11 9) (cue_count T.head) 0
 
 -- ---- the start tag of tt
 unfoldable pub lang_text : List ℕ → List ℕ → Bytes
@@ -94,27 +95,28 @@ lang_text h z =
     cond (eqb (get_or h 5 0) 1) (quoted (ascii " xml:lang=\"") (escaped true (string_at z (get_or h 6 0) (get_or h 7 0)))) (ascii " xml:lang=\"en\"")
 
 -- what stands between the two namespaces that are always declared and the parameters
-unfoldable pub namespaces : (head params styles regions cues extras strings : List ℕ) → Bytes
+unfoldable pub namespaces : Tables → Bytes
 unfolding some_row imsc_row itts_text
-namespaces h p s r c e z =
-    cond (some_row (λ (i : ℕ). flagged false (imsc_row p z i)) (param_count h) 0) (ascii " xmlns:ttp=\"http://www.w3.org/ns/ttml#parameter\"") []
-    ++ (cond (some_row (λ (i : ℕ). flagged true (imsc_row p z i)) (param_count h) 0)
+namespaces T =
+    cond (some_row (λ (i : ℕ). flagged false (imsc_row T.params T.strings i)) (param_count T.head) 0)
+    (ascii " xmlns:ttp=\"http://www.w3.org/ns/ttml#parameter\"") []
+    ++ (cond (some_row (λ (i : ℕ). flagged true (imsc_row T.params T.strings i)) (param_count T.head) 0)
     (ascii " xmlns:ittp=\"http://www.w3.org/ns/ttml/profile/imsc1#parameter\"") []
-    ++ cond (itts_text h s r c e z) (ascii " xmlns:itts=\"http://www.w3.org/ns/ttml/profile/imsc1#styling\"") [])
+    ++ cond (itts_text T) (ascii " xmlns:itts=\"http://www.w3.org/ns/ttml/profile/imsc1#styling\"") [])
 
-unfoldable pub root_text : (head params styles regions cues extras strings : List ℕ) → Bytes
+unfoldable pub root_text : Tables → Bytes
 unfolding namespaces over param_text lang_text
-root_text h p s r c e z =
+root_text T =
     ascii "<tt xmlns=\"http://www.w3.org/ns/ttml\" xmlns:tts=\"http://www.w3.org/ns/ttml#styling\""
-    ++ (namespaces h p s r c e z ++ (over (param_text p z) (param_count h) 0 ++ (lang_text h z ++ ascii ">\n")))
+    ++ (namespaces T ++ (over (param_text T.params T.strings) (param_count T.head) 0 ++ (lang_text T.head T.strings ++ ascii ">\n")))
 
-pub record RootReady (h p s r c e z : List ℕ) : Type 0 where
-  pub head : 10 ≤ length h
-  pub params : ParamsReady p z (param_count h)
-  pub styles : OwnersReady StyleExtra s e z 27 25 (style_count h)
-  pub regions : OwnersReady RegionAttr r e z 4 2 (region_count h)
-  pub cues : OwnersReady InlineExtra c e z 11 9 (cue_count h)
-  pub lang : eqb (get_or h 5 0) 1 ≡ true → get_or h 6 0 + get_or h 7 0 ≤ length z
+pub record RootReady (T : Tables) : Type 0 where
+  pub head : 10 ≤ length T.head
+  pub params : ParamsReady T.params T.strings (param_count T.head)
+  pub styles : OwnersReady StyleExtra T.styles T.extras T.strings 27 25 (style_count T.head)
+  pub regions : OwnersReady RegionAttr T.regions T.extras T.strings 4 2 (region_count T.head)
+  pub cues : OwnersReady InlineExtra T.cues T.extras T.strings 11 9 (cue_count T.head)
+  pub lang : eqb (get_or T.head 5 0) 1 ≡ true → get_or T.head 6 0 + get_or T.head 7 0 ≤ length T.strings
 
 -- ---- the head
 unfoldable pub head_text : List (Style Bytes) → List (Region Bytes) → Bytes
@@ -124,7 +126,7 @@ head_text l m =
 
 -- ---- the whole
 pub record WholeReady (T : Tables) : Type 0 where
-  pub root : RootReady T.head T.params T.styles T.regions T.cues T.extras T.strings
-  pub styles : StylesReady T.styles T.sizes T.extras T.strings (style_count T.head)
-  pub regions : RegionsReady (region_tables T.regions T.extras T.strings) (region_count T.head)
-  pub cues : CuesReady (cue_tables T.cues T.times T.segments T.extras T.strings T.texts) (cue_count T.head)
+  pub root : RootReady T
+  pub styles : StylesReady T (style_count T.head)
+  pub regions : RegionsReady T (region_count T.head)
+  pub cues : CuesReady T (cue_count T.head)

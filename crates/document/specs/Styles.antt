@@ -1,5 +1,5 @@
 -- Steps of the program that writes named styles: nothing here need be believed. z are the strings.
-use Rattle.std.specs.Prelude.{ℕ, ◌+◌, ◌*◌, ◌≤◌, ◌<◌, ◌≡◌, true, cond, List, [], ◌++◌, length, Float}
+use Rattle.std.specs.Prelude.{Option, Some, None, ℕ, ◌+◌, ◌*◌, ◌≤◌, ◌<◌, ◌≡◌, true, cond, List, [], ◌++◌, length, Float}
 use Rattle.scan.specs.Part.{string_at}
 use Rattle.entities.specs.Escape.{escaped}
 use Rattle.colors.specs.Written.{rgba_text}
@@ -10,28 +10,11 @@ use Rattle.track.specs.declared.values.Look.{Look}
 use Rattle.track.specs.Track.{Bytes}
 use Rattle.track.specs.Tables.{Tables, cell, style_at}
 use Rattle.track.specs.Meaning.{bytes_at, is_color}
-use Rattle.scan.specs.declared.table.Found.{Found}
 use Rattle.records.specs.Find.{Named}
 use Rattle.scan.specs.Text.{ascii}
 use Rattle.written.specs.Attributes.{size_text}
 use Rattle.writer.specs.Puts.{quoted}
 use Rattle.writer.specs.Rows.{over, extra_text, ExtrasReady}
-
--- the tables that styles are made of
-abbrev pub style_tables : (styles : List ℕ) (sizes : List Float) (extras strings : List ℕ) → Tables
-style_tables s f e z = record {
-  head = [];
-  params = [];
-  styles = s;
-  regions = [];
-  cues = [];
-  times = [];
-  segments = [];
-  sizes = f;
-  extras = e;
-  strings = z;
-  texts = [];
-}
 
 -- ---- values, in the order in which they are written
 abbrev pub LookWithin : List ℕ → Look → Type 0
@@ -60,15 +43,15 @@ flags_text x =
     ++ align_text x.align))
 
 -- ---- what equal names share: of the row that is found the chain, cells 2 and 3, and the extras, cells 25 and 26
-unfoldable pub chain_text : List ℕ → List ℕ → Found → Bytes
+unfoldable pub chain_text : List ℕ → List ℕ → Option ℕ → Bytes
 unfolding escaped cell string_at
-chain_text t z Found.Nothing = []
-chain_text t z (Found.Row j) = quoted (ascii " style=\"") (escaped true (string_at z (cell 27 t j 2) (cell 27 t j 3)))
+chain_text t z None = []
+chain_text t z (Some j) = quoted (ascii " style=\"") (escaped true (string_at z (cell 27 t j 2) (cell 27 t j 3)))
 
-unfoldable pub kept_text : List ℕ → List ℕ → List ℕ → Found → Bytes
+unfoldable pub kept_text : List ℕ → List ℕ → List ℕ → Option ℕ → Bytes
 unfolding cell over extra_text
-kept_text t e z Found.Nothing = []
-kept_text t e z (Found.Row j) = over (extra_text StyleExtra e z) (cell 27 t j 26) (cell 27 t j 25)
+kept_text t e z None = []
+kept_text t e z (Some j) = over (extra_text StyleExtra e z) (cell 27 t j 26) (cell 27 t j 25)
 
 abbrev pub ChainsWithin : List ℕ → List ℕ → ℕ → Type 0
 ChainsWithin t z n = (j : ℕ) → j < n → cell 27 t j 2 + cell 27 t j 3 ≤ length z
@@ -86,8 +69,8 @@ pub record StyleRow (t : List ℕ) (f : List Float) (z : List ℕ) (i : ℕ) : T
   pub look : LookWithin z (style_at t f i).look
 
 -- the first n rows can be written
-pub record StylesReady (t : List ℕ) (f : List Float) (e z : List ℕ) (n : ℕ) : Type 0 where
-  pub named : Named t z 27 n
-  pub chains : ChainsWithin t z n
-  pub kept : KeptReady t e z n
-  pub rows : (i : ℕ) → i < n → StyleRow t f z i
+pub record StylesReady (T : Tables) (n : ℕ) : Type 0 where
+  pub named : Named T.styles T.strings 27 n
+  pub chains : ChainsWithin T.styles T.strings n
+  pub kept : KeptReady T.styles T.extras T.strings n
+  pub rows : (i : ℕ) → i < n → StyleRow T.styles T.sizes T.strings i

@@ -3,11 +3,12 @@
 ghost use Rattle.std.specs.Prelude.{ℕ, ◌+◌, ◌*◌, ◌≤◌, ◌<◌, ◌≡◌, length};
 ghost use Rattle.writer.specs.Rows.{ExtrasReady};
 ghost use Rattle.names.specs.declared.tables.Listed.TheVariants.{StyleExtra, InlineExtra, RegionAttr};
+ghost use Rattle.track.specs.Handed.{lists};
 ghost use Rattle.track.specs.Tables.{style_count, region_count, cue_count};
 ghost use Rattle.document.specs.Roots.{some_row, itts_from, itts_one, itts_rows, itts_row, itts_text, OwnersReady};
 
 use names::Listed;
-use track::{CUE_CELLS, REGION_CELLS, STYLE_CELLS};
+use track::{CUE_CELLS, REGION_CELLS, STYLE_CELLS, Tables};
 
 fn itts_from(list: Listed) -> usize
     ensures { result ≡ itts_from list }
@@ -27,12 +28,9 @@ fn is_itts(list: Listed, extras: &[u32], strings: &[u8], i: usize) -> bool
     ensures { result ≡ itts_one list extras.now strings.now i }
 {
     let x = records::extra_at(extras, i);
-    if itts_from(list) <= x.number {
-        return true;
-    }
     let from = x.value.place;
     let len = x.value.len;
-    scan::find_seq(&strings[from..from + len], 0, b"itts:") < len
+    itts_from(list) <= x.number || scan::find_seq(&strings[from..from + len], 0, b"itts:") < len
 }
 
 // The extras in n rows from row `first` on.
@@ -40,13 +38,10 @@ fn holds_itts(list: Listed, extras: &[u32], strings: &[u8], first: usize, n: usi
     requires { ExtrasReady list extras.now strings.now first n }
     ensures { result ≡ itts_rows list extras.now strings.now first n }
 {
-    let end = first + n;
-    let mut i = first;
-    while i < end {
+    for i in first..first + n {
         if is_itts(list, extras, strings, i) {
             return true;
         }
-        i += 1;
     }
     false
 }
@@ -64,62 +59,50 @@ fn any_itts(
     requires { OwnersReady list cells.now extras.now strings.now width at n }
     ensures { result ≡ some_row (itts_row list cells.now extras.now strings.now width at) n 0 }
 {
-    let mut i = 0;
-    while i < n {
+    for i in 0..n {
         let first = scan::get(cells, i * width + at);
         let count = scan::get(cells, i * width + (at + 1));
         if holds_itts(list, extras, strings, first, count) {
             return true;
         }
-        i += 1;
     }
     false
 }
 
 // Those of all styles, regions and cues.
-pub fn uses_itts(
-    head: &[u32],
-    styles: &[u32],
-    regions: &[u32],
-    cues: &[u32],
-    extras: &[u32],
-    strings: &[u8],
-) -> bool
-    requires { (10 ≤ length head.now) × OwnersReady StyleExtra styles.now extras.now strings.now 27 25 (style_count head.now)
-        × OwnersReady RegionAttr regions.now extras.now strings.now 4 2 (region_count head.now)
-        × OwnersReady InlineExtra cues.now extras.now strings.now 11 9 (cue_count head.now) }
-    ensures { result ≡ itts_text head.now styles.now regions.now cues.now extras.now
-        strings.now }
+pub fn uses_itts(t: &Tables<'_>) -> bool
+    requires { (10 ≤ length t.now.head.now)
+        × OwnersReady StyleExtra t.now.styles.now t.now.extras.now t.now.strings.now 27 25 (style_count t.now.head.now)
+        × OwnersReady RegionAttr t.now.regions.now t.now.extras.now t.now.strings.now 4 2 (region_count t.now.head.now)
+        × OwnersReady InlineExtra t.now.cues.now t.now.extras.now t.now.strings.now 11 9 (cue_count t.now.head.now) }
+    ensures { result ≡ itts_text (lists t.now) }
 {
-    if any_itts(
+    let n = scan::get(t.head, 1);
+    let m = scan::get(t.head, 2);
+    let k = scan::get(t.head, 3);
+    any_itts(
         Listed::StyleExtra,
-        styles,
-        extras,
-        strings,
+        t.styles,
+        t.extras,
+        t.strings,
         STYLE_CELLS,
         25,
-        scan::get(head, 1),
-    ) {
-        return true;
-    }
-    if any_itts(
+        n,
+    ) || any_itts(
         Listed::RegionAttr,
-        regions,
-        extras,
-        strings,
+        t.regions,
+        t.extras,
+        t.strings,
         REGION_CELLS,
         2,
-        scan::get(head, 2),
-    ) {
-        return true;
-    }
-    any_itts(
+        m,
+    ) || any_itts(
         Listed::InlineExtra,
-        cues,
-        extras,
-        strings,
+        t.cues,
+        t.extras,
+        t.strings,
         CUE_CELLS,
         9,
-        scan::get(head, 3),
+        k,
     )
 }

@@ -5,6 +5,7 @@
 --     decoded-short                              what is read is never longer than the text
 --     stepped_to, stepped_literal                one `&` passed
 --     Decoding                                   what the program has written so far
+use Rattle.std.specs.Prelude.{Option, Some, None}
 use Prim.Native.Nat.{ℕ, zero, suc, ◌+◌, ◌-◌, ◌≤◌, ◌<◌}
 use mathlib.Core.Path.{◌≡◌, refl, sym, ap, ◌∙◌}
 use mathlib.Core.Bool.{Bool, true, false}
@@ -22,8 +23,6 @@ use Rattle.scan.proofs.Runs.{run-all}
 use Rattle.scan.proofs.Stores.{sets_on}
 use Rattle.utf8.specs.Utf8.{encode}
 use Rattle.utf8.proofs.Utf8Laws.{encode-short}
-use Rattle.entities.specs.declared.reference.Entity.{Entity}
-use Rattle.entities.specs.declared.reference.Entity.TheVariants.{Char, Unknown}
 use Rattle.entities.specs.Reference.{name_length, reference}
 use Rattle.entities.specs.Steps.{RefersTo, Stepped}
 use Rattle.entities.specs.Decode.{decoded_from, decoded}
@@ -45,18 +44,18 @@ pub decoded-byte : (b : ℕ) (s : List ℕ) → (b ≡ 38 → ⊥) → decoded (
 unfolding decoded
 decoded-byte b s n = rw (ne_eqb b 38 n)
 
-pub decoded-to : (s : List ℕ) {c : ℕ} → reference s ≡ Char c → decoded (38 ∷ s) ≡ encode c ++ decoded (drop (name_length s + 1) s)
+pub decoded-to : (s : List ℕ) {c : ℕ} → reference s ≡ Some c → decoded (38 ∷ s) ≡ encode c ++ decoded (drop (name_length s + 1) s)
 unfolding decoded
 decoded-to s {c} e = rw e (ap (λ (l : List ℕ). encode c ++ l) (decoded_from-skip (name_length s + 1) s))
 
-pub decoded-literal : (s : List ℕ) → reference s ≡ Unknown → decoded (38 ∷ s) ≡ 38 ∷ decoded s
+pub decoded-literal : (s : List ℕ) → reference s ≡ None → decoded (38 ∷ s) ≡ 38 ∷ decoded s
 unfolding decoded
 decoded-literal s e = rw e
 
 -- a reference by the bytes that the program takes
-pub decoded-taken : (s : List ℕ) {c : ℕ} → reference_run s ≡ Char c → decoded (38 ∷ s) ≡ encode c ++ decoded (drop (taken s + 1) s)
+pub decoded-taken : (s : List ℕ) {c : ℕ} → reference_run s ≡ Some c → decoded (38 ∷ s) ≡ encode c ++ decoded (drop (taken s + 1) s)
 decoded-taken s {c} e =
-    let r : reference s ≡ Char c = reference-run s ∙ e in
+    let r : reference s ≡ Some c = reference-run s ∙ e in
     decoded-to s r ∙ rw (length_run s (reference-inv s r).ends)
 
 -- ---- no `&`
@@ -76,12 +75,12 @@ short k [] = omega arith
 short (suc k) (b ∷ s) = omega (arith, short k s)
 short zero (b ∷ s) = omega (arith, by (eqb b 38) refl (λ k. short k s))
   where
-    referring : (x : Entity) → reference s ≡ x → ((k : ℕ) → length (decoded_from k s) ≤ length s - k) → eqb b 38 ≡ true
+    referring : (x : Option ℕ) → reference s ≡ x → ((k : ℕ) → length (decoded_from k s) ≤ length s - k) → eqb b 38 ≡ true
         → length (decoded_from zero (b ∷ s)) ≤ suc (length s)
-    referring (Char c) e rec t =
+    referring (Some c) e rec t =
         let w : Referred s c = reference-inv s e in
         rw (t, e, length-append) (omega (arith, encode-short c, rec (name_length s + 1), w.long, w.within))
-    referring Unknown e rec t = rw (t, e) (omega (arith, rec 0))
+    referring None e rec t = rw (t, e) (omega (arith, rec 0))
 
     by : (t : Bool) → eqb b 38 ≡ t → ((k : ℕ) → length (decoded_from k s) ≤ length s - k) → length (decoded_from zero (b ∷ s)) ≤ suc (length s)
     by true t rec = referring (reference s) refl rec t
@@ -135,7 +134,7 @@ module _ (s : List ℕ) (p at : ℕ) (t t' : List ℕ) (h : p < length s) (e : g
         within = r.within;
       }
 
-  pub stepped_literal : reference (drop (p + 1) s) ≡ Unknown → t' ≡ set t at 38 → Stepped s p at t t' (p + 1) (at + 1)
+  pub stepped_literal : reference (drop (p + 1) s) ≡ None → t' ≡ set t at 38 → Stepped s p at t t' (p + 1) (at + 1)
   stepped_literal u w =
       record {
         piece = 38 ∷ [];

@@ -3,6 +3,7 @@
 --     taken, name_end           the bytes that the program takes; the name ends where they do, or before, at a byte past 127
 --     known_ascii               the bytes of a known name are ASCII
 --     reference-run, length_run what follows an `&`, and how long its name is, by the bytes that the program takes
+use Rattle.std.specs.Prelude.{Option, Some, None}
 use Prim.Native.Nat.{ℕ, zero, suc, ◌≤◌, ◌<◌}
 use mathlib.Core.Path.{◌≡◌, refl, sym, ap, ◌∙◌}
 use mathlib.Core.Bool.{Bool, true, false, cond, not, not-not, ◌&&◌, and-false, false≢true, true≢false}
@@ -23,11 +24,8 @@ use Rattle.utf8.specs.Utf8.{sequence_at, char_at}
 use Rattle.utf8.specs.White.{is_white}
 use Rattle.utf8.proofs.Utf8Laws.{sequence-ascii}
 use Rattle.numerals.specs.declared.Whole.{Whole}
-use Rattle.numerals.specs.declared.Numeral.{Numeral}
 use Rattle.numerals.specs.Numerals.{numeral_of}
 use Rattle.numerals.proofs.Numerals.{numeral_ascii}
-use Rattle.entities.specs.declared.reference.Entity.{Entity}
-use Rattle.entities.specs.declared.reference.Entity.TheVariants.{Char, Unknown}
 use Rattle.entities.specs.Reference.{Named, ◌means◌, entity_table, named, character, character_reference, lookup, starts_white, ends_name}
 use Rattle.entities.specs.Reference.{name_length, reference}
 use Rattle.entities.specs.Steps.{ascii_white, taken_byte}
@@ -125,32 +123,32 @@ name_within s = by (name_end s)
     by (inr e) = omega (arith, e.0, length_within taken_byte s)
 
 -- ---- a known name is ASCII
-no_char : {c : ℕ} → Unknown ≡ Char c → ⊥
+no_char : {c : ℕ} → None ≡ Some c → ⊥
 no_char e = let z : ◌≡◌ {A = ℕ} 0 1 = cc in omega arith
 
 table-ascii : every (λ (n : Named). elim n [ w means c ↦ every is_ascii w ]) entity_table ≡ true
 table-ascii = refl
 
-named-ascii : (s : List ℕ) (ns : List Named) {c : ℕ} → every (λ (n : Named). elim n [ w means c ↦ every is_ascii w ]) ns ≡ true → named s ns ≡ Char c
+named-ascii : (s : List ℕ) (ns : List Named) {c : ℕ} → every (λ (n : Named). elim n [ w means c ↦ every is_ascii w ]) ns ≡ true → named s ns ≡ Some c
     → every is_ascii s ≡ true
 unfolding named
 named-ascii s [] t e = absurd (no_char e)
 named-ascii s (n means d ∷ ns) {c} t e = by (same_bytes_of s n) refl (named-ascii s ns (both {a = every is_ascii n} t).1)
   where
-    by : (x : Bool) → same_bytes_of s n ≡ x → (named s ns ≡ Char c → every is_ascii s ≡ true) → every is_ascii s ≡ true
+    by : (x : Bool) → same_bytes_of s n ≡ x → (named s ns ≡ Some c → every is_ascii s ≡ true) → every is_ascii s ≡ true
     by true h k = rw (same_eq s n h) (both {a = every is_ascii n} t).0
     by false h k = k (rw h at e)
 
-numeral_known : (n : Numeral) {c : ℕ} → character n ≡ Char c → (w : Whole) × (n ≡ Numeral.Is w)
-numeral_known (Numeral.Is w) e = (w, refl)
-numeral_known Numeral.Nothing e = absurd (no_char e)
+numeral_known : (n : Option Whole) {c : ℕ} → character n ≡ Some c → (w : Whole) × (n ≡ Some w)
+numeral_known (Some w) e = (w, refl)
+numeral_known None e = absurd (no_char e)
 
-number-ascii : (s : List ℕ) {c : ℕ} → character_reference s ≡ Char c → every is_ascii s ≡ true
+number-ascii : (s : List ℕ) {c : ℕ} → character_reference s ≡ Some c → every is_ascii s ≡ true
 unfolding character_reference
 number-ascii [] e = refl
 number-ascii (a ∷ s) {c} e = by (eqb a 120) refl (eqb a 88) refl
   where
-    of : (radix : ℕ) → radix ≤ 36 → (r : List ℕ) → character (numeral_of r radix 0xFFFF_FFFF false) ≡ Char c → every is_ascii r ≡ true
+    of : (radix : ℕ) → radix ≤ 36 → (r : List ℕ) → character (numeral_of r radix 0xFFFF_FFFF false) ≡ Some c → every is_ascii r ≡ true
     of radix h r f = let w = numeral_known (numeral_of r radix 0xFFFF_FFFF false) f in numeral_ascii radix h r 0xFFFF_FFFF false w.1
 
     by : (x : Bool) → eqb a 120 ≡ x → (y : Bool) → eqb a 88 ≡ y → every is_ascii (a ∷ s) ≡ true
@@ -158,7 +156,7 @@ number-ascii (a ∷ s) {c} e = by (eqb a 120) refl (eqb a 88) refl
     by false f true g = rw (eqb-true a 88 g) (of 16 (omega arith) s (rw (f, g) at e))
     by false f false g = of 10 (omega arith) (a ∷ s) (rw (f, g) at e)
 
-pub known_ascii : (s : List ℕ) {c : ℕ} → lookup s ≡ Char c → every is_ascii s ≡ true
+pub known_ascii : (s : List ℕ) {c : ℕ} → lookup s ≡ Some c → every is_ascii s ≡ true
 unfolding lookup
 known_ascii [] e = refl
 known_ascii (b ∷ s) {c} e = by (eqb b 35) refl
@@ -168,21 +166,21 @@ known_ascii (b ∷ s) {c} e = by (eqb b 35) refl
     by false h = named-ascii (b ∷ s) entity_table table-ascii (rw h at e)
 
 -- ---- what follows an `&`
-abbrev pub reference_run : List ℕ → Entity
-reference_run s = cond (eqb (get_or s (taken s) 0) 59 && leb (taken s) 16) (lookup (take (taken s) s)) Unknown
+abbrev pub reference_run : List ℕ → Option ℕ
+reference_run s = cond (eqb (get_or s (taken s) 0) 59 && leb (taken s) 16) (lookup (take (taken s) s)) None
 
 -- a name with a byte past 127 is not known
-past_ascii : (s : List ℕ) (k n : ℕ) → k < n → n ≤ length s → 128 ≤ get_or s k 0 → lookup (take n s) ≡ Unknown
+past_ascii : (s : List ℕ) (k n : ℕ) → k < n → n ≤ length s → 128 ≤ get_or s k 0 → lookup (take n s) ≡ None
 past_ascii s k n h m l = by (lookup (take n s)) refl
   where
-    by : (x : Entity) → lookup (take n s) ≡ x → lookup (take n s) ≡ Unknown
-    by Unknown e = e
-    by (Char c) e =
+    by : (x : Option ℕ) → lookup (take n s) ≡ x → lookup (take n s) ≡ None
+    by None e = e
+    by (Some c) e =
         let i : k < length (take n s) = omega (arith, length-take-le n s m) in
         let a : get_or (take n s) k 0 < 128 = ltb-true _ 128 (every-at is_ascii (take n s) 0 (known_ascii (take n s) e) k i) in
         absurd (omega (arith, a, get_or-take n s k 0 h, l))
 
-unknown-either : (t : Bool) (x : Entity) → x ≡ Unknown → cond t x Unknown ≡ Unknown
+unknown-either : (t : Bool) (x : Option ℕ) → x ≡ None → cond t x None ≡ None
 unknown-either true x e = e
 unknown-either false x e = refl
 

@@ -3,6 +3,7 @@
 --     plain-rest, escape_rest        of a byte that is no `&`, `<` or `>`
 --     escaped-append, escaped-run    a text in two parts; a run of bytes that stand for themselves, and what follows it
 --     Escaping, starts, goes, full, last   the loop that writes a text piece by piece
+use Rattle.std.specs.Prelude.{Option, None}
 use Prim.Native.Nat.{ℕ, suc, ◌+◌, ◌-◌, ◌≤◌, ◌<◌, min}
 use mathlib.Core.Path.{◌≡◌, refl, sym, ap, ◌∙◌}
 use mathlib.Core.Bool.{Bool, true, false, cond, not, ◌&&◌, false≢true, and-eq-true_iff}
@@ -15,9 +16,7 @@ use lib.Dec.{eqb}
 use borrow.Author.Tests.{eqb-true, eqb-false, ne_eqb, not-false}
 use Rattle.scan.specs.Part.{part}
 use Rattle.scan.specs.Posts.{Ends, Appended, Wrote, WroteInPart}
-use Rattle.scan.specs.declared.table.Written.{Written}
-use Rattle.scan.specs.declared.table.Written.TheVariants.{Full}
-use Rattle.scan.proofs.Runs.{run-all}
+use Rattle.scan.proofs.Runs.{run-all, run_on, ends-here, ends-out}
 use Rattle.scan.proofs.Stores.{appended_on, in_part, wrote_on, wrote_full}
 use Rattle.entities.specs.Escape.{plain, escape_byte, escaped}
 use Rattle.entities.specs.Steps.{escaped_run}
@@ -149,13 +148,15 @@ module _ (q : Bool) (s : List ℕ) (a : ℕ) (t : List ℕ) (i n : ℕ) (t' : Li
         kept = rw (p.laid, length-sets) g.kept;
       }
 
-  pub full : e < length s → WroteInPart (escaped_run q s i e) n t' t'' Full → WroteInPart (escaped q s) a t t'' Full
+  pub full : e < length s → WroteInPart (escaped_run q s i e) n t' t'' None → WroteInPart (escaped q s) a t t'' None
   full h v =
       let x = escaped_run q s i e in
-      rw (← (all h)) (wrote_full (g.done ++ x) (escaped q (drop (e + 1) s)) a t t'' (wrote_on g.done x a t t' n t'' Full g.put v))
+      rw (← (all h)) (wrote_full (g.done ++ x) (escaped q (drop (e + 1) s)) a t t'' (wrote_on g.done x a t t' n t'' None g.put v))
 
   -- the last run
-  pub last : (o : Written) → length s ≤ e → Wrote (part i e s) n t' t'' o → WroteInPart (escaped q s) a t t'' o
+  pub last : (o : Option ℕ) → length s ≤ e → Wrote (part i e s) n t' t'' o → WroteInPart (escaped q s) a t t'' o
   last o h v =
       let f : n ≤ length t' = omega (arith, g.put.within, g.kept) in
       rw (← g.is, escaped-run_out q s i e r h) (wrote_on g.done (part i e s) a t t' n t'' o g.put (in_part (part i e s) n t' t'' o f v))
+
+pub ruleset run_ends = (run_on, ends-here, ends-out)

@@ -2,6 +2,7 @@
 --     ascii-alone     a byte below 128 is a sequence by itself
 --     utf8_from       so UTF-8 from such a byte on is UTF-8
 --     decoded-utf8
+use Rattle.std.specs.Prelude.{Option, Some, None}
 use Prim.Native.Nat.{ℕ, zero, suc, ◌+◌, ◌-◌, ◌≤◌, ◌<◌}
 use mathlib.Core.Path.{◌≡◌, refl, sym, ap, subst, ◌∙◌}
 use mathlib.Core.Bool.{true, false}
@@ -15,8 +16,6 @@ use borrow.Author.Tests.{eqb-true, eqb-false, ltb-true, ltb-false}
 use Rattle.utf8.specs.Utf8.{WellFormed, Utf8, empty, sequence}
 use Rattle.scan.proofs.Every.{by-test}
 use Rattle.utf8.proofs.Utf8Laws.{well_high, sequence-ascii, ascii-formed, utf8_append, utf8_past_ascii, encode_utf8}
-use Rattle.entities.specs.declared.reference.Entity.{Entity}
-use Rattle.entities.specs.declared.reference.Entity.TheVariants.{Char, Unknown}
 use Rattle.entities.specs.Reference.{name_length, reference}
 use Rattle.entities.specs.Decode.{decoded}
 use Rattle.entities.proofs.References.{Referred, reference-inv}
@@ -76,12 +75,12 @@ module _ (n : ℕ) (rec : (t : List ℕ) → length t ≤ n → Utf8 t → Utf8 
       none : (k : ℕ) → k < length w → get_or w k 0 ≡ 38 → ⊥
       none k g e = let a = ascii-alone w k f g (omega (arith, e)) in eqb-false (get_or w 0 0) 38 t (rw a.first at e)
 
-  referring : (x : Entity) → reference s ≡ x → Utf8 (decoded (38 ∷ s))
-  referring (Char c) e =
+  referring : (x : Option ℕ) → reference s ≡ x → Utf8 (decoded (38 ∷ s))
+  referring (Some c) e =
       let r : Referred s c = reference-inv s e in
       rw (decoded-to s e) (utf8_append (encode_utf8 c r.char)
       (rec (drop (name_length s + 1) s) (omega (arith, length-drop (name_length s + 1) s)) (after-reference s c r v)))
-  referring Unknown e = rw (decoded-literal s e) (sequence {w = 38 ∷ []} (ascii-formed 38 (omega arith)) (rec s l v))
+  referring None e = rw (decoded-literal s e) (sequence {w = 38 ∷ []} (ascii-formed 38 (omega arith)) (rec s l v))
 
   marked : eqb (get_or w 0 0) 38 ≡ true → Utf8 (decoded (w ++ s))
   marked t =

@@ -1,11 +1,8 @@
 -- What contracts of inner functions cite. Nothing here need be believed: no public call names it.
-use Rattle.std.specs.Prelude.{ℕ, ◌+◌, ◌≤◌, ◌<◌, min, ◌≡◌, Bool, not, ◌&&◌, ◌||◌, List, ◌++◌, length, get_or, drop, eqb, leb}
+use Rattle.std.specs.Prelude.{Option, Some, None, ℕ, ◌+◌, ◌≤◌, ◌<◌, min, ◌≡◌, Bool, not, ◌&&◌, ◌||◌, List, ◌++◌, length, get_or, drop, eqb, leb}
 use Rattle.std.proofs.lemmas.List.Edits.{sets}
 use Rattle.scan.specs.Bytes.{run_length_of}
 use Rattle.scan.specs.Part.{part}
-use Rattle.entities.specs.declared.reference.Entity.TheVariants.{Char, Unknown}
-use Rattle.entities.specs.declared.reference.Target.{Target}
-use Rattle.entities.specs.declared.reference.Target.TheVariants.{To, Literal}
 use Rattle.entities.specs.Reference.{name_length, reference}
 use Rattle.entities.specs.Decode.{decoded}
 use Rattle.entities.specs.Escape.{escape_byte}
@@ -26,15 +23,15 @@ pub record NameEnd (s : List ℕ) (p r : ℕ) : Type 0 where
 
 -- the reference at p, after its `&`, is to the character c, and ends before n; or there is none
 pub record RefersTo (s : List ℕ) (p c n : ℕ) : Type 0 where
-  pub is : reference (drop p s) ≡ Char c
+  pub is : reference (drop p s) ≡ Some c
   pub next : n ≡ p + (name_length (drop p s) + 1)
   pub within : n ≤ length s
   pub long : p + 3 ≤ n
   pub char : c < 0x110000
 
-abbrev pub Refers : List ℕ → ℕ → Target → Type 0
-Refers s p (To c n) = RefersTo s p c n
-Refers s p Literal = reference (drop p s) ≡ Unknown
+abbrev pub Refers : List ℕ → ℕ → Option (ℕ × ℕ) → Type 0
+Refers s p (Some (c, n)) = RefersTo s p c n
+Refers s p None = reference (drop p s) ≡ None
 
 -- One `&`, at p, is passed: what is read for it stands in the table from a place on, up to n, and reading goes on at q.
 pub record Stepped (s : List ℕ) (p at : ℕ) (t t' : List ℕ) (q n : ℕ) : Type 0 where

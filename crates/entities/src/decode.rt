@@ -4,8 +4,6 @@ ghost use Rattle.scan.specs.Posts.{Appended};
 ghost use Rattle.entities.specs.Decode.{decoded};
 ghost use Rattle.entities.specs.Steps.{Stepped};
 
-use crate::reference::Target;
-
 // Where the next byte is read, and where the next byte is written.
 #[derive(Clone, Copy)]
 pub struct Step {
@@ -19,11 +17,11 @@ fn decode_reference(src: &[u8], pos: usize, out: &mut [u8], at: usize) -> Step
     ensures { Stepped src.now pos at out.old out.new result.from result.to }
 {
     match crate::reference::reference(src, pos + 1) {
-        Target::To(c, next) => {
+        Some((c, next)) => {
             let to = utf8::put_char(c, out, at);
             Step { from: next, to }
         }
-        Target::Literal => {
+        None => {
             out[at] = b'&';
             Step {
                 from: pos + 1,

@@ -4,8 +4,6 @@ ghost use Rattle.scan.specs.Posts.{Ends, Wrote, WroteInPart};
 ghost use Rattle.entities.specs.Escape.{plain, escape_byte, escaped};
 ghost use Rattle.entities.specs.Steps.{escaped_run};
 
-use scan::Written;
-
 // Does the byte stand for itself? A double quote mark does, but in an attribute's value.
 fn is_plain(b: u8, quotes: bool) -> bool
     ensures { result ≡ plain quotes b }
@@ -18,22 +16,21 @@ fn is_plain(b: u8, quotes: bool) -> bool
 }
 
 // Where the run of bytes that stand for themselves ends.
+#[tactic(auto, using(crate::proofs::Escapes::run_ends))]
 fn plain_end(src: &[u8], pos: usize, quotes: bool) -> usize
     requires { pos ≤ length src.now }
     ensures { Ends (plain quotes) src.now pos result }
 {
-    let mut i = pos;
-    while i < src.len() {
+    for i in pos..src.len() {
         if !is_plain(src[i], quotes) {
             return i;
         }
-        i += 1;
     }
-    i
+    src.len()
 }
 
 // The reference for a byte that does not stand for itself, written at a place.
-fn append_reference(out: &mut [u8], at: usize, b: u8, quotes: bool) -> Written
+fn append_reference(out: &mut [u8], at: usize, b: u8, quotes: bool) -> Option<usize>
     requires { (at ≤ length out.old) × (plain quotes b ≡ false) }
     ensures { Wrote (escape_byte quotes b) at out.old out.new result }
 {
@@ -53,17 +50,15 @@ fn append_run(
     quotes: bool,
     out: &mut [u8],
     at: usize,
-) -> Written
+) -> Option<usize>
     requires { (pos ≤ end) × (end < length src.now) × (at ≤ length out.old) × (plain quotes (get_or src.now end 0) ≡ false) }
     ensures { WroteInPart (escaped_run quotes src.now pos end) at out.old out.new result }
 {
-    match scan::append(out, at, &src[pos..end]) {
-        Written::At(next) => append_reference(out, next, src[end], quotes),
-        Written::Full => Written::Full,
-    }
+    let next = scan::append(out, at, &src[pos..end])?;
+    append_reference(out, next, src[end], quotes)
 }
 
-fn escape(src: &[u8], quotes: bool, out: &mut [u8], at: usize) -> Written
+fn escape(src: &[u8], quotes: bool, out: &mut [u8], at: usize) -> Option<usize>
     requires { at ≤ length out.old }
     ensures { WroteInPart (escaped quotes src.now) at out.old out.new result }
 {
@@ -74,20 +69,13 @@ fn escape(src: &[u8], quotes: bool, out: &mut [u8], at: usize) -> Written
         if src.len() <= end {
             return scan::append(out, to, &src[from..end]);
         }
-        match append_run(src, from, end, quotes, out, to) {
-            Written::At(next) => {
-                to = next;
-                from = end + 1;
-            }
-            Written::Full => {
-                return Written::Full;
-            }
-        }
+        to = append_run(src, from, end, quotes, out, to)?;
+        from = end + 1;
     }
 }
 
 // The text as it stands between tags.
-pub fn escape_text(src: &[u8], out: &mut [u8], at: usize) -> Written
+pub fn escape_text(src: &[u8], out: &mut [u8], at: usize) -> Option<usize>
     requires { at ≤ length out.old }
     ensures { WroteInPart (escaped false src.now) at out.old out.new result }
 {
@@ -95,7 +83,7 @@ pub fn escape_text(src: &[u8], out: &mut [u8], at: usize) -> Written
 }
 
 // The text as it stands in an attribute's value, between double quote marks.
-pub fn escape_attr(src: &[u8], out: &mut [u8], at: usize) -> Written
+pub fn escape_attr(src: &[u8], out: &mut [u8], at: usize) -> Option<usize>
     requires { at ≤ length out.old }
     ensures { WroteInPart (escaped true src.now) at out.old out.new result }
 {

@@ -6,4 +6,4 @@ mod reference;
 
 pub use decode::decode_entities;
 pub use escape::{escape_attr, escape_text};
-pub use reference::{Entity, lookup_entity};
+pub use reference::lookup_entity;

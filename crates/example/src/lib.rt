@@ -3,9 +3,6 @@
 ghost use Rattle.xml.specs.Promise.{tables};
 ghost use Rattle.example.specs.Count.{Counts};
 
-use tree::Answer;
-use xml::Found;
-
 // How many attributes the first top-level tt of a text has.
 pub fn root_attributes(
     text: &[u8],
@@ -16,11 +13,11 @@ pub fn root_attributes(
     ensures { Counts text.now (tables nodes.old attrs.old strings.old) result
         (tables nodes.new attrs.new strings.new) }
 {
-    let Answer::Tree { nodes: n, attrs: m } = xml::parse_xml(text, nodes, attrs, strings) else {
-        return 0; // document 01's number and place are in the answer, and every table is zero
+    let Ok(size) = xml::parse_xml(text, nodes, attrs, strings) else {
+        return 0; // document 01's number and place are in the refusal, and every table is zero
     };
-    match xml::find_element(nodes, strings, 0, n, b"tt") {
-        Found::Row(k) => xml::element_at(nodes, k).many,
-        Found::Nothing => 0,
+    match xml::find_element(nodes, strings, 0, size.nodes, b"tt") {
+        Some(k) => xml::element_at(nodes, k).many,
+        None => 0,
     }
 }

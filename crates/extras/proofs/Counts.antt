@@ -4,6 +4,7 @@
 --     first-nothing            no row is found: there is none
 --     regroup                  the strings of an element and of its later siblings, as two lists
 --     attrs-few, attrs-apart   no more attributes stand in it than in all; nor in two of different names
+use Rattle.std.specs.Prelude.{Some, None}
 use Prim.Native.Nat.{ℕ, ◌+◌, ◌≤◌}
 use mathlib.Core.Path.{◌≡◌, refl, sym, ◌∙◌}
 use mathlib.Core.Bool.{true, false}
@@ -15,7 +16,6 @@ use Rattle.scan.specs.Part.{string_at}
 use Rattle.scan.proofs.Every.{by-test}
 use Rattle.tree.specs.Trees.{Attr, Forest, nil, text, section, elem, size, attrs_of, Span, attr_spans, spans, InOrder}
 use Rattle.tree.proofs.Places.{in_lower, in_first, in_rest}
-use Rattle.scan.specs.declared.table.Found.TheVariants.{Row, Nothing}
 use Rattle.xml.specs.Find.{named, Holds, find_row}
 use Rattle.xml.specs.Reading.{Placed}
 use Rattle.xml.proofs.FindLaws.{holds_text, holds_section, holds_elem, holds_alone}
@@ -40,7 +40,7 @@ pub record First (t u z name : List ℕ) (i : ℕ) (f : Forest) (k : ℕ) : Type
   pub many : attrs_named z name f ≡ length attrs + length (attrs_of content)
   pub placed : (lo hi : ℕ) → InOrder lo (spans f) hi → InOrder lo (spans (elem place len attrs content nil)) hi
 
-never : {A : Type 0} {k : ℕ} → Row k ≡ Nothing → A
+never : {A : Type 0} {k : ℕ} → Some k ≡ None → A
 never e = absurd (let z : ◌≡◌ {A = ℕ} 0 1 = cc in omega arith)
 
 pub named-same : (name : List ℕ) (x : Placed) → nodes.named with_places name x ≡ named name x.bytes
@@ -85,7 +85,7 @@ alone p n l c f lo hi o = (
   in_first (attr_spans l ++ (spans c ++ [])) (spans f) (p + 1 + n) hi (rw (← (regroup (attr_spans l) (spans c) (spans f))) o.1),
 )
 
-pub first_found : {t u z name : List ℕ} {i a k : ℕ} (f : Forest) → Holds t u z i a f → find_row z name i f ≡ Row k → First t u z name i f k
+pub first_found : {t u z name : List ℕ} {i a k : ℕ} (f : Forest) → Holds t u z i a f → find_row z name i f ≡ Some k → First t u z name i f k
 unfolding find_row first_element nodes_in attrs_named size spans
 first_found nil h e = never (sym e)
 first_found {t = t} {u = u} {z = z} {name = name} {i = i} {a = a} {k = k} (text p n f) h e =
@@ -94,7 +94,7 @@ first_found {t = t} {u = u} {z = z} {name = name} {i = i} {a = a} {k = k} (secti
     first-later (omega arith) (omega arith) refl refl (λ lo hi o. after_one p n lo hi (spans f) o.0 o.1)
     (first_found {i = i + 1} f (holds_section h).later e)
 first_found {t} {u} {z} {name} {i} {a} {k} (elem p n l c f) h e =
-    let r : find_row z name (i + 1 + size c) f ≡ Row k → First t u z name (i + 1 + size c) f k = first_found {i = i + 1 + size c} f (holds_elem h).later in
+    let r : find_row z name (i + 1 + size c) f ≡ Some k → First t u z name (i + 1 + size c) f k = first_found {i = i + 1 + size c} f (holds_elem h).later in
     by-test (named name (string_at z (p + 1) n)) here
     (λ w. first-later (omega arith) (omega arith) (rw (named-same name its, w)) (rw w) (after-elem p n l c f) (r (rw w at e)))
   where
@@ -103,7 +103,7 @@ first_found {t} {u} {z} {name} {i} {a} {k} (elem p n l c f) h e =
 
     here : named name (string_at z (p + 1) n) ≡ true → First t u z name i (elem p n l c f) k
     here w =
-        let j : Row i ≡ Row k = rw w at e in
+        let j : Some i ≡ Some k = rw w at e in
         let v : i ≡ k = cc in
         rw (← v) (record {
           place = p;
@@ -119,14 +119,14 @@ first_found {t} {u} {z} {name} {i} {a} {k} (elem p n l c f) h e =
           placed = alone p n l c f;
         })
 
-pub first-nothing : (z name : List ℕ) (i : ℕ) (f : Forest) → find_row z name i f ≡ Nothing → first_element with_places name (nodes_in z f) ≡ none
+pub first-nothing : (z name : List ℕ) (i : ℕ) (f : Forest) → find_row z name i f ≡ None → first_element with_places name (nodes_in z f) ≡ none
 unfolding find_row first_element nodes_in
 first-nothing z name i nil e = refl
 first-nothing z name i (text p n f) e = first-nothing z name (i + 1) f e
 first-nothing z name i (section p n f) e = first-nothing z name (i + 1) f e
 first-nothing z name i (elem p n l c f) e =
     let j : ℕ = i + 1 + size c in
-    let r : find_row z name j f ≡ Nothing → first_element with_places name (nodes_in z f) ≡ none = first-nothing z name j f in
+    let r : find_row z name j f ≡ None → first_element with_places name (nodes_in z f) ≡ none = first-nothing z name j f in
     let s = named-same name (record { place = p + 1; bytes = string_at z (p + 1) n }) in
     by-test (named name (string_at z (p + 1) n)) (λ w. never (rw w at e)) (λ w. rw (s, w) (r (rw w at e)))
 

@@ -1,8 +1,10 @@
 -- Extras, one name after the other. Assumes nothing.
---     entry_none, entry_kept, entry-extra, is-align, no_align     the extra of one name
+--     entry_none, entry_kept, found_if, kept_if, entry-extra, is-align, no_align     the extra of one name
 --     Kept, kept_start, kept_on, kept_all     one turn of `keep_all`; no entries, no extras
 --     few_extras, kept_room, room_for, long_after    no more of them than attributes, so that each row is in the table
 --     lists_from                              where they stand
+use Rattle.std.specs.Prelude.{Option, Some, None}
+use Rattle.std.specs.Bool.{then_some}
 use Prim.Native.Nat.{ℕ, zero, suc, ◌+◌, ◌-◌, ◌*◌, ◌≤◌, ◌<◌, ◌^◌}
 use mathlib.Core.Path.{◌≡◌, refl, sym, ap, ◌∙◌}
 use mathlib.Core.Bool.{Bool, true, false, cond, true≢false}
@@ -34,7 +36,6 @@ use Rattle.meaning.specs.Kinds.{with_places, attrs_in}
 use Rattle.track.specs.Track.{Extra}
 use Rattle.meaning.specs.Styling.{extra_of_style, extra_if, extras_from}
 use Rattle.xml.specs.declared.find.Attribute.{Attribute}
-use Rattle.xml.specs.declared.find.Value.{Value}
 use Rattle.xml.proofs.AttrRows.{row-cells}
 use Rattle.styling.specs.Posts.{value_in_of, FoundFits}
 use Rattle.extras.specs.Kept.{wanted_by, extras_of, kept_in, kept_cells, kept_count, RoomFor, placed_cells, Collected, rows_from, Lists}
@@ -54,6 +55,15 @@ module _ (u z : List ℕ) (list : Listed) (i c : ℕ) where
       → wanted_by list (name_of list i) (string_at z h.place h.len) ≡ b
       → entry_extra u z list i c ≡ cond b (record { number = i; value = value_in_of z h } ∷ []) []
   entry_kept e h y b w = let r = row-cells u (c - 1) y in rw (ne_eqb c 0 e, ← r.1, ← r.2, w)
+
+module _ (z : List ℕ) (i : ℕ) (h : Attribute) where
+  pub found_if : h.place + h.len ≤ length z → (b : Bool) → FoundFits z (then_some b h)
+  found_if f true = f
+  found_if f false = tt
+
+  pub kept_if : (b : Bool) → cond b (record { number = i; value = value_in_of z h } ∷ []) [] ≡ kept_in z i (then_some b h)
+  kept_if true = refl
+  kept_if false = refl
 
 pub entry-extra : (u z rows : List ℕ) (list : Listed) (l : List (Attr Placed)) (i : ℕ) {xs : List (Extra Placed)} → FirstRows u z list rows l
     → i < length (names list) → entry_extra u z list i (get_or rows i 0) ≡ xs → extra_of list i l ≡ xs
@@ -85,17 +95,17 @@ unfolding placed_cells
 cells-long [] = refl
 cells-long (x ∷ a) = omega (arith, cells-long a)
 
-cells-kept : (z : List ℕ) (i : ℕ) (f : Value) → FoundFits z f → placed_cells (kept_in z i f) ≡ kept_cells i f
+cells-kept : (z : List ℕ) (i : ℕ) (f : Option Attribute) → FoundFits z f → placed_cells (kept_in z i f) ≡ kept_cells i f
 unfolding placed_cells
-cells-kept z i (Value.At h) w =
+cells-kept z i (Some h) w =
     let e : length (string_at z h.place h.len) ≡ h.len =
     ap length (string_is z h.place h.len) ∙ omega (arith, length-take h.len (drop h.place z), length-drop h.place z) in
     rw e
-cells-kept z i Value.Absent w = refl
+cells-kept z i None w = refl
 
-count_kept : (z : List ℕ) (i : ℕ) (f : Value) → length (kept_in z i f) ≡ kept_count f
-count_kept z i (Value.At h) = refl
-count_kept z i Value.Absent = refl
+count_kept : (z : List ℕ) (i : ℕ) (f : Option Attribute) → length (kept_in z i f) ≡ kept_count f
+count_kept z i (Some h) = refl
+count_kept z i None = refl
 
 -- ---- name after name
 -- where there are no entries from the i-th name on, there are no extras
@@ -129,7 +139,7 @@ module _ {list : Listed} {l : List (Attr Placed)} {i n k : ℕ} {t t' : List ℕ
       let rest = extras_from with_places (wanted_by list) (suc i) (drop (suc i) (names list)) l in
       rw (add-one i) (x.is ∙ rw (drop-cons (names list) i [] h) (sym (append_assoc x.done (extra_of list i l) rest)))
 
-  pub kept_on : i < length (names list) → (z : List ℕ) (f : Value) → FoundFits z f → extra_of list i l ≡ kept_in z i f → (r : ℕ) → r ≡ kept_count f
+  pub kept_on : i < length (names list) → (z : List ℕ) (f : Option Attribute) → FoundFits z f → extra_of list i l ≡ kept_in z i f → (r : ℕ) → r ≡ kept_count f
       → (t'' : List ℕ) → t'' ≡ sets t' ((k + n) * 3) (kept_cells i f) → Kept list l (i + 1) (n + r) k t t''
   kept_on h z f w e r c t'' s =
       let at : (k + n) * 3 ≡ k * 3 + length (placed_cells x.done) = omega (arith, cells-long x.done, x.count) in
@@ -169,17 +179,17 @@ few_extras {z = z} list {l} y =
     omega (arith, extras_fit with_places (wanted_by list) 0 (names list) (distinct_names list) (attrs_in z l), as_many z l, y.count)
 
 pub kept_room : {list : Listed} {l : List (Attr Placed)} {i n k : ℕ} {t t' : List ℕ} (x : Kept list l i n k t t') → i < length (names list)
-    → (z : List ℕ) (f : Value) → extra_of list i l ≡ kept_in z i f → n + kept_count f ≤ length (extras_of list l)
+    → (z : List ℕ) (f : Option Attribute) → extra_of list i l ≡ kept_in z i f → n + kept_count f ≤ length (extras_of list l)
 kept_room {list = list} {l} {i} x h z f e =
     let rest = extras_from with_places (wanted_by list) (i + 1) (drop (i + 1) (names list)) l in
     let w = ap length (rw e at (next x h)) in
     let a = length-append (x.done ++ kept_in z i f) rest in
     omega (arith, w, x.count, count_kept z i f, a, length-append x.done (kept_in z i f))
 
-pub room_for : (list : Listed) (z t : List ℕ) (at many n i : ℕ) (f : Value) → FoundFits z f → length z < 2 ^ 32 → i < length (names list)
+pub room_for : (list : Listed) (z t : List ℕ) (at many n i : ℕ) (f : Option Attribute) → FoundFits z f → length z < 2 ^ 32 → i < length (names list)
     → (at + many) * 3 ≤ length t → n + kept_count f ≤ many → RoomFor t (at + n) i f
-room_for list z t at many n i (Value.At h) w s b r c = (omega arith, omega (arith, few_names list), omega arith, omega arith)
-room_for list z t at many n i Value.Absent w s b r c = tt
+room_for list z t at many n i (Some h) w s b r c = (omega arith, omega (arith, few_names list), omega arith, omega arith)
+room_for list z t at many n i None w s b r c = tt
 
 pub long_after : (t t' : List ℕ) (at m : ℕ) (w : List ℕ) → t' ≡ sets t at w → length t ≡ m → length t' ≡ m
 long_after t t' at m w e h = ap length e ∙ (length-sets t at w ∙ h)

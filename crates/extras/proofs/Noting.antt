@@ -2,6 +2,8 @@
 --     Noted, noted-start, noted-on, noted-all    one turn of `first_rows`
 --     fits_on, number_fits, all_zero             its entries stand in the tables
 --     few_names, number-below, number-under, none-on   and end where it says
+use Rattle.std.specs.Prelude as rust
+use Rattle.std.specs.Prelude.{Some, None}
 use Prim.Native.Nat.{ℕ, ◌+◌, ◌-◌, ◌≤◌, ◌<◌}
 use mathlib.Core.Path.{◌≡◌, refl, sym, ap, ◌∙◌}
 use mathlib.Core.Bool.{Bool, true, false, cond, true≢false}
@@ -16,7 +18,6 @@ use Rattle.scan.specs.Names.{same_folded}
 use Rattle.scan.specs.Part.{string_at}
 use Rattle.scan.proofs.Every.{by-test}
 use Rattle.names.specs.declared.tables.Listed.{Listed}
-use Rattle.names.specs.declared.lookup.Number.{Number}
 use Rattle.names.specs.Lists.{names, name_of}
 use Rattle.names.specs.Numbers.{name_number}
 use Rattle.names.proofs.Entries.{at_eq, nothing-at, not_so}
@@ -48,10 +49,10 @@ noted-start list y w = record { rest = rest-start y; is = λ i h. rw (w i) }
 -- ---- one attribute
 -- its name is the i-th exactly if i is its number
 module _ (list : Listed) (s : List ℕ) where
-  other : name_number list s ≡ Number.Nothing → (i : ℕ) → i < length (names list) → same_folded s (name_of list i) ≡ false
+  other : name_number list s ≡ None → (i : ℕ) → i < length (names list) → same_folded s (name_of list i) ≡ false
   other e i h = not_so (same_folded s (name_of list i)) (λ g. nothing-at (sym e ∙ folded_number list i h s g))
 
-  same : (i j : ℕ) → name_number list s ≡ Number.At j → i < length (names list) → same_folded s (name_of list i) ≡ true → i ≡ j
+  same : (i j : ℕ) → name_number list s ≡ Some j → i < length (names list) → same_folded s (name_of list i) ≡ true → i ≡ j
   same i j e h g = at_eq (sym (folded_number list i h s g) ∙ e)
 
 -- the value of a name, the first attribute being in row k
@@ -72,10 +73,10 @@ module _ (list : Listed) (u z rows : List ℕ) (k : ℕ) (w : Option Placed) (i 
   abbrev before : Option Placed
   before = noted u z (get_or rows i 0) (cond here (some (value_at u z k)) w)
 
-  kept : (number : Number) → number ≡ name_number list (name_at u z k) → NumberFits rows number
+  kept : (number : rust.Option ℕ) → number ≡ name_number list (name_at u z k) → NumberFits rows number
       → before ≡ noted u z (get_or (with_note rows number (k + 1)) i 0) w
-  kept Number.Nothing e f = rw (other list (name_at u z k) (sym e) i h)
-  kept (Number.At j) e f = by-test (eqb (get_or rows j 0) 0) new old
+  kept None e f = rw (other list (name_at u z k) (sym e) i h)
+  kept (Some j) e f = by-test (eqb (get_or rows j 0) 0) new old
     where
       mine : here ≡ true → i ≡ j
       mine g = same list (name_at u z k) i j (sym e) h g
@@ -89,18 +90,18 @@ module _ (list : Listed) (u z rows : List ℕ) (k : ℕ) (w : Option Placed) (i 
       after : k + 1 - 1 ≡ k
       after = omega arith
 
-      new : eqb (get_or rows j 0) 0 ≡ true → before ≡ noted u z (get_or (with_note rows (Number.At j) (k + 1)) i 0) w
+      new : eqb (get_or rows j 0) 0 ≡ true → before ≡ noted u z (get_or (with_note rows (Some j) (k + 1)) i 0) w
       new g =
           let there : get_or (set rows j (k + 1)) j 0 ≡ k + 1 = get_or-set_same rows j (k + 1) 0 f in
           by-test here
           (λ t. let q : i ≡ j = mine t in rw (g, t, q, there, g, ne_eqb (k + 1) 0 (λ v. omega arith), after))
           (λ t. rw (g, t, get_or-set_other rows j i (k + 1) 0 (apart t)))
 
-      old : eqb (get_or rows j 0) 0 ≡ false → before ≡ noted u z (get_or (with_note rows (Number.At j) (k + 1)) i 0) w
+      old : eqb (get_or rows j 0) 0 ≡ false → before ≡ noted u z (get_or (with_note rows (Some j) (k + 1)) i 0) w
       old g = by-test here (λ t. let q : i ≡ j = mine t in rw (g, q, g)) (λ t. rw (g, t))
 
 module _ {list : Listed} {u z rows : List ℕ} {k e : ℕ} {l : List Attr} (x : Noted list u z rows k e l) (h : k < e) where
-  pub noted-on : (number : Number) → number ≡ name_number list (name_at u z k) → NumberFits rows number → (rows' : List ℕ)
+  pub noted-on : (number : rust.Option ℕ) → number ≡ name_number list (name_at u z k) → NumberFits rows number → (rows' : List ℕ)
       → rows' ≡ with_note rows number (k + 1) → Noted list u z rows' (k + 1) e l
   unfolding rest-on
   noted-on number n f rows' r =
@@ -131,23 +132,23 @@ row-of {u = u} {z = z} {k = k} x h =
     λ g. rw v (omega (arith, y.room), rw (y.cells.value-is, y.cells.value-len_is) y.value-fits)
 
 pub fits_on : {list : Listed} {u z rows : List ℕ} {k e : ℕ} {l : List Attr} → Noted list u z rows k e l → k < e → RowsFit u z rows
-    → (number : Number) → NumberFits rows number → (rows' : List ℕ) → rows' ≡ with_note rows number (k + 1) → RowsFit u z rows'
-fits_on {u = u} {z} {rows} {k} x h w Number.Nothing f rows' r = λ i. rw r (w i)
-fits_on {u = u} {z} {rows} {k} x h w (Number.At j) f rows' r = λ i. rw r (by-test (eqb (get_or rows j 0) 0) (λ e. rw e (new i)) (λ e. rw e (w i)))
+    → (number : rust.Option ℕ) → NumberFits rows number → (rows' : List ℕ) → rows' ≡ with_note rows number (k + 1) → RowsFit u z rows'
+fits_on {u = u} {z} {rows} {k} x h w None f rows' r = λ i. rw r (w i)
+fits_on {u = u} {z} {rows} {k} x h w (Some j) f rows' r = λ i. rw r (by-test (eqb (get_or rows j 0) 0) (λ e. rw e (new i)) (λ e. rw e (w i)))
   where
     new : (i : ℕ) → RowFits u z (get_or (set rows j (k + 1)) i 0)
     new i = by-test (eqb i j)
         (λ e. let q : i ≡ j = eqb-true i j e in rw (q, get_or-set_same rows j (k + 1) 0 f) (row-of x h))
         (λ e. rw (get_or-set_other rows j i (k + 1) 0 (eqb-false i j e)) (w i))
 
-pub number_fits : (list : Listed) (s rows : List ℕ) → length (names list) ≤ length rows → (number : Number) → number ≡ name_number list s
+pub number_fits : (list : Listed) (s rows : List ℕ) → length (names list) ≤ length rows → (number : rust.Option ℕ) → number ≡ name_number list s
     → NumberFits rows number
-number_fits list s rows h Number.Nothing e = tt
-number_fits list s rows h (Number.At i) e = omega (arith, (number-name list s i (sym e)).0)
+number_fits list s rows h None e = tt
+number_fits list s rows h (Some i) e = omega (arith, (number-name list s i (sym e)).0)
 
-pub long_note : (rows : List ℕ) (number : Number) (r : ℕ) → length (with_note rows number r) ≡ length rows
-long_note rows (Number.At i) r = by-test (eqb (get_or rows i 0) 0) (λ e. rw e (length-set rows i r)) (λ e. rw e)
-long_note rows Number.Nothing r = refl
+pub long_note : (rows : List ℕ) (number : rust.Option ℕ) (r : ℕ) → length (with_note rows number r) ≡ length rows
+long_note rows (Some i) r = by-test (eqb (get_or rows i 0) 0) (λ e. rw e (length-set rows i r)) (λ e. rw e)
+long_note rows None r = refl
 
 -- ---- where numbers end
 pub few_names : (list : Listed) → length (names list) ≤ 53
@@ -157,18 +158,18 @@ few_names Listed.RegionAttr = leb-true _ _ refl
 few_names Listed.InlineModelled = leb-true _ _ refl
 few_names Listed.Imsc1Extension = leb-true _ _ refl
 
-pub number-below : (list : Listed) (s : List ℕ) (number : Number) → number ≡ name_number list s → NumberBelow (length (names list)) number
-number-below list s Number.Nothing e = tt
-number-below list s (Number.At i) e = (number-name list s i (sym e)).0
+pub number-below : (list : Listed) (s : List ℕ) (number : rust.Option ℕ) → number ≡ name_number list s → NumberBelow (length (names list)) number
+number-below list s None e = tt
+number-below list s (Some i) e = (number-name list s i (sym e)).0
 
-pub number-under : (list : Listed) (s : List ℕ) (number : Number) → number ≡ name_number list s → NumberBelow 53 number
-number-under list s Number.Nothing e = tt
-number-under list s (Number.At i) e = omega (arith, (number-name list s i (sym e)).0, few_names list)
+pub number-under : (list : Listed) (s : List ℕ) (number : rust.Option ℕ) → number ≡ name_number list s → NumberBelow 53 number
+number-under list s None e = tt
+number-under list s (Some i) e = omega (arith, (number-name list s i (sym e)).0, few_names list)
 
-pub none-on : (list : Listed) (rows : List ℕ) (e : ℕ) → NoneFrom list e rows → (number : Number) → NumberBelow (length (names list)) number
+pub none-on : (list : Listed) (rows : List ℕ) (e : ℕ) → NoneFrom list e rows → (number : rust.Option ℕ) → NumberBelow (length (names list)) number
     → (r : ℕ) (e' : ℕ) → e' ≡ past_number number e → (rows' : List ℕ) → rows' ≡ with_note rows number r → NoneFrom list e' rows'
-none-on list rows e w Number.Nothing b r e' q rows' v = rw (q, v) w
-none-on list rows e w (Number.At j) b r e' q rows' v = (
+none-on list rows e w None b r e' q rows' v = rw (q, v) w
+none-on list rows e w (Some j) b r e' q rows' v = (
   rw q within,
   λ i h. rw v (by-test (eqb (get_or rows j 0) 0)
       (λ t. rw (t, get_or-set_other rows j i r 0 (apart i h)) (w.1 i (old i h)))

@@ -1,10 +1,10 @@
 -- Extras and their rows. Definitions alone.
-use Rattle.std.specs.Prelude.{ℕ, ◌+◌, ◌-◌, ◌*◌, ◌≤◌, ◌<◌, ◌^◌, ◌≡◌, Bool, cond, List, [], ◌∷◌, eqb, ltb, length, get_or, set}
+use Rattle.std.specs.Prelude as rust
+use Rattle.std.specs.Prelude.{Some, None, ℕ, ◌+◌, ◌-◌, ◌*◌, ◌≤◌, ◌<◌, ◌^◌, ◌≡◌, Bool, cond, List, [], ◌∷◌, eqb, ltb, length, get_or, set}
 use Rattle.std.proofs.Math.Option.{Option, none, some}
 use Rattle.std.proofs.lemmas.List.Edits.{sets}
 use Rattle.scan.specs.Part.{string_at}
 use Rattle.names.specs.declared.tables.Listed.{Listed}
-use Rattle.names.specs.declared.lookup.Number.{Number}
 use Rattle.names.specs.Lists.{names, name_of}
 use Rattle.track.specs.declared.values.Rows.{Rows}
 use Rattle.xml.specs.Reading.{Placed}
@@ -12,8 +12,8 @@ use Rattle.meaning.specs.Nodes.{Attr, valued}
 use Rattle.meaning.specs.Kinds.{with_places}
 use Rattle.track.specs.Track.{Extra}
 use Rattle.meaning.specs.Styling.{extra_of_style, every_extra, extra_if, extras_from}
-use Rattle.xml.specs.declared.find.Value.{Value}
 use Rattle.styling.specs.Posts.{value_in_of}
+use Rattle.xml.specs.declared.find.Attribute.{Attribute}
 
 -- which of the attributes of a list are kept
 abbrev pub wanted_by : Listed → List ℕ → List ℕ → Bool
@@ -48,22 +48,22 @@ abbrev pub FirstRows : (u z : List ℕ) → Listed → (rows : List ℕ) → Lis
 FirstRows u z list rows l = (i : ℕ) → i < length (names list) → valued with_places (name_of list i) l ≡ noted u z (get_or rows i 0) none
 
 -- r is written where nothing is
-abbrev pub with_note : List ℕ → Number → (r : ℕ) → List ℕ
-with_note rows (Number.At i) r = cond (eqb (get_or rows i 0) 0) (set rows i r) rows
-with_note rows Number.Nothing r = rows
+abbrev pub with_note : List ℕ → rust.Option ℕ → (r : ℕ) → List ℕ
+with_note rows (Some i) r = cond (eqb (get_or rows i 0) 0) (set rows i r) rows
+with_note rows None r = rows
 
-abbrev pub NumberFits : List ℕ → Number → Type 0
-NumberFits rows (Number.At i) = i < length rows
-NumberFits rows Number.Nothing = Unit {0}
+abbrev pub NumberFits : List ℕ → rust.Option ℕ → Type 0
+NumberFits rows (Some i) = i < length rows
+NumberFits rows None = Unit {0}
 
-abbrev pub NumberBelow : ℕ → Number → Type 0
-NumberBelow m (Number.At i) = i < m
-NumberBelow m Number.Nothing = Unit {0}
+abbrev pub NumberBelow : ℕ → rust.Option ℕ → Type 0
+NumberBelow m (Some i) = i < m
+NumberBelow m None = Unit {0}
 
 -- where numbers end that end at e without this one
-abbrev pub past_number : Number → (e : ℕ) → ℕ
-past_number (Number.At i) e = cond (ltb i e) e (i + 1)
-past_number Number.Nothing e = e
+abbrev pub past_number : rust.Option ℕ → (e : ℕ) → ℕ
+past_number (Some i) e = cond (ltb i e) e (i + 1)
+past_number None e = e
 
 -- from number e on there is no entry
 abbrev pub NoneFrom : Listed → (e : ℕ) (rows : List ℕ) → Type 0
@@ -75,23 +75,23 @@ NoneFrom list e rows = (e ≤ length (names list)) × ((i : ℕ) → e ≤ i →
 abbrev pub entry_extra : (u z : List ℕ) → Listed → (i c : ℕ) → List (Extra Placed)
 entry_extra u z list i c = extra_if with_places (wanted_by list) i (name_of list i) (noted u z c none)
 
-abbrev pub kept_in : (z : List ℕ) (i : ℕ) → Value → List (Extra Placed)
-kept_in z i (Value.At h) = record { number = i; value = value_in_of z h } ∷ []
-kept_in z i Value.Absent = []
+abbrev pub kept_in : (z : List ℕ) (i : ℕ) → rust.Option Attribute → List (Extra Placed)
+kept_in z i (Some h) = record { number = i; value = value_in_of z h } ∷ []
+kept_in z i None = []
 
 -- its row
-abbrev pub kept_cells : (i : ℕ) → Value → List ℕ
-kept_cells i (Value.At h) = i ∷ h.place ∷ h.len ∷ []
-kept_cells i Value.Absent = []
+abbrev pub kept_cells : (i : ℕ) → rust.Option Attribute → List ℕ
+kept_cells i (Some h) = i ∷ h.place ∷ h.len ∷ []
+kept_cells i None = []
 
-abbrev pub kept_count : Value → ℕ
-kept_count (Value.At h) = 1
-kept_count Value.Absent = 0
+abbrev pub kept_count : rust.Option Attribute → ℕ
+kept_count (Some h) = 1
+kept_count None = 0
 
 -- there is room for it in row k, and its numbers are small
-abbrev pub RoomFor : (t : List ℕ) (k i : ℕ) → Value → Type 0
-RoomFor t k i (Value.At h) = (k * 3 + 3 ≤ length t) × (i < 2 ^ 32) × (h.place < 2 ^ 32) × (h.len < 2 ^ 32)
-RoomFor t k i Value.Absent = Unit {0}
+abbrev pub RoomFor : (t : List ℕ) (k i : ℕ) → rust.Option Attribute → Type 0
+RoomFor t k i (Some h) = (k * 3 + 3 ≤ length t) × (i < 2 ^ 32) × (h.place < 2 ^ 32) × (h.len < 2 ^ 32)
+RoomFor t k i None = Unit {0}
 
 -- the rows of extras: number, place and length of each
 unfoldable pub placed_cells : List (Extra Placed) → List ℕ

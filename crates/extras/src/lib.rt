@@ -1,5 +1,5 @@
 #![tactic(auto)]
-// Attributes that are kept as they were. An element's attributes are `many` rows of the tree's table from row `first` on.
+// Attributes that are kept as they were.
 mod extras;
 
 pub use extras::{collect_p_inline_extras, collect_region_attrs, collect_style_extras};

@@ -1,6 +1,5 @@
 #![tactic(auto)]
 // All that program `recaption` does, as a function: the gate runs it as two programs, on a film that is taken and on one that is turned away.
-use scan::Written;
 
 // standard input
 const STDIN_FILENO: i32 = 0;
@@ -47,7 +46,7 @@ pub fn run() {
         &mut out,
     );
     // the line of a refusal has at most 32 bytes, and so always fits
-    if let Written::At(n) = printed::print(answer, &mut out) {
+    if let Some(n) = printed::print(answer, &mut out) {
         send(&out[..n]);
     }
 }

@@ -5,6 +5,8 @@
 --     region_taken, region_full                a region with its limit
 --     rows-small, emptied-small                what the writers of rows ask
 --     styled, placed, style_made               what the functions ensure
+use Rattle.std.specs.Prelude as rust
+use Rattle.std.specs.Prelude.{Some, None, Result, Ok, Err}
 use Prim.Native.Nat.{ℕ, suc, ◌+◌, ◌*◌, ◌≤◌, ◌<◌, ◌^◌}
 use mathlib.Core.Path.{◌≡◌, refl, sym, ap, ◌∙◌}
 use mathlib.Core.Bool.{Bool, true, false}
@@ -28,7 +30,6 @@ use Rattle.track.specs.declared.values.Look as declared
 use Rattle.track.specs.Track.{Extra, Look, Style}
 use Rattle.track.specs.Layout.{is_some, size_or, span_cells, rows_cells, optional_cells, color_cells, size_cells, flag_cells, look_cells}
 use Rattle.track.specs.Layout.{style_cells, size_value, region_cells}
-use Rattle.records.specs.declared.cells.Added.{Added}
 use Rattle.records.specs.Posts.{SmallSpan, SmallRows, AddPost, ValuePost}
 use Rattle.xml.specs.Reading.{Placed}
 use Rattle.meaning.specs.Words.{ascii}
@@ -39,7 +40,6 @@ use Rattle.meaning.specs.Styling.{chain_in, color_of, style_of, region_of}
 use Rattle.laid.specs.Laid.{span_of, option_span, color_or, rows_after, laid_look, laid_style, laid_region}
 use Rattle.styling.specs.Posts.{given, span_in, chain_span, look_in_of, turned, style_size, sized_look, backed_look, colored_look, look_answer}
 use Rattle.extras.specs.Kept.{rows_from, Lists}
-use Rattle.heads.specs.declared.styles.Made.{Made}
 use Rattle.heads.specs.Rows.{emptied, style_of_look, Styled, style_within, NamedMade, StyleMade, region_with, region_within}
 use Rattle.heads.specs.Rows as heads
 
@@ -165,14 +165,14 @@ region_row z l id at rows h e =
     ∙ ap (λ x. span_cells (span_of (span_in z id)) ++ rows_cells x) (e ∙ sym (rows-after at (region_with (span_in z id) l).extras))
 
 -- ---- what the writers of rows ensure
-added_row : (w : ℕ) (row t t' : List ℕ) (n : ℕ) (r : Added) → n < 256 → AddPost 256 w row t t' n r → t' ≡ sets t (n * w) row
-added_row w row t t' n (Added.Next m) h x = x.2
-added_row w row t t' n Added.Full h x = absurd (omega (arith, x.0))
+added_row : (w : ℕ) (row t t' : List ℕ) (n : ℕ) (r : rust.Option ℕ) → n < 256 → AddPost 256 w row t t' n r → t' ≡ sets t (n * w) row
+added_row w row t t' n (Some m) h x = x.2
+added_row w row t t' n None h x = absurd (omega (arith, x.0))
 
-added_float : (row t t' : List ℕ) (n : ℕ) (v : Float) (f f' : List Float) (r : Added) → n < 256 → AddPost 256 27 row t t' n r
+added_float : (row t t' : List ℕ) (n : ℕ) (v : Float) (f f' : List Float) (r : rust.Option ℕ) → n < 256 → AddPost 256 27 row t t' n r
     → ValuePost n v f f' r → f' ≡ sets f n (v ∷ [])
-added_float row t t' n v f f' (Added.Next m) h x y = y
-added_float row t t' n v f f' Added.Full h x y = absurd (omega (arith, x.0))
+added_float row t t' n v f f' (Some m) h x y = y
+added_float row t t' n v f f' None h x y = absurd (omega (arith, x.0))
 
 pub rows-small : {xs : List (Extra Placed)} {at : ℕ} {t t' : List ℕ} (r : Rows) → Lists xs at t t' r → (many : ℕ) → r.count ≤ many
     → at + many < 2 ^ 32 → SmallRows r
@@ -191,7 +191,7 @@ module _ (z : List ℕ) (l : List (Attr Placed)) (name c k : Span) (look : decla
 
   pub styled : (t t' : List ℕ) (f f' : List Float) (e e' : List ℕ) → name.place + name.len ≤ length z → c.place + c.len ≤ length z
       → look.family.place + look.family.len ≤ length z → chain_span z c ≡ chain_in with_places (valued with_places (ascii "style") l)
-      → k ≡ emptied c → Lists it.extras at e e' rows → n < 256 → (r : Added)
+      → k ≡ emptied c → Lists it.extras at e e' rows → n < 256 → (r : rust.Option ℕ)
       → AddPost 256 27 (style_cells (record { name = name; chain = k; look = look; extras = rows })) t t' n r
       → ValuePost n (size_value look.has_size look.size) f f' r → Styled it n at t t' f f' e e' rows.count
   unfolding laid_style
@@ -207,7 +207,7 @@ module _ (z : List ℕ) (l : List (Attr Placed)) (name c k : Span) (look : decla
       }
 
 pub placed : (z : List ℕ) (l : List (Attr Placed)) (id : Span) (at : ℕ) (rows : Rows) (n : ℕ) (t t' e e' : List ℕ)
-    → id.place + id.len ≤ length z → Lists (region_with (span_in z id) l).extras at e e' rows → n < 256 → (r : Added)
+    → id.place + id.len ≤ length z → Lists (region_with (span_in z id) l).extras at e e' rows → n < 256 → (r : rust.Option ℕ)
     → AddPost 256 4 (region_cells (record { id = id; extras = rows })) t t' n r
     → heads.Placed (region_with (span_in z id) l) n at t t' e e' rows.count
 placed z l id at rows n t t' e e' a x h r y = record {
@@ -219,7 +219,7 @@ placed z l id at rows n t t' e e' a x h r y = record {
 
 -- with an id
 pub style_made : (id : Placed) (l : List (Attr Placed)) (place n at : ℕ) (t t' : List ℕ) (f f' : List Float) (e e' : List ℕ)
-    → id_of with_places l ≡ some id → (r : Made) → NamedMade id l place n at t t' f f' e e' r → StyleMade l place n at t t' f f' e e' r
-style_made id l place n at t t' f f' e e' h (Made.Row m) x = (id, h, x)
-style_made id l place n at t t' f f' e e' h Made.Skipped x = absurd x
-style_made id l place n at t t' f f' e e' h (Made.Refused r) x = (id, h, x)
+    → id_of with_places l ≡ some id → (r : Result (rust.Option ℕ) Refusal) → NamedMade id l place n at t t' f f' e e' r → StyleMade l place n at t t' f f' e e' r
+style_made id l place n at t t' f f' e e' h (Ok (Some m)) x = (id, h, x)
+style_made id l place n at t t' f f' e e' h (Ok None) x = absurd x
+style_made id l place n at t t' f f' e e' h (Err r) x = (id, h, x)

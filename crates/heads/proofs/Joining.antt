@@ -3,6 +3,7 @@
 --     apart_of                                    an element has one name
 --     asks_styles, asks_regions                   what is asked of the one and then of the other
 --     head_styles, head_regions, head_both        the answer
+use Rattle.std.specs.Prelude.{Ok, Err}
 use Prim.Native.Nat.{ℕ, ◌+◌, ◌≤◌}
 use mathlib.Core.Path.{◌≡◌, refl, sym, ap, ◌∙◌}
 use mathlib.Core.Bool.{true, false, true≢false}
@@ -29,8 +30,6 @@ use Rattle.laid.specs.Laid.{laid_styles, laid_regions, style_extras}
 use Rattle.styling.specs.Posts.{turned}
 use Rattle.extras.proofs.Counts.{attrs-few, attrs-apart}
 use Rattle.heads.specs.declared.collect.Count.{Count}
-use Rattle.heads.specs.declared.collect.Counting.{Counting}
-use Rattle.heads.specs.declared.collect.Heading.{Heading}
 use Rattle.heads.specs.Steps.{in_all, in_styling, in_layout, styles_in, StylesStand, AsksStyles, StylesPost}
 use Rattle.heads.specs.Steps.{regions_in, AsksRegions, RegionsPost, alone, paired, head_of, four, Cleared, AsksHead, HeadPost}
 use Rattle.heads.proofs.Standing.{styles_none, regions_none}
@@ -83,12 +82,12 @@ module _ {t u z : List ℕ} {from end : ℕ} {s r : List ℕ} {f : List Float} {
   }
 
   -- the styles are refused: nothing is said of the tables
-  pub head_styles : (q : Refusal) → StylesPost styles_in in_styling t u z from end s s f f e e (Counting.Refused q)
-      → HeadPost alone in_all t u z from end (four s r f e) (four s r f e) (Heading.Refused q)
+  pub head_styles : (q : Refusal) → StylesPost styles_in in_styling t u z from end s s f f e e (Err q)
+      → HeadPost alone in_all t u z from end (four s r f e) (four s r f e) (Err q)
   head_styles q p n c x = stops (styles_in (nodes_in z x.forest)) _ q (p n (no_styles n c) x)
 
   module _ {s' : List ℕ} {f' : List Float} {e' : List ℕ} (c : Count)
-      (p : StylesPost styles_in in_styling t u z from end s s' f f' e e' (Counting.Is c)) where
+      (p : StylesPost styles_in in_styling t u z from end s s' f f' e e' (Ok c)) where
     pub asks_regions : length e' ≡ length e → AsksRegions in_layout t u z from end c.extras r e'
     asks_regions h =
         let x = p a.lengths (no_styles a.lengths a.cleared) a.children in
@@ -103,17 +102,17 @@ module _ {t u z : List ℕ} {from end : ℕ} {s r : List ℕ} {f : List Float} {
         }
 
     -- the regions are refused
-    pub head_regions : (q : Refusal) → RegionsPost regions_in in_layout t u z from end c.extras r r e' e' (Counting.Refused q)
-        → HeadPost alone in_all t u z from end (four s r f e) (four s r f e) (Heading.Refused q)
+    pub head_regions : (q : Refusal) → RegionsPost regions_in in_layout t u z from end c.extras r r e' e' (Err q)
+        → HeadPost alone in_all t u z from end (four s r f e) (four s r f e) (Err q)
     head_regions q w n k x =
         let y = p n (no_styles n k) x in
         let g = nodes_in z x.forest in
         let both : List (Style Placed) → Answer (List (Style Placed) × List (Region Placed)) = λ ss. regions_in g >>= λ rs. is (ss, rs) in
         goes (styles_in g) both y.all y.means ∙ stops (regions_in g) (λ rs. is (y.all, rs)) q (w n (regions_none k.regions) x)
 
-    pub head_both : (r' e'' : List ℕ) (d : Count) → RegionsPost regions_in in_layout t u z from end c.extras r r' e' e'' (Counting.Is d)
+    pub head_both : (r' e'' : List ℕ) (d : Count) → RegionsPost regions_in in_layout t u z from end c.extras r r' e' e'' (Ok d)
         → HeadPost alone in_all t u z from end (four s r f e) (four s' r' f' e'')
-        (Heading.Is (record { styles = c.rows; regions = d.rows; extras = d.extras }))
+        (Ok (record { styles = c.rows; regions = d.rows; extras = d.extras }))
     head_both r' e'' d w n k x =
         let y = p n (no_styles n k) x in
         let v = w n (regions_none k.regions) x in

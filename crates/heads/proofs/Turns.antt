@@ -4,6 +4,8 @@
 --     along_attrs, along_room                   what is asked of the element in row k
 --     along_passed, along_skipped, along_taken  one turn
 --     along_refused, along_done                 the answer
+use Rattle.std.specs.Prelude as rust
+use Rattle.std.specs.Prelude.{Some, None, Result, Ok, Err}
 use Prim.Native.Nat.{ℕ, ◌+◌, ◌-◌, ◌*◌, ◌≤◌, ◌<◌}
 use mathlib.Core.Path.{◌≡◌, refl, sym, ap, ◌∙◌, subst}
 use mathlib.Core.Bool.{true, false, cond, true≢false}
@@ -30,7 +32,6 @@ use Rattle.meaning.proofs.Laws.{listed-text, listed-other, listed-one}
 use Rattle.meaning.proofs.Within.{any, within-holds}
 use Rattle.laid.specs.Laid.{total}
 use Rattle.styling.specs.Posts.{HasRows, OfRows, turned}
-use Rattle.heads.specs.declared.styles.Made.{Made}
 use Rattle.heads.specs.Steps.{Children, Listing}
 use Rattle.heads.proofs.Cells.{bind_assoc}
 
@@ -64,13 +65,13 @@ module _ {A : Type 0} (name : List ℕ) (make : Placed → List (Attr Placed) �
       omega (arith, w.holds x e)
 
   -- An element of `many` attributes l, after n others whose extras end at row `at`. Those stood as `Stood` says, and stand with it as `Stood'` says.
-  abbrev pub Turn : (rows n at : ℕ) (Stood Stood' : List A → Type 0) (many place : ℕ) → List (Attr Placed) → Made → Type 0
-  Turn rows n at Stood Stood' many place l (Made.Row m) =
+  abbrev pub Turn : (rows n at : ℕ) (Stood Stood' : List A → Type 0) (many place : ℕ) → List (Attr Placed) → Result (rust.Option ℕ) Refusal → Type 0
+  Turn rows n at Stood Stood' many place l (Ok (Some m)) =
       (id : Placed) × (id_of with_places l ≡ some id)
       × ((x : A) × (one_of id l place n ≡ is x) × (m ≡ extras x) × (m ≤ many)
       × ((d : List A) → length d ≡ n → at ≡ rows + total extras d → Stood d → Stood' (d ++ (x ∷ []))))
-  Turn rows n at Stood Stood' many place l Made.Skipped = (id_of with_places l ≡ none) × ((d : List A) → Stood d → Stood' d)
-  Turn rows n at Stood Stood' many place l (Made.Refused q) = (id : Placed) × (id_of with_places l ≡ some id) × (one_of id l place n ≡ turned q)
+  Turn rows n at Stood Stood' many place l (Ok None) = (id_of with_places l ≡ none) × ((d : List A) → Stood d → Stood' d)
+  Turn rows n at Stood Stood' many place l (Err q) = (id : Placed) × (id_of with_places l ≡ some id) × (one_of id l place n ≡ turned q)
 
   -- the siblings f are read up to row k: n of them are listed, with their extras in rows `rows` up to `at`, and stand as `Stood` says
   pub record Along (t u z : List ℕ) (end rows : ℕ) (f : Forest) (k n at : ℕ) (Stood : List A → Type 0) : Type 0 where
@@ -311,10 +312,10 @@ module _ {A : Type 0} {name : List ℕ} {make : Placed → List (Attr Placed) �
 
       -- ---- what it gives
       module _ (Stood' : List A → Type 0) where
-        abbrev TurnBy : Element → Made → Type 0
+        abbrev TurnBy : Element → Result (rust.Option ℕ) Refusal → Type 0
         TurnBy v r = OfRows u z v.first v.many (λ l. Turn name make extras rows n at Stood Stood' v.many v.place l r)
 
-        its_turn : (r : Made) → TurnBy e r
+        its_turn : (r : Result (rust.Option ℕ) Refusal) → TurnBy e r
             → Turn name make extras rows n at Stood Stood' (length the.attrs) the.place (attrs_in z the.attrs) r
         its_turn r y = subst (λ (v : Element). TurnBy v r) (row ∙ its_row) y the.attrs (holds_elem the.holds).owned
 
@@ -322,16 +323,16 @@ module _ {A : Type 0} {name : List ℕ} {make : Placed → List (Attr Placed) �
             → its_id_lem name make extras z n the.place the.len the.attrs the.content the.later ≡ o
         its_id o q = id_is name make extras z n the.place the.len the.attrs the.content the.later the.matches o q
 
-        pub along_skipped : TurnBy e Made.Skipped → AlongAt (get_or t (k * 6 + 1) 0) n at Stood'
+        pub along_skipped : TurnBy e (Ok None) → AlongAt (get_or t (k * 6 + 1) 0) n at Stood'
         along_skipped y =
-            let a = its_turn Made.Skipped y in
+            let a = its_turn (Ok None) y in
             let q = other-is name make extras z n the.place the.len the.attrs the.content the.later (its_id none a.0) in
             on_none (length the.attrs) (gives-on [] (none-listed name make extras z n _ the.later q)) Stood' (a.1 x.done x.stood)
 
-        pub along_taken : (m : ℕ) → TurnBy e (Made.Row m) → AlongAt (get_or t (k * 6 + 1) 0) (n + 1) (at + m) Stood'
+        pub along_taken : (m : ℕ) → TurnBy e (Ok (Some m)) → AlongAt (get_or t (k * 6 + 1) 0) (n + 1) (at + m) Stood'
         unfolding total
         along_taken m y =
-            let a = its_turn (Made.Row m) y in
+            let a = its_turn (Ok (Some m)) y in
             let b = a.2 in
             let q = taken_is name make extras z n the.place the.len the.attrs the.content the.later a.0
             (its_id (some a.0) a.1) b.0 b.1 in
@@ -340,9 +341,9 @@ module _ {A : Type 0} {name : List ℕ} {make : Placed → List (Attr Placed) �
             on (n + 1) (at + m) m (length the.attrs) (b.0 ∷ []) (gives-on (b.0 ∷ []) q) refl refl many b.3 (omega (arith, few)) Stood'
             (b.4 x.done (sym x.count) x.kept x.stood)
 
-        pub along_refused : (q : Refusal) → TurnBy e (Made.Refused q) → listed_in 0 f ≡ turned q
+        pub along_refused : (q : Refusal) → TurnBy e (Err q) → listed_in 0 f ≡ turned q
         along_refused q y =
-            let a = its_turn (Made.Refused q) y in
+            let a = its_turn (Err q) y in
             let b = refused-is name make extras z n the.place the.len the.attrs the.content the.later a.0
             (its_id (some a.0) a.1) q a.2 in
             x.means ∙ ap (λ (v : Answer (List A)). v >>= λ more. is (x.done ++ more)) (ap (listed_in n) the.is ∙ b)

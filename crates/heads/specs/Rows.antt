@@ -1,5 +1,5 @@
 -- How a style and a region of the head stand in their tables. Definitions alone.
-use Rattle.std.specs.Prelude.{ℕ, ◌+◌, ◌*◌, ◌≡◌, cond, List, [], ◌∷◌, eqb, length, Float}
+use Rattle.std.specs.Prelude.{Option, Some, None, Result, Ok, Err, ℕ, ◌+◌, ◌*◌, ◌≡◌, cond, List, [], ◌∷◌, eqb, length, Float}
 use Rattle.std.proofs.Math.Option.{none, some}
 use Rattle.std.proofs.lemmas.List.Edits.{sets}
 use Rattle.names.specs.Lists.{style_extra, region_attr}
@@ -15,7 +15,7 @@ use Rattle.meaning.specs.Styling.{chain_in, extra_of_style, every_extra, extras_
 use Rattle.laid.specs.Laid.{laid_style, laid_region}
 use Rattle.styling.specs.Posts.{turned}
 use Rattle.extras.specs.Kept.{placed_cells}
-use Rattle.heads.specs.declared.styles.Made.{Made}
+use Rattle.tree.specs.declared.answers.Refusal.{Refusal}
 
 -- a string without bytes is absent: place 0
 abbrev pub emptied : Span → Span
@@ -42,19 +42,21 @@ pub record Styled (s : Style xml.Placed) (n at : ℕ) (t t' : List ℕ) (f f' : 
 abbrev pub style_within : (id : xml.Placed) → List (Attr xml.Placed) → (place n : ℕ) → Answer (Style xml.Placed)
 style_within id l place n = style_of with_places id l >>= λ s. within 256 (n + 1) place s
 
-abbrev pub NamedMade : (id : xml.Placed) → List (Attr xml.Placed) → (place n at : ℕ) → (t t' : List ℕ) (f f' : List Float) (e e' : List ℕ) → Made
+abbrev pub NamedMade : (id : xml.Placed) → List (Attr xml.Placed) → (place n at : ℕ) → (t t' : List ℕ) (f f' : List Float) (e e' : List ℕ)
+    → Result (Option ℕ) Refusal
     → Type 0
-NamedMade id l place n at t t' f f' e e' (Made.Row m) =
+NamedMade id l place n at t t' f f' e e' (Ok (Some m)) =
     (s : Style xml.Placed) × (style_within id l place n ≡ is s) × Styled s n at t t' f f' e e' m
-NamedMade id l place n at t t' f f' e e' Made.Skipped = ⊥
-NamedMade id l place n at t t' f f' e e' (Made.Refused r) = (style_within id l place n ≡ turned r) × (t' ≡ t) × (f' ≡ f) × (e' ≡ e)
+NamedMade id l place n at t t' f f' e e' (Ok None) = ⊥
+NamedMade id l place n at t t' f f' e e' (Err r) = (style_within id l place n ≡ turned r) × (t' ≡ t) × (f' ≡ f) × (e' ≡ e)
 
-abbrev pub StyleMade : List (Attr xml.Placed) → (place n at : ℕ) → (t t' : List ℕ) (f f' : List Float) (e e' : List ℕ) → Made → Type 0
-StyleMade l place n at t t' f f' e e' (Made.Row m) =
-    (id : xml.Placed) × (id_of with_places l ≡ some id) × NamedMade id l place n at t t' f f' e e' (Made.Row m)
-StyleMade l place n at t t' f f' e e' Made.Skipped = (id_of with_places l ≡ none) × (t' ≡ t) × (f' ≡ f) × (e' ≡ e)
-StyleMade l place n at t t' f f' e e' (Made.Refused r) =
-    (id : xml.Placed) × (id_of with_places l ≡ some id) × NamedMade id l place n at t t' f f' e e' (Made.Refused r)
+abbrev pub StyleMade : List (Attr xml.Placed) → (place n at : ℕ) → (t t' : List ℕ) (f f' : List Float) (e e' : List ℕ)
+    → Result (Option ℕ) Refusal → Type 0
+StyleMade l place n at t t' f f' e e' (Ok (Some m)) =
+    (id : xml.Placed) × (id_of with_places l ≡ some id) × NamedMade id l place n at t t' f f' e e' (Ok (Some m))
+StyleMade l place n at t t' f f' e e' (Ok None) = (id_of with_places l ≡ none) × (t' ≡ t) × (f' ≡ f) × (e' ≡ e)
+StyleMade l place n at t t' f f' e e' (Err r) =
+    (id : xml.Placed) × (id_of with_places l ≡ some id) × NamedMade id l place n at t t' f f' e e' (Err r)
 
 -- ---- a region
 abbrev pub region_with : (id : xml.Placed) → List (Attr xml.Placed) → Region xml.Placed
@@ -68,10 +70,10 @@ pub record Placed (s : Region xml.Placed) (n at : ℕ) (t t' : List ℕ) (e e' :
 abbrev pub region_within : (id : xml.Placed) → List (Attr xml.Placed) → (place n : ℕ) → Answer (Region xml.Placed)
 region_within id l place n = region_of with_places id l >>= λ s. within 256 (n + 1) place s
 
-abbrev pub RegionMade : List (Attr xml.Placed) → (place n at : ℕ) → (t t' : List ℕ) (e e' : List ℕ) → Made → Type 0
-RegionMade l place n at t t' e e' (Made.Row m) =
+abbrev pub RegionMade : List (Attr xml.Placed) → (place n at : ℕ) → (t t' : List ℕ) (e e' : List ℕ) → Result (Option ℕ) Refusal → Type 0
+RegionMade l place n at t t' e e' (Ok (Some m)) =
     (id : xml.Placed) × (id_of with_places l ≡ some id)
     × ((s : Region xml.Placed) × (region_within id l place n ≡ is s) × Placed s n at t t' e e' m)
-RegionMade l place n at t t' e e' Made.Skipped = (id_of with_places l ≡ none) × (t' ≡ t) × (e' ≡ e)
-RegionMade l place n at t t' e e' (Made.Refused r) =
+RegionMade l place n at t t' e e' (Ok None) = (id_of with_places l ≡ none) × (t' ≡ t) × (e' ≡ e)
+RegionMade l place n at t t' e e' (Err r) =
     (id : xml.Placed) × (id_of with_places l ≡ some id) × (region_within id l place n ≡ turned r) × (t' ≡ t) × (e' ≡ e)

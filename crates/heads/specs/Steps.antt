@@ -1,5 +1,5 @@
 -- What the readers of the head ask and ensure. This file need not be believed: `parse` promises what is left in the end.
-use Rattle.std.specs.Prelude.{ℕ, ◌+◌, ◌≤◌, ◌<◌, ◌^◌, ◌≡◌, List, [], length, replicate, Float}
+use Rattle.std.specs.Prelude.{Result, Ok, Err, ℕ, ◌+◌, ◌≤◌, ◌<◌, ◌^◌, ◌≡◌, List, [], length, replicate, Float}
 use Rattle.tree.specs.Trees.{Forest, size, attrs_of}
 use Rattle.track.specs.Track.{Style, Region}
 use Rattle.track.specs.Tables.{Lengths, zero_float}
@@ -17,9 +17,8 @@ use Rattle.laid.specs.Laid.{laid_styles, laid_regions, total, style_extras, regi
 use Rattle.styling.specs.Posts.{turned}
 use Rattle.extras.specs.Counts.{attrs_named}
 use Rattle.heads.specs.declared.collect.Count.{Count}
-use Rattle.heads.specs.declared.collect.Counting.{Counting}
 use Rattle.heads.specs.declared.collect.Heads.{Heads}
-use Rattle.heads.specs.declared.collect.Heading.{Heading}
+use Rattle.tree.specs.declared.answers.Refusal.{Refusal}
 
 -- ---- siblings
 
@@ -56,9 +55,9 @@ module _ {A : Type 0} (extras : A → ℕ) (m : Answer (List A)) (rows many : �
     pub within : r.extras ≤ rows + many
     pub standing : Standing all
 
-  abbrev pub Outcome : Counting → Type 0
-  Outcome (Counting.Is r) = Listing r
-  Outcome (Counting.Refused q) = m ≡ turned q
+  abbrev pub Outcome : Result Count Refusal → Type 0
+  Outcome (Ok r) = Listing r
+  Outcome (Err q) = m ≡ turned q
 
 -- ---- styles
 
@@ -90,7 +89,7 @@ pub record AsksStyles (many : List ℕ → Forest → ℕ) (t u z : List ℕ) (f
   pub room : many z children.forest ≤ 8192
 
 abbrev pub StylesPost : (m : Nodes Placed → Answer (List (Style Placed))) (many : List ℕ → Forest → ℕ) (t u z : List ℕ) (from end : ℕ)
-    (s s' : List ℕ) (f f' : List Float) (e e' : List ℕ) → Counting → Type 0
+    (s s' : List ℕ) (f f' : List Float) (e e' : List ℕ) → Result Count Refusal → Type 0
 StylesPost m many t u z from end s s' f f' e e' r =
     (n : Lengths) → StylesStand n e [] s f e → (x : Children t u z from end)
     → Outcome extras_of_style (m (nodes_in z x.forest)) 0 (many z x.forest) (λ l. StylesStand n e l s' f' e') r
@@ -122,7 +121,7 @@ pub record AsksRegions (many : List ℕ → Forest → ℕ) (t u z : List ℕ) (
   pub room : rows + many z children.forest ≤ 8192
 
 abbrev pub RegionsPost : (m : Nodes Placed → Answer (List (Region Placed))) (many : List ℕ → Forest → ℕ) (t u z : List ℕ) (from end rows : ℕ)
-    (s s' e e' : List ℕ) → Counting → Type 0
+    (s s' e e' : List ℕ) → Result Count Refusal → Type 0
 RegionsPost m many t u z from end rows s s' e e' r =
     (n : Lengths) → RegionsStand n rows e [] s e → (x : Children t u z from end)
     → Outcome extras_of_region (m (nodes_in z x.forest)) rows (many z x.forest) (λ l. RegionsStand n rows e l s' e') r
@@ -187,15 +186,15 @@ pub record Headed (n : Lengths) (f : Nodes Placed) (many : ℕ) (T : HeadTables)
   pub in_extras : T.extras
       ≡ placing.region_extras (placing.style_extras (replicate n.extras 0) (laid_styles 0 styles)) (laid_regions (style_extras styles) regions)
 
-abbrev pub HeadOutcome : Lengths → Nodes Placed → (many : ℕ) → HeadTables → Heading → Type 0
-HeadOutcome n f many T (Heading.Is r) = Headed n f many T r
-HeadOutcome n f many T (Heading.Refused q) = head_of f ≡ turned q
+abbrev pub HeadOutcome : Lengths → Nodes Placed → (many : ℕ) → HeadTables → Result Heads Refusal → Type 0
+HeadOutcome n f many T (Ok r) = Headed n f many T r
+HeadOutcome n f many T (Err q) = head_of f ≡ turned q
 
 -- Of the nodes f that stand there, `content f` is the head's content: they themselves, or what stands in the first head.
 abbrev pub alone : Nodes Placed → Nodes Placed
 alone f = f
 
 abbrev pub HeadPost : (content : Nodes Placed → Nodes Placed) (many : List ℕ → Forest → ℕ) (t u z : List ℕ) (from end : ℕ) (T T' : HeadTables)
-    → Heading → Type 0
+    → Result Heads Refusal → Type 0
 HeadPost content many t u z from end T T' r =
     (n : Lengths) → Cleared n T → (x : Children t u z from end) → HeadOutcome n (content (nodes_in z x.forest)) (many z x.forest) T' r

@@ -2,9 +2,8 @@
 ghost use Rattle.heads.specs.Steps.{in_all, in_styling, in_layout, in_head_of, listed_styles, styles_in, AsksStyles, StylesPost};
 ghost use Rattle.heads.specs.Steps.{listed_regions, regions_in, AsksRegions, RegionsPost, alone, inside_head, four, AsksHead, HeadPost};
 
-use crate::styles::Made;
 use tree::{NODE_CELLS, Refusal};
-use xml::Found;
+use xml::Tree;
 
 // Rows of a table, and rows of extras up to and with theirs.
 #[derive(Clone, Copy)]
@@ -13,91 +12,70 @@ pub struct Count {
     pub extras: usize,
 }
 
-#[derive(Clone, Copy)]
-pub enum Counting {
-    Is(Count),
-    Refused(Refusal),
-}
-
 // The styles among the siblings in the rows from `from` up to `end`.
 fn collect_styles(
-    nodes: &[u32],
-    attrs: &[u32],
-    strings: &[u8],
+    tree: &Tree<'_>,
     from: usize,
     end: usize,
     styles: &mut [u32],
     sizes: &mut [f32],
     extras: &mut [u32],
-) -> Counting
-    requires { AsksStyles in_all nodes.now attrs.now strings.now from end styles.old sizes.old extras.old }
-    ensures { StylesPost listed_styles in_all nodes.now attrs.now strings.now from end
+) -> Result<Count, Refusal>
+    requires { AsksStyles in_all tree.now.nodes.now tree.now.attrs.now tree.now.strings.now from end styles.old sizes.old extras.old }
+    ensures { StylesPost listed_styles in_all tree.now.nodes.now tree.now.attrs.now tree.now.strings.now from end
         styles.old styles.new sizes.old sizes.new extras.old extras.new result }
 {
     let mut n = 0;
     let mut at = 0;
     let mut k = from;
     while k < end {
-        if xml::is_element(nodes, strings, k, b"style") {
-            let e = xml::element_at(nodes, k);
-            match crate::styles::build_style(
-                attrs, strings, e.first, e.many, e.place, styles, sizes, n, extras, at,
-            ) {
-                Made::Row(m) => {
-                    n += 1;
-                    at += m;
-                }
-                Made::Skipped => {}
-                Made::Refused(r) => {
-                    return Counting::Refused(r);
-                }
+        if xml::is_element(tree.nodes, tree.strings, k, b"style") {
+            let e = xml::element_at(tree.nodes, k);
+            let attrs = tree.attributes(e);
+            let made = crate::styles::build_style(&attrs, e.place, styles, sizes, n, extras, at)?;
+            if let Some(m) = made {
+                n += 1;
+                at += m;
             }
         }
-        k = scan::get(nodes, k * NODE_CELLS + 1);
+        k = scan::get(tree.nodes, k * NODE_CELLS + 1);
     }
-    Counting::Is(Count {
+    Ok(Count {
         rows: n,
         extras: at,
     })
 }
 
-// The regions among the siblings in the rows from `from` up to `end`, where `rows` extras stand.
+// The regions among the siblings in the rows from `from` up to `end`, where `rows` extras stand. (One function for both would take the step,
+// its tables and their clauses as parameters, which reads no plainer.)
 fn collect_regions(
-    nodes: &[u32],
-    attrs: &[u32],
-    strings: &[u8],
+    tree: &Tree<'_>,
     from: usize,
     end: usize,
     regions: &mut [u32],
     extras: &mut [u32],
     rows: usize,
-) -> Counting
-    requires { AsksRegions in_all nodes.now attrs.now strings.now from end rows regions.old extras.old }
-    ensures { RegionsPost listed_regions in_all nodes.now attrs.now strings.now from end rows
+) -> Result<Count, Refusal>
+    requires { AsksRegions in_all tree.now.nodes.now tree.now.attrs.now tree.now.strings.now from end rows regions.old extras.old }
+    ensures { RegionsPost listed_regions in_all tree.now.nodes.now tree.now.attrs.now tree.now.strings.now from end rows
         regions.old regions.new extras.old extras.new result }
 {
     let mut n = 0;
     let mut at = rows;
     let mut k = from;
     while k < end {
-        if xml::is_element(nodes, strings, k, b"region") {
-            let e = xml::element_at(nodes, k);
-            match crate::regions::build_region(
-                attrs, strings, e.first, e.many, e.place, regions, n, extras, at,
-            ) {
-                Made::Row(m) => {
-                    n += 1;
-                    at += m;
-                }
-                Made::Skipped => {}
-                Made::Refused(r) => {
-                    return Counting::Refused(r);
-                }
+        if xml::is_element(tree.nodes, tree.strings, k, b"region") {
+            let e = xml::element_at(tree.nodes, k);
+            let attrs = tree.attributes(e);
+            let made = crate::regions::build_region(&attrs, e.place, regions, n, extras, at)?;
+            if let Some(m) = made {
+                n += 1;
+                at += m;
             }
         }
-        k = scan::get(nodes, k * NODE_CELLS + 1);
+        k = scan::get(tree.nodes, k * NODE_CELLS + 1);
     }
-    Counting::Is(Count {
+    Ok(Count {
         rows: n,
         extras: at,
     })
@@ -105,53 +83,45 @@ fn collect_regions(
 
 // The styles in the first styling among these siblings.
 fn find_styles(
-    nodes: &[u32],
-    attrs: &[u32],
-    strings: &[u8],
+    tree: &Tree<'_>,
     from: usize,
     end: usize,
     styles: &mut [u32],
     sizes: &mut [f32],
     extras: &mut [u32],
-) -> Counting
-    requires { AsksStyles in_styling nodes.now attrs.now strings.now from end styles.old sizes.old extras.old }
-    ensures { StylesPost styles_in in_styling nodes.now attrs.now strings.now from end
+) -> Result<Count, Refusal>
+    requires { AsksStyles in_styling tree.now.nodes.now tree.now.attrs.now tree.now.strings.now from end styles.old sizes.old extras.old }
+    ensures { StylesPost styles_in in_styling tree.now.nodes.now tree.now.attrs.now tree.now.strings.now from end
         styles.old styles.new sizes.old sizes.new extras.old extras.new result }
 {
-    match xml::find_element(nodes, strings, from, end, b"styling") {
-        Found::Nothing => Counting::Is(Count { rows: 0, extras: 0 }),
-        Found::Row(k) => {
-            let e = xml::element_at(nodes, k);
-            collect_styles(nodes, attrs, strings, k + 1, e.end, styles, sizes, extras)
-        }
-    }
+    let Some(k) = xml::find_element(tree.nodes, tree.strings, from, end, b"styling") else {
+        return Ok(Count { rows: 0, extras: 0 });
+    };
+    let e = xml::element_at(tree.nodes, k);
+    collect_styles(tree, k + 1, e.end, styles, sizes, extras)
 }
 
 // The regions in the first layout among these siblings.
 fn find_regions(
-    nodes: &[u32],
-    attrs: &[u32],
-    strings: &[u8],
+    tree: &Tree<'_>,
     from: usize,
     end: usize,
     regions: &mut [u32],
     extras: &mut [u32],
     rows: usize,
-) -> Counting
-    requires { AsksRegions in_layout nodes.now attrs.now strings.now from end rows regions.old extras.old }
-    ensures { RegionsPost regions_in in_layout nodes.now attrs.now strings.now from end rows
+) -> Result<Count, Refusal>
+    requires { AsksRegions in_layout tree.now.nodes.now tree.now.attrs.now tree.now.strings.now from end rows regions.old extras.old }
+    ensures { RegionsPost regions_in in_layout tree.now.nodes.now tree.now.attrs.now tree.now.strings.now from end rows
         regions.old regions.new extras.old extras.new result }
 {
-    match xml::find_element(nodes, strings, from, end, b"layout") {
-        Found::Nothing => Counting::Is(Count {
+    let Some(k) = xml::find_element(tree.nodes, tree.strings, from, end, b"layout") else {
+        return Ok(Count {
             rows: 0,
             extras: rows,
-        }),
-        Found::Row(k) => {
-            let e = xml::element_at(nodes, k);
-            collect_regions(nodes, attrs, strings, k + 1, e.end, regions, extras, rows)
-        }
-    }
+        });
+    };
+    let e = xml::element_at(tree.nodes, k);
+    collect_regions(tree, k + 1, e.end, regions, extras, rows)
 }
 
 // How many styles and regions there are, and rows of their extras.
@@ -162,80 +132,52 @@ pub struct Heads {
     pub extras: usize,
 }
 
-#[derive(Clone, Copy)]
-pub enum Heading {
-    Is(Heads),
-    Refused(Refusal),
-}
-
 // Those of the head's content in the rows from `from` up to `end`.
 fn collect_inside(
-    nodes: &[u32],
-    attrs: &[u32],
-    strings: &[u8],
+    tree: &Tree<'_>,
     from: usize,
     end: usize,
     styles: &mut [u32],
     regions: &mut [u32],
     sizes: &mut [f32],
     extras: &mut [u32],
-) -> Heading
-    requires { AsksHead nodes.now attrs.now strings.now from end (four styles.old regions.old sizes.old extras.old) }
-    ensures { HeadPost alone in_all nodes.now attrs.now strings.now from end
+) -> Result<Heads, Refusal>
+    requires { AsksHead tree.now.nodes.now tree.now.attrs.now tree.now.strings.now from end (four styles.old regions.old sizes.old extras.old) }
+    ensures { HeadPost alone in_all tree.now.nodes.now tree.now.attrs.now tree.now.strings.now from end
         (four styles.old regions.old sizes.old extras.old)
         (four styles.new regions.new sizes.new extras.new) result }
 {
-    match find_styles(nodes, attrs, strings, from, end, styles, sizes, extras) {
-        Counting::Refused(r) => Heading::Refused(r),
-        Counting::Is(s) => match find_regions(
-            nodes, attrs, strings, from, end, regions, extras, s.extras,
-        ) {
-            Counting::Refused(r) => Heading::Refused(r),
-            Counting::Is(t) => Heading::Is(Heads {
-                styles: s.rows,
-                regions: t.rows,
-                extras: t.extras,
-            }),
-        },
-    }
+    let s = find_styles(tree, from, end, styles, sizes, extras)?;
+    let t = find_regions(tree, from, end, regions, extras, s.extras)?;
+    Ok(Heads {
+        styles: s.rows,
+        regions: t.rows,
+        extras: t.extras,
+    })
 }
 
 // The styles and regions of the first head among the siblings in the rows from `from` up to `end`.
 pub fn collect_head(
-    nodes: &[u32],
-    attrs: &[u32],
-    strings: &[u8],
+    tree: &Tree<'_>,
     from: usize,
     end: usize,
     styles: &mut [u32],
     regions: &mut [u32],
     sizes: &mut [f32],
     extras: &mut [u32],
-) -> Heading
-    requires { AsksHead nodes.now attrs.now strings.now from end (four styles.old regions.old sizes.old extras.old) }
-    ensures { HeadPost inside_head in_head_of nodes.now attrs.now strings.now from end
+) -> Result<Heads, Refusal>
+    requires { AsksHead tree.now.nodes.now tree.now.attrs.now tree.now.strings.now from end (four styles.old regions.old sizes.old extras.old) }
+    ensures { HeadPost inside_head in_head_of tree.now.nodes.now tree.now.attrs.now tree.now.strings.now from end
         (four styles.old regions.old sizes.old extras.old)
         (four styles.new regions.new sizes.new extras.new) result }
 {
-    match xml::find_element(nodes, strings, from, end, b"head") {
-        Found::Nothing => Heading::Is(Heads {
+    let Some(k) = xml::find_element(tree.nodes, tree.strings, from, end, b"head") else {
+        return Ok(Heads {
             styles: 0,
             regions: 0,
             extras: 0,
-        }),
-        Found::Row(k) => {
-            let e = xml::element_at(nodes, k);
-            collect_inside(
-                nodes,
-                attrs,
-                strings,
-                k + 1,
-                e.end,
-                styles,
-                regions,
-                sizes,
-                extras,
-            )
-        }
-    }
+        });
+    };
+    let e = xml::element_at(tree.nodes, k);
+    collect_inside(tree, k + 1, e.end, styles, regions, sizes, extras)
 }

@@ -4,6 +4,6 @@ mod collect;
 mod regions;
 mod styles;
 
-pub use collect::{Heading, Heads, collect_head};
+pub use collect::{Heads, collect_head};
 pub use regions::build_region;
-pub use styles::{Made, build_style};
+pub use styles::build_style;

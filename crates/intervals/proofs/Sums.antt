@@ -1,7 +1,6 @@
--- A sum of times as `add` answers it, and what is made of a time that was asked for.
+-- A sum of times as `add_times` answers it, and what is made of a time that was asked for.
 --     summed    the times stand in 64 bits, and are read back from them
 --     lasting   from a container's dur on
---     stopped   from a p's end on
 use Prim.Native.Nat.{ℕ}
 use mathlib.Core.Path.{◌≡◌, ap, ap₂, ◌∙◌}
 use mathlib.Core.List.{List}
@@ -12,13 +11,12 @@ use mir.Val.{SFits, to_z, of_z}
 use mir.Facts.{to_z-of_z}
 use Rattle.times.specs.declared.offset.TimingCtx.{TimingCtx}
 use Rattle.xml.specs.Reading.{Placed}
-use Rattle.meaning.specs.Answers.{Answer, is, ◌>>=◌}
+use Rattle.meaning.specs.Answers.{Answer, ◌>>=◌}
 use Rattle.meaning.specs.Words.{ascii}
 use Rattle.meaning.specs.Nodes.{Attr}
 use Rattle.meaning.specs.Kinds.{with_places}
-use Rattle.meaning.specs.Timing.{time_of, sum, end_of, lasting_to}
-use Rattle.intervals.specs.declared.Interval.{Interval}
-use Rattle.intervals.specs.Steps.{end_from, stopping}
+use Rattle.meaning.specs.Timing.{time_of, sum, lasting_to}
+use Rattle.intervals.specs.Steps.{end_from}
 
 pub summed : (m : Answer ℤ) (place : ℕ) (a b : ℤ) → SFits w64 a → SFits w64 b → m ≡ sum place (to_z w64 (of_z w64 a)) (to_z w64 (of_z w64 b))
     → m ≡ sum place a b
@@ -27,11 +25,3 @@ summed m place a b f g e = e ∙ ap₂ (sum place) (to_z-of_z f) (to_z-of_z g)
 pub lasting : (ctx : TimingCtx) (place : ℕ) (start children : ℤ) (l : List (Attr Placed)) (m : Answer (Option ℤ))
     → m ≡ time_of with_places ctx place (ascii "dur") l → (m >>= λ dur. lasting_to place start dur children) ≡ end_from ctx place start children l
 lasting ctx place start children l m e = ap (λ (x : Answer (Option ℤ)). x >>= λ dur. lasting_to place start dur children) e
-
--- its interval, which begins at `start`
-abbrev pub ended : ℤ → Answer ℤ → Answer Interval
-ended start m = m >>= λ stop. is (record { start = start; end = stop })
-
-pub stopped : (place : ℕ) (reference : ℤ) (end dur : Option ℤ) (start : ℤ) (m : Answer ℤ) → m ≡ end_of place reference start end dur
-    → ended start m ≡ stopping place reference end dur start
-stopped place reference end dur start m e = ap (ended start) e

@@ -1,5 +1,6 @@
 -- What the readers of an element's times ask and ensure. This file need not be believed: `parse` promises what is left in the end.
-use Rattle.std.specs.Prelude.{ℕ, ◌≡◌, List, ℤ}
+use Rattle.std.specs.Prelude as rust
+use Rattle.std.specs.Prelude.{Some, None, Result, Ok, Err, ℕ, ◌≡◌, List, ℤ}
 use Rattle.std.proofs.Math.Option.{Option, none, some}
 use Rattle.times.specs.declared.offset.TimingCtx.{TimingCtx}
 use Rattle.xml.specs.Reading.{Placed}
@@ -8,35 +9,22 @@ use Rattle.meaning.specs.Words.{ascii}
 use Rattle.meaning.specs.Nodes.{Attr}
 use Rattle.meaning.specs.Kinds.{with_places}
 use Rattle.meaning.specs.Timing.{time_of, sum, or_zero, end_of, lasting_to}
-use Rattle.styling.specs.Posts.{given, turned}
-use Rattle.intervals.specs.declared.Moment.{Moment}
-use Rattle.intervals.specs.declared.Given.{Given}
-use Rattle.intervals.specs.declared.Giving.{Giving}
+use Rattle.styling.specs.Posts.{turned}
 use Rattle.intervals.specs.declared.Interval.{Interval}
-use Rattle.intervals.specs.declared.Timed.{Timed}
+use Rattle.tree.specs.declared.answers.Refusal.{Refusal}
 
-abbrev pub moment_said : Moment → Answer ℤ
-moment_said (Moment.Is z) = is z
-moment_said (Moment.Refused r) = turned r
+-- a time that may be absent
+abbrev pub time_given : rust.Option ℤ → Option ℤ
+time_given (Some z) = some z
+time_given None = none
 
-abbrev pub time_given : Given → Option ℤ
-time_given x = given x.has x.time
+abbrev pub giving_said : Result (rust.Option ℤ) Refusal → Answer (Option ℤ)
+giving_said (Ok x) = is (time_given x)
+giving_said (Err r) = turned r
 
--- what is absent is 0
-abbrev pub Zeroed : Given → Type 0
-Zeroed x = or_zero (time_given x) ≡ x.time
-
-abbrev pub AllZeroed : Giving → Type 0
-AllZeroed (Giving.Is x) = Zeroed x
-AllZeroed (Giving.Refused r) = Unit {0}
-
-abbrev pub giving_said : Giving → Answer (Option ℤ)
-giving_said (Giving.Is x) = is (time_given x)
-giving_said (Giving.Refused r) = turned r
-
-abbrev pub timed_said : Timed → Answer Interval
-timed_said (Timed.Is x) = is x
-timed_said (Timed.Refused r) = turned r
+abbrev pub timed_said : Result Interval Refusal → Answer Interval
+timed_said (Ok x) = is x
+timed_said (Err r) = turned r
 
 -- a container's own begin; `div_of` up to its start, and from its children's end on
 abbrev pub begin_from : TimingCtx → (place : ℕ) → List (Attr Placed) → Answer ℤ

@@ -2,112 +2,65 @@
 // Times of an element: its begin counted from a reference, and its end.
 ghost use Rattle.std.specs.Prelude.{◌≡◌};
 ghost use Rattle.meaning.specs.Kinds.{with_places};
-ghost use Rattle.meaning.specs.Timing.{time_of, sum, end_of};
-ghost use Rattle.styling.specs.Posts.{HasRows, OfRows};
-ghost use Rattle.intervals.specs.Steps.{moment_said, time_given, Zeroed, AllZeroed, giving_said, timed_said, begin_from, start_from, end_from};
-ghost use Rattle.intervals.specs.Steps.{interval_from, ended_from, begun_from, interval_of, single_from, single_of};
+ghost use Rattle.meaning.specs.Timing.{time_of, end_of};
+ghost use Rattle.styling.specs.Posts.{Of, moment_said};
+ghost use Rattle.intervals.specs.Steps.{time_given, giving_said, timed_said, begin_from, start_from, end_from};
+ghost use Rattle.intervals.specs.Steps.{interval_of, single_of};
 
-use styling::TimeSaid;
-use times::{Sum, TimingCtx};
+use times::TimingCtx;
 use tree::Refusal;
-
-#[derive(Clone, Copy)]
-pub enum Moment {
-    Is(i64),
-    Refused(Refusal),
-}
-
-// The sum, or 16 at the element.
-fn add(a: i64, b: i64, place: usize) -> Moment
-    ensures { moment_said result ≡ sum place a b }
-{
-    match times::add(a, b) {
-        Sum::Is(t) => Moment::Is(t),
-        Sum::Overflow => Moment::Refused(Refusal { number: 16, place }),
-    }
-}
-
-// A time that may be absent.
-#[derive(Clone, Copy)]
-pub struct Given {
-    pub has: bool,
-    pub time: i64,
-}
-
-#[derive(Clone, Copy)]
-pub enum Giving {
-    Is(Given),
-    Refused(Refusal),
-}
+use xml::Attributes;
 
 // What the attribute of this name says.
-fn time_given(attrs: &[u32], strings: &[u8], e: xml::Element, name: &[u8], ctx: TimingCtx) -> Giving
-    requires { HasRows attrs.now strings.now e.first e.many }
-    ensures all_zeroed { AllZeroed result }
-    ensures of_rows { OfRows attrs.now strings.now e.first e.many (λ l.
-        giving_said result ≡ time_of with_places ctx e.place name.now l) }
+fn time_given(
+    attrs: &Attributes<'_>,
+    place: usize,
+    name: &[u8],
+    ctx: TimingCtx,
+) -> Result<Option<i64>, Refusal>
+    ensures { Of attrs.now (λ l.
+        giving_said result ≡ time_of with_places ctx place name.now l) }
 {
-    match styling::time_attr(attrs, strings, e.first, e.many, name, ctx, e.place) {
-        TimeSaid::Is(time) => Giving::Is(Given { has: true, time }),
-        TimeSaid::Nothing => Giving::Is(Given {
-            has: false,
-            time: 0,
-        }),
-        TimeSaid::Refused(r) => Giving::Refused(r),
-    }
+    styling::time_attr(attrs, name, ctx, place)
 }
 
 // When an element begins by itself: its begin, or 0.
-pub fn begin_of(attrs: &[u32], strings: &[u8], e: xml::Element, ctx: TimingCtx) -> Moment
-    requires { HasRows attrs.now strings.now e.first e.many }
-    ensures { OfRows attrs.now strings.now e.first e.many (λ l.
-        moment_said result ≡ begin_from ctx e.place l) }
+pub fn begin_of(attrs: &Attributes<'_>, place: usize, ctx: TimingCtx) -> Result<i64, Refusal>
+    ensures { Of attrs.now (λ l.
+        moment_said result ≡ begin_from ctx place l) }
 {
-    match time_given(attrs, strings, e, b"begin", ctx) {
-        Giving::Refused(r) => Moment::Refused(r),
-        Giving::Is(b) => Moment::Is(b.time),
-    }
+    let begin = time_given(attrs, place, b"begin", ctx)?;
+    Ok(begin.unwrap_or(0))
 }
 
 // When a container begins: its begin, counted from a reference.
 pub fn start_of(
-    attrs: &[u32],
-    strings: &[u8],
-    e: xml::Element,
+    attrs: &Attributes<'_>,
+    place: usize,
     ctx: TimingCtx,
     reference: i64,
-) -> Moment
-    requires { HasRows attrs.now strings.now e.first e.many }
-    ensures { OfRows attrs.now strings.now e.first e.many (λ l.
-        moment_said result ≡ start_from ctx e.place reference l) }
+) -> Result<i64, Refusal>
+    ensures { Of attrs.now (λ l.
+        moment_said result ≡ start_from ctx place reference l) }
 {
-    match time_given(attrs, strings, e, b"begin", ctx) {
-        Giving::Refused(r) => Moment::Refused(r),
-        Giving::Is(b) => add(reference, b.time, e.place),
-    }
+    let begin = time_given(attrs, place, b"begin", ctx)?;
+    styling::add_times(reference, begin.unwrap_or(0), place)
 }
 
 // When a container ends: as its dur says, or with its children.
 pub fn lasting_to(
-    attrs: &[u32],
-    strings: &[u8],
-    container: xml::Element,
+    attrs: &Attributes<'_>,
+    place: usize,
     ctx: TimingCtx,
     start: i64,
     children: i64,
-) -> Moment
-    requires { HasRows attrs.now strings.now container.first container.many }
-    ensures { OfRows attrs.now strings.now container.first container.many (λ l.
-        moment_said result ≡ end_from ctx container.place start children l) }
+) -> Result<i64, Refusal>
+    ensures { Of attrs.now (λ l.
+        moment_said result ≡ end_from ctx place start children l) }
 {
-    match time_given(attrs, strings, container, b"dur", ctx) {
-        Giving::Refused(r) => Moment::Refused(r),
-        Giving::Is(d) => {
-            if d.has {
-                return add(start, d.time, container.place);
-            }
-            Moment::Is(children)
-        }
+    match time_given(attrs, place, b"dur", ctx)? {
+        Some(lasts) => styling::add_times(start, lasts, place),
+        None => Ok(children),
     }
 }
 
@@ -118,131 +71,56 @@ pub struct Interval {
     pub end: i64,
 }
 
-#[derive(Clone, Copy)]
-pub enum Timed {
-    Is(Interval),
-    Refused(Refusal),
-}
-
 // Its end counts from the reference, its dur from its own start; end wins.
-fn end_of(start: i64, reference: i64, end: Given, dur: Given, place: usize) -> Moment
+fn end_of(
+    start: i64,
+    reference: i64,
+    end: Option<i64>,
+    dur: Option<i64>,
+    place: usize,
+) -> Result<i64, Refusal>
     ensures { moment_said result ≡ end_of place reference start (time_given end) (time_given dur) }
 {
-    if end.has {
-        return add(reference, end.time, place);
+    if let Some(end) = end {
+        return styling::add_times(reference, end, place);
     }
-    if dur.has {
-        return add(start, dur.time, place);
-    }
-    Moment::Is(start)
-}
-
-fn from_parts(reference: i64, begin: Given, end: Given, dur: Given, place: usize) -> Timed
-    requires { Zeroed begin }
-    ensures { timed_said result ≡ interval_from place reference (time_given begin) (time_given end) (time_given dur) }
-{
-    match add(reference, begin.time, place) {
-        Moment::Refused(r) => Timed::Refused(r),
-        Moment::Is(start) => match end_of(start, reference, end, dur, place) {
-            Moment::Refused(r) => Timed::Refused(r),
-            Moment::Is(end) => Timed::Is(Interval { start, end }),
-        },
-    }
-}
-
-// With its begin and end known.
-fn ended(
-    attrs: &[u32],
-    strings: &[u8],
-    e: xml::Element,
-    ctx: TimingCtx,
-    reference: i64,
-    begin: Given,
-    end: Given,
-) -> Timed
-    requires { HasRows attrs.now strings.now e.first e.many × Zeroed begin }
-    ensures { OfRows attrs.now strings.now e.first e.many (λ l.
-        timed_said result ≡ ended_from ctx e.place reference (time_given begin) (time_given end) l) }
-{
-    match time_given(attrs, strings, e, b"dur", ctx) {
-        Giving::Refused(r) => Timed::Refused(r),
-        Giving::Is(dur) => from_parts(reference, begin, end, dur, e.place),
-    }
-}
-
-// With its begin known.
-fn begun(
-    attrs: &[u32],
-    strings: &[u8],
-    e: xml::Element,
-    ctx: TimingCtx,
-    reference: i64,
-    begin: Given,
-) -> Timed
-    requires { HasRows attrs.now strings.now e.first e.many × Zeroed begin }
-    ensures { OfRows attrs.now strings.now e.first e.many (λ l.
-        timed_said result ≡ begun_from ctx e.place reference (time_given begin) l) }
-{
-    match time_given(attrs, strings, e, b"end", ctx) {
-        Giving::Refused(r) => Timed::Refused(r),
-        Giving::Is(end) => ended(attrs, strings, e, ctx, reference, begin, end),
+    match dur {
+        Some(dur) => styling::add_times(start, dur, place),
+        None => Ok(start),
     }
 }
 
 // All three times are evaluated before any sum.
 pub fn interval_of(
-    attrs: &[u32],
-    strings: &[u8],
-    e: xml::Element,
+    attrs: &Attributes<'_>,
+    place: usize,
     ctx: TimingCtx,
     reference: i64,
-) -> Timed
-    requires { HasRows attrs.now strings.now e.first e.many }
-    ensures { OfRows attrs.now strings.now e.first e.many (λ l.
-        timed_said result ≡ interval_of ctx e.place reference l) }
+) -> Result<Interval, Refusal>
+    ensures { Of attrs.now (λ l.
+        timed_said result ≡ interval_of ctx place reference l) }
 {
-    match time_given(attrs, strings, e, b"begin", ctx) {
-        Giving::Refused(r) => Timed::Refused(r),
-        Giving::Is(begin) => begun(attrs, strings, e, ctx, reference, begin),
-    }
-}
-
-// With its begin and end known, or no end: of a single cue, whose end is absolute.
-fn single_ended(
-    attrs: &[u32],
-    strings: &[u8],
-    e: xml::Element,
-    ctx: TimingCtx,
-    start: i64,
-    end: Given,
-) -> Timed
-    requires { HasRows attrs.now strings.now e.first e.many }
-    ensures { OfRows attrs.now strings.now e.first e.many (λ l.
-        timed_said result ≡ single_from ctx e.place start (time_given end) l) }
-{
-    if end.has {
-        return Timed::Is(Interval {
-            start,
-            end: end.time,
-        });
-    }
-    match lasting_to(attrs, strings, e, ctx, start, start) {
-        Moment::Refused(r) => Timed::Refused(r),
-        Moment::Is(end) => Timed::Is(Interval { start, end }),
-    }
+    let begin = time_given(attrs, place, b"begin", ctx)?;
+    let end = time_given(attrs, place, b"end", ctx)?;
+    let dur = time_given(attrs, place, b"dur", ctx)?;
+    let start = styling::add_times(reference, begin.unwrap_or(0), place)?;
+    let end = end_of(start, reference, end, dur, place)?;
+    Ok(Interval { start, end })
 }
 
 // When a single cue begins and ends: its dur is evaluated only if its end is no time.
-pub fn single_interval(attrs: &[u32], strings: &[u8], e: xml::Element, ctx: TimingCtx) -> Timed
-    requires { HasRows attrs.now strings.now e.first e.many }
-    ensures { OfRows attrs.now strings.now e.first e.many (λ l.
-        timed_said result ≡ single_of ctx e.place l) }
+pub fn single_interval(
+    attrs: &Attributes<'_>,
+    place: usize,
+    ctx: TimingCtx,
+) -> Result<Interval, Refusal>
+    ensures { Of attrs.now (λ l.
+        timed_said result ≡ single_of ctx place l) }
 {
-    match begin_of(attrs, strings, e, ctx) {
-        Moment::Refused(r) => Timed::Refused(r),
-        Moment::Is(start) => match time_given(attrs, strings, e, b"end", ctx) {
-            Giving::Refused(r) => Timed::Refused(r),
-            Giving::Is(end) => single_ended(attrs, strings, e, ctx, start, end),
-        },
+    let start = begin_of(attrs, place, ctx)?;
+    if let Some(end) = time_given(attrs, place, b"end", ctx)? {
+        return Ok(Interval { start, end });
     }
+    let end = lasting_to(attrs, place, ctx, start, start)?;
+    Ok(Interval { start, end })
 }

@@ -3,6 +3,7 @@
 --     track_values, cue-values     a tree in which at most 64 elements stand one inside the other gives a track, or a cue, of such values
 --     depth-by                     the nesting of segments does not depend on their strings
 --     sum_fits                     a time that is not refused is an i64
+use Rattle.std.specs.Prelude.{Result, Ok, Err}
 use Prim.Native.Nat.{ℕ, ◌+◌, ◌-◌, ◌*◌, ◌^◌, ◌≤◌, ◌<◌}
 use mathlib.Core.Path.{◌≡◌, refl}
 use mathlib.Core.Bool.{Bool, true, false, cond, ◌&&◌}
@@ -17,9 +18,7 @@ use Rattle.scan.proofs.Every.{by-test}
 use Rattle.times.specs.declared.offset.TimingCtx.{TimingCtx}
 use Rattle.times.specs.Sums.{is_i64, checked}
 use Rattle.colors.specs.declared.read.Rgba.{Rgba}
-use Rattle.colors.specs.declared.read.Color.{Color}
 use Rattle.colors.specs.Colors.{color_in}
-use Rattle.decimals.specs.declared.read.Decimal.{Decimal}
 use Rattle.decimals.specs.declared.size.Size.{Size}
 use Rattle.track.specs.Track.{Bytes, Style, Wrapper, Segments, Cue, Track, no_segments, one_segment, segment_rows, is_bare_font, joined, wrapped}
 use Rattle.track.specs.Track as track
@@ -44,6 +43,9 @@ use Rattle.meaning.specs.Meaning.{stop_of, cue_in, cue_from, cue_of}
 use Rattle.meaning.proofs.Within.{Holds, holds_is, holds_refused, bind, any, within-holds}
 use Rattle.laid.proofs.Colors.{Channels, color-bytes, size-read}
 use Rattle.laid.proofs.Strings.{IfSome}
+use Rattle.decimals.specs.declared.read.DecimalError.{DecimalError}
+use Rattle.colors.specs.declared.read.ColorError.{ColorError}
+use Rattle.decimals.specs.declared.read.Digits.{Digits}
 
 -- ---- values
 
@@ -213,10 +215,10 @@ sum_fits e a b = by-test (is_i64 (a +ℤ b))
     (λ t. rw t (holds_refused TimeFits 16 e))
 
 module _ {S : Type 0} (k : Strings S) where
-  color-read : (a : ℕ) (v : Bytes) (x : Color) → color_in v ≡ x → Holds (IfSome Channels) (color_answer a x)
-  color-read a v (Color.Is c) e = holds_is _ (some c) (color-bytes v e)
-  color-read a v Color.Nothing e = holds_is _ none tt
-  color-read a v Color.Cut e = holds_refused _ _ a
+  color-read : (a : ℕ) (v : Bytes) (x : Result Rgba ColorError) → color_in v ≡ x → Holds (IfSome Channels) (color_answer a x)
+  color-read a v (Ok c) e = holds_is _ (some c) (color-bytes v e)
+  color-read a v (Err ColorError.Invalid) e = holds_is _ none tt
+  color-read a v (Err ColorError.Cut) e = holds_refused _ _ a
 
   from-color : (o : Option (Attr S)) → Holds (IfSome Channels) (read_from k (λ a v. color_answer a (color_in v)) o)
   from-color none = holds_is _ none tt
@@ -226,10 +228,10 @@ module _ {S : Type 0} (k : Strings S) where
   unfolding color_of reading
   color-holds name l = from-color (attribute k name l)
 
-  decimal-read : (a : ℕ) (v : Bytes) (x : Decimal) → size_decimal v ≡ x → Holds SizeFits (size_answer a x)
-  decimal-read a v (Decimal.Is d) e = holds_is _ (some _) (size-read v e)
-  decimal-read a v Decimal.Nothing e = holds_is _ none tt
-  decimal-read a v Decimal.Beyond e = holds_refused _ _ a
+  decimal-read : (a : ℕ) (v : Bytes) (x : Result Digits DecimalError) → size_decimal v ≡ x → Holds SizeFits (size_answer a x)
+  decimal-read a v (Ok d) e = holds_is _ (some _) (size-read v e)
+  decimal-read a v (Err DecimalError.Invalid) e = holds_is _ none tt
+  decimal-read a v (Err DecimalError.Beyond) e = holds_refused _ _ a
 
   from-size : (part : Bytes → Bytes) (o : Option (Attr S)) → Holds SizeFits (read_from k (λ a v. size_answer a (size_decimal (part v))) o)
   from-size part none = holds_is _ none tt

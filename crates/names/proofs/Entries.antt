@@ -3,6 +3,7 @@
 --     distinct_at, apart_at                 a test over a list of names, at each entry
 --     number-back, number-there, number-nowhere   what a number says of the name, and the name of the number
 --     in_there, in_back                     the same of bytes that are looked for
+use Rattle.std.specs.Prelude.{Some, None}
 use Prim.Native.Nat.{ℕ, zero, suc, ◌+◌, ◌<◌}
 use mathlib.Core.Path.{◌≡◌, refl, sym, ap, ◌∙◌}
 use mathlib.Core.Bool.{Bool, true, false, not, ◌&&◌, ◌||◌, false≢true, true≢false}
@@ -16,7 +17,6 @@ use Rattle.scan.specs.Names.{same_bytes_of, same_folded}
 pub use Rattle.scan.specs.Every.{every}
 pub use Rattle.scan.proofs.Every.{both, every-at, every-as}
 use Rattle.scan.proofs.Naming.{same_eq, same_refl, folded_map, map_folded, same_folded-sym}
-use Rattle.names.specs.declared.lookup.Number.{Number}
 use Rattle.names.specs.Numbers.{number_from, is_in}
 
 -- what is not true is false
@@ -74,18 +74,18 @@ pub record Numbered (k : ℕ) (s : List ℕ) (ns : List (List ℕ)) (r : ℕ) : 
   pub within : offset < length ns
   pub same : same_folded s (get_or ns offset []) ≡ true
 
-pub at_eq : {a b : ℕ} → Number.At a ≡ Number.At b → a ≡ b
+pub at_eq : {a b : ℕ} → Some a ≡ Some b → a ≡ b
 at_eq e = cc
 
-pub nothing-at : {a : ℕ} {X : Type 0} → Number.Nothing ≡ Number.At a → X
+pub nothing-at : {a : ℕ} {X : Type 0} → None ≡ Some a → X
 nothing-at e = absurd (let z : ◌≡◌ {A = ℕ} 0 1 = cc in omega arith)
 
-pub number-back : (k : ℕ) (s : List ℕ) (ns : List (List ℕ)) (r : ℕ) → number_from k s ns ≡ Number.At r → Numbered k s ns r
+pub number-back : (k : ℕ) (s : List ℕ) (ns : List (List ℕ)) (r : ℕ) → number_from k s ns ≡ Some r → Numbered k s ns r
 unfolding number_from
 number-back k s [] r e = nothing-at e
 number-back k s (n ∷ ns) r e = by (same_folded s n) refl (number-back (suc k) s ns r)
   where
-    by : (t : Bool) → same_folded s n ≡ t → (number_from (suc k) s ns ≡ Number.At r → Numbered (suc k) s ns r) → Numbered k s (n ∷ ns) r
+    by : (t : Bool) → same_folded s n ≡ t → (number_from (suc k) s ns ≡ Some r → Numbered (suc k) s ns r) → Numbered k s (n ∷ ns) r
     by true f g = record { offset = 0; counts = sym (at_eq (rw f at e)) ∙ sym (add-zero k); within = omega arith; same = f }
     by false f g =
         let w = g (rw f at e) in
@@ -99,7 +99,7 @@ number-back k s (n ∷ ns) r e = by (same_folded s n) refl (number-back (suc k) 
 
 -- among names that are distinct, whatever is the i-th but for the case of letters has the number i
 pub number-there : (k : ℕ) (s : List ℕ) (ns : List (List ℕ)) → distinct ns ≡ true → (i : ℕ) → i < length ns → same_folded s (get_or ns i []) ≡ true
-    → number_from k s ns ≡ Number.At (k + i)
+    → number_from k s ns ≡ Some (k + i)
 unfolding number_from
 number-there k s [] e i h f = absurd (omega arith)
 number-there k s (n ∷ ns) e zero h f = rw (f, add-zero k)
@@ -113,7 +113,7 @@ number-there k s (n ∷ ns) e (suc i) h f =
     other = not_so (same_folded s n) (λ g. true≢false (sym (folded_trans n s (get_or ns i []) (same_folded-sym s n g) f) ∙ apart_here))
 
 -- a name that is none of them has no number
-pub number-nowhere : (k : ℕ) (s : List ℕ) (ns : List (List ℕ)) → every (differs s) ns ≡ true → number_from k s ns ≡ Number.Nothing
+pub number-nowhere : (k : ℕ) (s : List ℕ) (ns : List (List ℕ)) → every (differs s) ns ≡ true → number_from k s ns ≡ None
 unfolding number_from
 number-nowhere k s [] e = refl
 number-nowhere k s (n ∷ ns) e =

@@ -4,6 +4,7 @@
 --     names-distinct, name-number, folded_number, number-name    number to name and back
 --     contains-name, contained_name, contains-at, contains-nowhere   the same for `contains`
 --     inline_is_style, modelled_apart, modelled_not_extra, modelled_or_extra   two lists against each other
+use Rattle.std.specs.Prelude.{Some, None}
 use Prim.Native.Nat.{ℕ, ◌<◌}
 use mathlib.Core.Path.{◌≡◌, refl, sym, ap, ◌∙◌}
 use mathlib.Core.Bool.{Bool, true, false, ◌&&◌, true≢false}
@@ -19,7 +20,6 @@ use Rattle.scan.specs.Text.{ascii}
 use Rattle.scan.proofs.Naming.{same_eq, same_refl, same_folded-refl, same_folded-sym}
 use Rattle.names.specs.declared.tables.Listed.{Listed}
 use Rattle.names.specs.declared.tables.Listed.TheVariants.{StyleExtra, InlineExtra, RegionAttr, InlineModelled, Imsc1Extension}
-use Rattle.names.specs.declared.lookup.Number.{Number}
 use Rattle.names.specs.Lists.{names, name_of, style_extra, inline_extra, inline_modelled}
 use Rattle.names.specs.Numbers.{name_number, contains_name}
 use Rattle.names.specs.Plain.{plain_byte, PlainName}
@@ -122,17 +122,17 @@ module _ (list : Listed) (i : ℕ) (h : i < length (names list)) where
   pub names-distinct : (j : ℕ) → j < length (names list) → (i ≡ j → ⊥) → same_folded (name_of list i) (name_of list j) ≡ false
   names-distinct j l ne = distinct_at (names list) (distinct_tested list) i j h l ne
 
-  pub folded_number : (s : List ℕ) → same_folded s (name_of list i) ≡ true → name_number list s ≡ Number.At i
-  folded_number s e = number-there 0 s (names list) (distinct_tested list) i h e ∙ ap Number.At (zero-add i)
+  pub folded_number : (s : List ℕ) → same_folded s (name_of list i) ≡ true → name_number list s ≡ Some i
+  folded_number s e = number-there 0 s (names list) (distinct_tested list) i h e ∙ ap Some (zero-add i)
 
-  pub name-number : name_number list (name_of list i) ≡ Number.At i
+  pub name-number : name_number list (name_of list i) ≡ Some i
   name-number = folded_number (name_of list i) (same_folded-refl (name_of list i))
 
   pub contains-name : contains_name list (name_of list i) ≡ true
   contains-name = in_there (names list) i h
 
 module _ (list : Listed) (s : List ℕ) where
-  pub number-name : (i : ℕ) → name_number list s ≡ Number.At i → (i < length (names list)) × (same_folded s (name_of list i) ≡ true)
+  pub number-name : (i : ℕ) → name_number list s ≡ Some i → (i < length (names list)) × (same_folded s (name_of list i) ≡ true)
   number-name i e =
       let w = number-back 0 s (names list) i e in
       let z : i ≡ w.offset = w.counts ∙ zero-add w.offset in
@@ -142,7 +142,7 @@ module _ (list : Listed) (s : List ℕ) where
   contained_name e = in_back s (names list) e
 
   -- a name that is in the list but for the case of letters can be only that entry
-  pub contains-at : (i : ℕ) → name_number list s ≡ Number.At i → contains_name list s ≡ same_bytes_of s (name_of list i)
+  pub contains-at : (i : ℕ) → name_number list s ≡ Some i → contains_name list s ≡ same_bytes_of s (name_of list i)
   contains-at i e = by (same_bytes_of s (name_of list i)) refl
     where
       in_list : i < length (names list)
@@ -159,7 +159,7 @@ module _ (list : Listed) (s : List ℕ) where
               let q : s ≡ name_of list i = w.2 ∙ ap (name_of list) z in
               true≢false (sym (ap (same_bytes_of s) (sym q) ∙ same_refl s) ∙ f)
 
-  pub contains-nowhere : name_number list s ≡ Number.Nothing → contains_name list s ≡ false
+  pub contains-nowhere : name_number list s ≡ None → contains_name list s ≡ false
   contains-nowhere e =
       not_so (contains_name list s) (λ g.
       let w = contained_name g in
@@ -176,13 +176,13 @@ module _ (i : ℕ) (h : i < length inline_modelled) where
   pub modelled_apart : (j : ℕ) → j < length inline_extra → same_folded (name_of InlineModelled i) (name_of InlineExtra j) ≡ false
   modelled_apart j l = apart_at inline_modelled inline_extra apart_tested i j h l
 
-  pub modelled_not_extra : name_number InlineExtra (name_of InlineModelled i) ≡ Number.Nothing
+  pub modelled_not_extra : name_number InlineExtra (name_of InlineModelled i) ≡ None
   modelled_not_extra =
       number-nowhere 0 (name_of InlineModelled i) inline_extra
       (every-at (λ (m : List ℕ). every (differs m) inline_extra) inline_modelled [] apart_tested i h)
 
 -- no text is a name of both, letters in any case
-pub modelled_or_extra : (s : List ℕ) (i j : ℕ) → name_number InlineModelled s ≡ Number.At i → name_number InlineExtra s ≡ Number.At j → ⊥
+pub modelled_or_extra : (s : List ℕ) (i j : ℕ) → name_number InlineModelled s ≡ Some i → name_number InlineExtra s ≡ Some j → ⊥
 modelled_or_extra s i j e f =
     let m = number-name InlineModelled s i e in
     let x = number-name InlineExtra s j f in

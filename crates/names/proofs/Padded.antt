@@ -6,7 +6,7 @@ use mathlib.Core.List.{List, [], ◌∷◌, ◌++◌}
 use native.Mathlib.Omega.{arith}
 use native.Mathlib.Nat.{add-zero, zero-add}
 use lib.ListN.{length, get_or, take, drop, replicate, length-append, length-take, length-drop, length-replicate}
-use lib.Seq.{take-append_seam, length-take-le, drop_at, get_or-take, get_or-drop}
+use lib.Seq.{take-append_seam, drop_at, get_or-take, get_or-drop}
 use Rattle.scan.specs.Bytes.{other, run_end_of, run_length_of}
 use Rattle.scan.proofs.Runs.{run_length}
 use Rattle.names.specs.declared.tables.Listed.{Listed}
@@ -73,6 +73,3 @@ module _ (list : Listed) (k i : ℕ) (h : i < length (names list)) (r : Name) wh
       let e : get_or (rows (drop k (names list))) (i - k) [] ≡ get_or (rows (names list)) i [] =
       row_at (drop k (names list)) (i - k) m ∙ rw (get_or-drop k (names list) (i - k) [], z) (sym (row_at (names list) i h)) in
       held list i h r (rw e at c)
-
-pub front_length : (w : List ℕ) (r : Name) → Holds w r → r.len ≡ length (take r.len r.bytes)
-front_length w r c = sym (length-take-le r.len r.bytes (omega (arith, c.whole, c.within)))

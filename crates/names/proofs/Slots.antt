@@ -1,9 +1,11 @@
 -- The slots: a name has one entry at most that it can be. Each law rests on a test that is computed over each list. Assumes nothing.
---     slot_below, slot_short, slot_long   what a slot is
+--     slot_below                a slot is one of 129
 --     slot_entry                a listed name's slot has its number
 --     slot_within               and no slot has a number past the list
 --     slot_none, slot_hit, slot_miss   what the entry in a name's slot says of its number
---     initial_last, begin_empty, initial_none   a name that begins as none listed does has no number
+--     slot_says                 the laws of slots that a look into one needs
+--     initial_none              a name that begins as none listed does has no number
+use Rattle.std.specs.Prelude.{Option, Some, None}
 use Prim.Native.Nat.{ℕ, zero, suc, ◌+◌, ◌-◌, ◌*◌, ◌%◌, ◌≤◌, ◌<◌}
 use mathlib.Core.Path.{◌≡◌, refl, sym, ap, ◌∙◌}
 use mathlib.Core.Bool.{Bool, true, false, cond, ◌&&◌, true≢false}
@@ -11,15 +13,14 @@ use mathlib.Core.List.{List, [], ◌∷◌, map}
 use native.Mathlib.Omega.{arith}
 use lib.Dec.{eqb, ltb}
 use lib.ListN.{length, get_or, length-map, get_or-map}
-use borrow.Author.Tests.{eqb-true, ne_eqb, ltb-true, ltb-false, lt-ltb, le-ltb}
+use borrow.Author.Tests.{eqb-true, ltb-true, ltb-false}
 use Rattle.scan.specs.Names.{lower, same_folded}
 use Rattle.scan.proofs.Naming.{folded_map, lower-capital, lower-below, lower-above}
 use Rattle.names.specs.declared.tables.Listed.{Listed}
 use Rattle.names.specs.declared.tables.Listed.TheVariants.{StyleExtra, InlineExtra, RegionAttr, InlineModelled, Imsc1Extension}
-use Rattle.names.specs.declared.lookup.Number.{Number}
 use Rattle.names.specs.Lists.{names, name_of}
 use Rattle.names.specs.Numbers.{name_number}
-use Rattle.names.specs.Steps.{slot_of, slots, is_initial, can_begin}
+use Rattle.names.specs.Steps.{slot_of, slots, can_begin}
 use Rattle.names.proofs.Entries.{both, every, every-at}
 use Rattle.names.proofs.NameLaws.{number-name, folded_number}
 
@@ -50,15 +51,6 @@ begin_lower s = rw (fold_mod s 0)
 begin_folded : (s n : List ℕ) → same_folded s n ≡ true → can_begin s ≡ can_begin n
 begin_folded s n e = sym (begin_lower s) ∙ (ap can_begin (folded_map s n e) ∙ begin_lower n)
 
-pub initial_last : (x : ℕ) → (x ≡ 20 → ⊥) → (x ≡ 9 → ⊥) → (x ≡ 19 → ⊥) → (x ≡ 1 → ⊥) → eqb x 16 ≡ is_initial x
-unfolding is_initial
-initial_last x a b c d = rw (ne_eqb x 20 a, ne_eqb x 9 b, ne_eqb x 19 c, ne_eqb x 1 d)
-
-pub begin_empty : (s : List ℕ) → length s ≡ 0 → can_begin s ≡ false
-unfolding can_begin
-begin_empty [] e = refl
-begin_empty (b ∷ s) e = absurd (omega arith)
-
 pub slot_below : (s : List ℕ) → slot_of s < 129
 unfolding slot_of
 slot_below s = by (ltb (length s) 5)
@@ -66,14 +58,6 @@ slot_below s = by (ltb (length s) 5)
     by : (b : Bool) → cond b 0 ((length s + 50 * (get_or s 4 0 % 32) + 14 * (get_or s (length s - 4) 0 % 32)) % 129) < 129
     by true = omega arith
     by false = omega arith
-
-pub slot_short : (s : List ℕ) (n : ℕ) → n ≡ length s → n < 5 → 0 ≡ slot_of s
-unfolding slot_of
-slot_short s n e h = rw (← e, lt-ltb n 5 h)
-
-pub slot_long : (s : List ℕ) (n : ℕ) → n ≡ length s → 5 ≤ n → (n + 50 * (get_or s 4 0 % 32) + 14 * (get_or s (n - 4) 0 % 32)) % 129 ≡ slot_of s
-unfolding slot_of
-slot_long s n e h = rw (← e, le-ltb n 5 h)
 
 -- ---- the tests
 abbrev entries_from : Listed → ℕ → List (List ℕ) → Bool
@@ -123,33 +107,36 @@ slot_within list p h =
 
 -- ---- what the entry in a name's slot says
 module _ (list : Listed) (s : List ℕ) where
-  pub slot_entry : (i : ℕ) → name_number list s ≡ Number.At i → get_or (slots list) (slot_of s) 0 ≡ i + 35
+  pub slot_entry : (i : ℕ) → name_number list s ≡ Some i → get_or (slots list) (slot_of s) 0 ≡ i + 35
   slot_entry i e =
       let w = number-name list s i e in
       rw (slot_folded s (name_of list i) w.1) (entries_at list 0 (names list) (entries_tested list) i w.0 ∙ omega arith)
 
-  nothing : ((i : ℕ) → name_number list s ≡ Number.At i → ⊥) → name_number list s ≡ Number.Nothing
+  nothing : ((i : ℕ) → name_number list s ≡ Some i → ⊥) → name_number list s ≡ None
   nothing f = by (name_number list s) refl
     where
-      by : (n : Number) → name_number list s ≡ n → name_number list s ≡ Number.Nothing
-      by (Number.At i) e = absurd (f i e)
-      by Number.Nothing e = e
+      by : (n : Option ℕ) → name_number list s ≡ n → name_number list s ≡ None
+      by (Some i) e = absurd (f i e)
+      by None e = e
 
-  pub initial_none : can_begin s ≡ false → name_number list s ≡ Number.Nothing
+  pub initial_none : can_begin s ≡ false → name_number list s ≡ None
   initial_none f = nothing (λ i e.
       let w = number-name list s i e in
       let g : can_begin (name_of list i) ≡ true = every-at can_begin (names list) [] (begins_tested list) i w.0 in
       true≢false (sym g ∙ (sym (begin_folded s (name_of list i) w.1) ∙ f)))
 
   module _ (x : ℕ) (w : x ≡ get_or (slots list) (slot_of s) 0) where
-    pub slot_none : x < 35 → name_number list s ≡ Number.Nothing
+    pub slot_none : x < 35 → name_number list s ≡ None
     slot_none h = nothing (λ i e. omega (arith, slot_entry i e, w))
 
-    pub slot_hit : 35 ≤ x → same_folded s (name_of list (x - 35)) ≡ true → name_number list s ≡ Number.At (x - 35)
+    pub slot_hit : 35 ≤ x → same_folded s (name_of list (x - 35)) ≡ true → name_number list s ≡ Some (x - 35)
     slot_hit h e = folded_number list (x - 35) (omega (arith, w, slot_within list (slot_of s) (slot_below s))) s e
 
-    pub slot_miss : 35 ≤ x → same_folded s (name_of list (x - 35)) ≡ false → name_number list s ≡ Number.Nothing
+    pub slot_miss : 35 ≤ x → same_folded s (name_of list (x - 35)) ≡ false → name_number list s ≡ None
     slot_miss h e = nothing (λ i f.
         let z : x - 35 ≡ i = omega (arith, slot_entry i f, w) in
         let g : same_folded s (name_of list (x - 35)) ≡ true = rw z (number-name list s i f).1 in
         true≢false (sym g ∙ e))
+
+-- what a look into a slot needs
+pub ruleset slot_says = (slot_below, slot_within, slot_none, slot_hit, slot_miss)

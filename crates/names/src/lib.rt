@@ -3,5 +3,5 @@
 mod lookup;
 mod tables;
 
-pub use lookup::{Number, append_name, contains, is_name, number_of};
+pub use lookup::{append_name, contains, is_name, number_of};
 pub use tables::{Listed, Name, name_at};

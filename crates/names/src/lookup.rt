@@ -6,24 +6,15 @@ ghost use Rattle.names.specs.Lists.{names, name_of};
 ghost use Rattle.names.specs.Numbers.{name_number, contains_name};
 ghost use Rattle.names.specs.Steps.{slot_of, slots, is_initial, can_begin};
 
-use crate::tables::Listed;
-
-// A name's number in a list, from 0 on, or it is not listed.
-#[derive(Clone, Copy)]
-pub enum Number {
-    At(usize),
-    Nothing,
-}
+use crate::tables::{Listed, name_at};
 
 // Is this the list's i-th name, letters in any case?
 pub fn is_name(list: Listed, i: usize, name: &[u8]) -> bool
     requires { i < length (names list) }
     ensures { result ≡ same_folded name.now (name_of list i) }
 {
-    let entry = crate::tables::name_at(list, i);
-    let bytes = entry.bytes;
-    let len = entry.len;
-    scan::eq_ignore_ascii_case(name, &bytes[..len])
+    let entry = name_at(list, i);
+    scan::eq_ignore_ascii_case(name, entry.as_bytes())
 }
 
 // Are these the bytes of the list's i-th name?
@@ -31,15 +22,14 @@ fn is_exactly(list: Listed, i: usize, name: &[u8]) -> bool
     requires { i < length (names list) }
     ensures { result ≡ same_bytes_of name.now (name_of list i) }
 {
-    let entry = crate::tables::name_at(list, i);
-    let bytes = entry.bytes;
-    let len = entry.len;
-    scan::same(name, &bytes[..len])
+    let entry = name_at(list, i);
+    scan::same(name, entry.as_bytes())
 }
 
 // Where a name can stand in a list: its length and two of its letters leave one entry at most, whatever
 // their case. The tables of slots have a byte to each of 129: `#` for entry 0, the bytes after `#` for the
 // next ones, and a blank where there is none.
+#[tactic(auto, unfolding(crate::specs::Steps::slot_of))]
 fn slot(name: &[u8]) -> usize
     ensures { result ≡ slot_of name.now }
 {
@@ -83,76 +73,61 @@ fn in_slot(list: Listed, slot: usize) -> u8
 
 // The number of the entry that the name is, letters in any case. A name that is not listed is compared with
 // one entry at most, and no table of names is made for one whose slot is empty.
-fn number_in_slot(list: Listed, name: &[u8]) -> Number
+#[inline(never)]
+#[tactic(auto, using(crate::proofs::Slots::slot_says))]
+fn number_in_slot(list: Listed, name: &[u8]) -> Option<usize>
     ensures { result ≡ name_number list name.now }
 {
-    let entry = in_slot(list, slot(name));
-    if entry < b'#' {
-        return Number::Nothing;
-    }
-    let i = (entry - b'#') as usize;
-    if is_name(list, i, name) {
-        return Number::At(i);
-    }
-    Number::Nothing
+    let i = in_slot(list, slot(name)).checked_sub(b'#')? as usize;
+    is_name(list, i, name).then_some(i)
 }
 
 // Does a listed name begin with this letter, counted from `@` or from a backquote?
+#[tactic(auto, unfolding(crate::specs::Steps::is_initial))]
 fn is_initial(letter: u8) -> bool
     ensures { result ≡ is_initial letter }
 {
-    if letter == 20 {
-        return true;
-    }
-    if letter == 9 {
-        return true;
-    }
-    if letter == 19 {
-        return true;
-    }
-    if letter == 1 {
-        return true;
-    }
-    letter == 16
+    matches!(letter, 20 | 9 | 19 | 1 | 16)
 }
 
 // Does a listed name begin as this one does?
+#[tactic(auto, unfolding(crate::specs::Steps::can_begin))]
 fn can_begin(name: &[u8]) -> bool
     ensures { result ≡ can_begin name.now }
 {
-    if name.len() == 0 {
-        return false;
-    }
-    is_initial(name[0] % 32)
+    name.first().is_some_and(|first| is_initial(first % 32))
 }
 
-// The number of the entry that the name is, letters in any case. The first letter tells most names that are not listed.
-pub fn number_of(list: Listed, name: &[u8]) -> Number
+// The number of the entry that the name is, letters in any case. The first letter tells most names that are not listed;
+// inline, since that test is all that most attributes of a film come to.
+#[inline(always)]
+#[tactic(auto, using(crate::proofs::Slots::initial_none))]
+pub fn number_of(list: Listed, name: &[u8]) -> Option<usize>
     ensures { result ≡ name_number list name.now }
 {
     if can_begin(name) {
-        return number_in_slot(list, name);
+        number_in_slot(list, name)
+    } else {
+        None
     }
-    Number::Nothing
 }
 
 // Is the name listed, byte for byte? No two names differ only in the case of letters.
+// A `match`: a closure for `is_some_and` would have to require that the number is one of the list's.
 pub fn contains(list: Listed, name: &[u8]) -> bool
     ensures { result ≡ contains_name list name.now }
 {
     match number_of(list, name) {
-        Number::At(i) => is_exactly(list, i, name),
-        Number::Nothing => false,
+        Some(i) => is_exactly(list, i, name),
+        None => false,
     }
 }
 
 // The list's i-th name written at a place, if it fits.
-pub fn append_name(list: Listed, i: usize, out: &mut [u8], at: usize) -> scan::Written
+pub fn append_name(list: Listed, i: usize, out: &mut [u8], at: usize) -> Option<usize>
     requires { (i < length (names list)) × (at ≤ length out.old) }
     ensures { Wrote (name_of list i) at out.old out.new result }
 {
-    let entry = crate::tables::name_at(list, i);
-    let bytes = entry.bytes;
-    let len = entry.len;
-    scan::append(out, at, &bytes[..len])
+    let entry = name_at(list, i);
+    scan::append(out, at, entry.as_bytes())
 }

@@ -1,7 +1,7 @@
 // Five ordered lists of names, as constant tables. A row is a name and blanks up to the longest
 // one's 25 bytes; no name holds a blank, so the first one ends it. A constant is made anew on the
 // stack where it is used, so the three long lists stand in two parts each.
-ghost use Rattle.std.specs.Prelude.{◌≡◌, ◌<◌, length};
+ghost use Rattle.std.specs.Prelude.{◌≡◌, ◌<◌, ◌≤◌, length, take};
 ghost use Rattle.names.specs.Lists.{names, name_of, style_extra, inline_extra, region_attr, inline_modelled, imsc1_extension};
 ghost use Rattle.names.specs.Posts.{Cut, Holds, HoldsAt};
 
@@ -20,6 +20,15 @@ pub enum Listed {
 pub struct Name {
     pub bytes: [u8; 25],
     pub len: usize,
+}
+
+impl Name {
+    pub(crate) fn as_bytes(&self) -> &[u8]
+        requires { self.now.len ≤ length self.now.bytes }
+        ensures { result.now ≡ take self.now.len self.now.bytes }
+    {
+        &self.bytes[..self.len]
+    }
 }
 
 const STYLE_EXTRA_ORDER_A_TO_L: [[u8; 25]; 22] = [
@@ -215,13 +224,10 @@ fn style_extra(i: usize) -> Name
     ensures { HoldsAt style_extra i result }
 {
     if i < 22 {
-        let table = STYLE_EXTRA_ORDER_A_TO_L;
-        let row = table[i];
-        return cut(row);
+        cut(STYLE_EXTRA_ORDER_A_TO_L[i])
+    } else {
+        cut(STYLE_EXTRA_ORDER_O_TO_Z[i - 22])
     }
-    let table = STYLE_EXTRA_ORDER_O_TO_Z;
-    let row = table[i - 22];
-    cut(row)
 }
 
 fn inline_extra(i: usize) -> Name
@@ -229,13 +235,10 @@ fn inline_extra(i: usize) -> Name
     ensures { HoldsAt inline_extra i result }
 {
     if i < 23 {
-        let table = P_INLINE_EXTRA_ORDER_A_TO_L;
-        let row = table[i];
-        return cut(row);
+        cut(P_INLINE_EXTRA_ORDER_A_TO_L[i])
+    } else {
+        cut(P_INLINE_EXTRA_ORDER_O_TO_Z[i - 23])
     }
-    let table = P_INLINE_EXTRA_ORDER_O_TO_Z;
-    let row = table[i - 23];
-    cut(row)
 }
 
 fn region_attr(i: usize) -> Name
@@ -243,31 +246,24 @@ fn region_attr(i: usize) -> Name
     ensures { HoldsAt region_attr i result }
 {
     if i < 28 {
-        let table = REGION_ATTR_ORDER_A_TO_L;
-        let row = table[i];
-        return cut(row);
+        cut(REGION_ATTR_ORDER_A_TO_L[i])
+    } else {
+        cut(REGION_ATTR_ORDER_O_TO_Z[i - 28])
     }
-    let table = REGION_ATTR_ORDER_O_TO_Z;
-    let row = table[i - 28];
-    cut(row)
 }
 
 fn inline_modelled(i: usize) -> Name
     requires { i < 6 }
     ensures { HoldsAt inline_modelled i result }
 {
-    let table = P_INLINE_MODELLED_ATTRS;
-    let row = table[i];
-    cut(row)
+    cut(P_INLINE_MODELLED_ATTRS[i])
 }
 
 fn imsc1_extension(i: usize) -> Name
     requires { i < 3 }
     ensures { HoldsAt imsc1_extension i result }
 {
-    let table = IMSC1_EXTENSION_PARAMS;
-    let row = table[i];
-    cut(row)
+    cut(IMSC1_EXTENSION_PARAMS[i])
 }
 
 // A list's i-th name, from 0 on.

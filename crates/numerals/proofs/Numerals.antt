@@ -1,4 +1,5 @@
 -- Laws of digits, of the value of a row of digits and of whole numbers. Assumes nothing.
+use Rattle.std.specs.Prelude.{Option, Some, None}
 use Prim.Native.Nat.{ℕ, ◌+◌, ◌-◌, ◌*◌, ◌/◌, ◌≤◌, ◌<◌}
 use mathlib.Core.Path.{◌≡◌, refl, sym, ap, ◌∙◌}
 use mathlib.Core.Bool.{Bool, true, false, cond, ◌&&◌, and_assoc, and-false}
@@ -13,8 +14,6 @@ use borrow.Author.Tests.{ltb-true, ltb-false, leb-true, leb-false, eqb-true, lt-
 use Rattle.scan.specs.Every.{every}
 use Rattle.scan.proofs.Every.{both}
 use Rattle.numerals.specs.declared.Whole.{Whole}
-use Rattle.numerals.specs.declared.Numeral.{Numeral}
-use Rattle.numerals.specs.declared.Unsigned.{Unsigned}
 use Rattle.numerals.specs.Numerals.{digit_of, digits_only, value_from, unsigned_of, signed_by_of, numeral_of}
 
 -- ---- a digit
@@ -79,22 +78,22 @@ module _ (radix : ℕ) (s : List ℕ) (i : ℕ) (h : i < length s) where
 -- ---- digits alone as a number
 module _ (radix most : ℕ) where
   pub unsigned_is : (s : List ℕ) → 1 ≤ length s → digits_only radix s ≡ true → value_from radix 0 s ≤ most
-      → unsigned_of s radix most ≡ Unsigned.Is (value_from radix 0 s)
+      → unsigned_of s radix most ≡ Some (value_from radix 0 s)
   unfolding unsigned_of
   unsigned_is [] n d h = absurd (omega arith)
   unsigned_is (b ∷ s) n d h = rw (d, le-leb (value_from radix 0 (b ∷ s)) most h)
 
-  pub unsigned-none : (s : List ℕ) → length s ≡ 0 → unsigned_of s radix most ≡ Unsigned.Nothing
+  pub unsigned-none : (s : List ℕ) → length s ≡ 0 → unsigned_of s radix most ≡ None
   unfolding unsigned_of
   unsigned-none [] h = refl
   unsigned-none (b ∷ s) h = absurd (omega arith)
 
-  pub unsigned-off : (s : List ℕ) → digits_only radix s ≡ false → unsigned_of s radix most ≡ Unsigned.Nothing
+  pub unsigned-off : (s : List ℕ) → digits_only radix s ≡ false → unsigned_of s radix most ≡ None
   unfolding unsigned_of
   unsigned-off [] d = refl
   unsigned-off (b ∷ s) d = rw d
 
-  pub unsigned-over : (s : List ℕ) → most < value_from radix 0 s → unsigned_of s radix most ≡ Unsigned.Nothing
+  pub unsigned-over : (s : List ℕ) → most < value_from radix 0 s → unsigned_of s radix most ≡ None
   unfolding unsigned_of
   unsigned-over [] h = refl
   unsigned-over (b ∷ s) h = rw (lt-leb (value_from radix 0 (b ∷ s)) most h, and-false)
@@ -109,17 +108,17 @@ module _ (radix most v : ℕ) (r : 1 ≤ radix) where
 
 -- one digit more, by the answer: within the largest, or past it
 module _ (n most : ℕ) where
-  pub up_to_is : (m : ℕ) → Unsigned.Is m ≡ cond (leb n most) (Unsigned.Is n) Unsigned.Nothing → (m ≡ n) × (n ≤ most)
+  pub up_to_is : (m : ℕ) → Some m ≡ cond (leb n most) (Some n) None → (m ≡ n) × (n ≤ most)
   up_to_is m e = by (leb n most) refl e
     where
-      by : (t : Bool) → leb n most ≡ t → Unsigned.Is m ≡ cond t (Unsigned.Is n) Unsigned.Nothing → (m ≡ n) × (n ≤ most)
+      by : (t : Bool) → leb n most ≡ t → Some m ≡ cond t (Some n) None → (m ≡ n) × (n ≤ most)
       by true t w = (cc, leb-true n most t)
       by false t w = let z : ◌≡◌ {A = ℕ} 0 1 = cc in absurd (omega arith)
 
-  pub up_to_none : Unsigned.Nothing ≡ cond (leb n most) (Unsigned.Is n) Unsigned.Nothing → most < n
+  pub up_to_none : None ≡ cond (leb n most) (Some n) None → most < n
   up_to_none e = by (leb n most) refl e
     where
-      by : (t : Bool) → leb n most ≡ t → Unsigned.Nothing ≡ cond t (Unsigned.Is n) Unsigned.Nothing → most < n
+      by : (t : Bool) → leb n most ≡ t → None ≡ cond t (Some n) None → most < n
       by true t w = let z : ◌≡◌ {A = ℕ} 0 1 = cc in absurd (omega arith)
       by false t w = omega (arith, leb-false n most t)
 
@@ -132,11 +131,8 @@ pub record Going (radix most : ℕ) (s : List ℕ) (v i : ℕ) : Type 0 where
   pub only : digits_only radix s ≡ digits_only radix (drop i s)
 
 module _ (radix most : ℕ) (s : List ℕ) where
-  pub going_start : 1 ≤ length s → Going radix most s 0 0
-  going_start h = record { within = omega arith; fits = omega arith; some = h; value = refl; only = refl }
-
   module _ (v i : ℕ) (g : Going radix most s v i) where
-    pub going_done : length s ≤ i → unsigned_of s radix most ≡ Unsigned.Is v
+    pub going_done : length s ≤ i → unsigned_of s radix most ≡ Some v
     unfolding value_from digits_only
     going_done h =
         let e : value_from radix 0 s ≡ v = g.value ∙ rw (drop_of_length-le s h) in
@@ -159,10 +155,10 @@ module _ (radix most : ℕ) (s : List ℕ) where
         only = only-on ∙ rw (lt-ltb d radix l);
       }
 
-      pub going_off : radix ≤ d → unsigned_of s radix most ≡ Unsigned.Nothing
+      pub going_off : radix ≤ d → unsigned_of s radix most ≡ None
       going_off l = unsigned-off radix most s (only-on ∙ rw (le-ltb d radix l))
 
-      pub going_over : 1 ≤ radix → most < v * radix + d → unsigned_of s radix most ≡ Unsigned.Nothing
+      pub going_over : 1 ≤ radix → most < v * radix + d → unsigned_of s radix most ≡ None
       going_over r m =
           unsigned-over radix most s (omega (arith, value_on, value_from-low radix r (v * radix + d) (drop (i + 1) s)))
 
@@ -171,11 +167,6 @@ pub after-sign : (s : List ℕ) → take (length s - 1) (drop 1 s) ≡ drop 1 s
 after-sign s = take_all (length s - 1) (drop 1 s) (simp length-drop (omega arith))
 
 module _ (radix most : ℕ) where
-  pub numeral_none : (s : List ℕ) (minus : Bool) → length s ≡ 0 → numeral_of s radix most minus ≡ Numeral.Nothing
-  unfolding numeral_of
-  numeral_none [] minus h = refl
-  numeral_none (b ∷ s) minus h = absurd (omega arith)
-
   pub numeral_plus : (s : List ℕ) (minus : Bool) → 1 ≤ length s → get_or s 0 0 ≡ 43
       → numeral_of s radix most minus ≡ signed_by_of false (unsigned_of (drop 1 s) radix most)
   unfolding numeral_of
@@ -195,8 +186,15 @@ module _ (radix most : ℕ) where
   numeral_bare (b ∷ s) true h e d = rw (ne_eqb b 43 e, ne_eqb b 45 (d refl))
   numeral_bare (b ∷ s) false h e d = rw (ne_eqb b 43 e)
 
+  -- the same of any text, which may be empty
+  pub numeral_rest : (s : List ℕ) (minus : Bool) → (1 ≤ length s → get_or s 0 0 ≡ 43 → ⊥) → (minus ≡ true → 1 ≤ length s → get_or s 0 0 ≡ 45 → ⊥)
+      → numeral_of s radix most minus ≡ signed_by_of false (unsigned_of s radix most)
+  unfolding numeral_of unsigned_of
+  numeral_rest [] minus e d = refl
+  numeral_rest (b ∷ s) minus e d = numeral_bare (b ∷ s) minus (omega arith) (e (omega arith)) (λ m. d m (omega arith))
+
   pub numeral_plain : (s : List ℕ) (minus : Bool) → radix ≤ 36 → 1 ≤ length s → digits_only radix s ≡ true → value_from radix 0 s ≤ most
-      → numeral_of s radix most minus ≡ Numeral.Is (record { negative = false; magnitude = value_from radix 0 s })
+      → numeral_of s radix most minus ≡ Some (record { negative = false; magnitude = value_from radix 0 s })
   unfolding digit_of digits_only
   numeral_plain [] minus r h d l = absurd (omega arith)
   numeral_plain (b ∷ s) minus r h d l =
@@ -208,26 +206,26 @@ module _ (radix most : ℕ) where
       not_sign : (k : ℕ) → digit_of k ≡ 36 → b ≡ k → ⊥
       not_sign k w e = omega (arith, first, ap digit_of e)
 
-  pub unsigned-most : (s : List ℕ) (m : ℕ) → unsigned_of s radix most ≡ Unsigned.Is m → m ≤ most
+  pub unsigned-most : (s : List ℕ) (m : ℕ) → unsigned_of s radix most ≡ Some m → m ≤ most
   unfolding unsigned_of
   unsigned-most [] m e = let z : ◌≡◌ {A = ℕ} 0 1 = cc in absurd (omega arith)
   unsigned-most (b ∷ s) m e = by (digits_only radix (b ∷ s)) (leb (value_from radix 0 (b ∷ s)) most) refl refl
     where
       by : (d l : Bool) → digits_only radix (b ∷ s) ≡ d → leb (value_from radix 0 (b ∷ s)) most ≡ l → m ≤ most
       by true true d l =
-          let q : Unsigned.Is (value_from radix 0 (b ∷ s)) ≡ Unsigned.Is m = rw (d, l) at e in
+          let q : Some (value_from radix 0 (b ∷ s)) ≡ Some m = rw (d, l) at e in
           let v : value_from radix 0 (b ∷ s) ≡ m = cc in
           omega (arith, leb-true (value_from radix 0 (b ∷ s)) most l)
       by true false d l = let z : ◌≡◌ {A = ℕ} 0 1 = cc (rw (d, l) at e) in absurd (omega arith)
       by false l d _ = let z : ◌≡◌ {A = ℕ} 0 1 = cc (rw d at e) in absurd (omega arith)
 
-pub signed-sign : (n : Bool) (u : Unsigned) {w : Whole} → signed_by_of n u ≡ Numeral.Is w → w.negative ≡ n
-signed-sign n (Unsigned.Is m) e = cc
-signed-sign n Unsigned.Nothing e = let z : ◌≡◌ {A = ℕ} 0 1 = cc in absurd (omega arith)
+pub signed-sign : (n : Bool) (u : Option ℕ) {w : Whole} → signed_by_of n u ≡ Some w → w.negative ≡ n
+signed-sign n (Some m) e = cc
+signed-sign n None e = let z : ◌≡◌ {A = ℕ} 0 1 = cc in absurd (omega arith)
 
-pub signed-size : (n : Bool) (u : Unsigned) {w : Whole} → signed_by_of n u ≡ Numeral.Is w → u ≡ Unsigned.Is w.magnitude
-signed-size n (Unsigned.Is m) e = cc
-signed-size n Unsigned.Nothing e = let z : ◌≡◌ {A = ℕ} 0 1 = cc in absurd (omega arith)
+pub signed-size : (n : Bool) (u : Option ℕ) {w : Whole} → signed_by_of n u ≡ Some w → u ≡ Some w.magnitude
+signed-size n (Some m) e = cc
+signed-size n None e = let z : ◌≡◌ {A = ℕ} 0 1 = cc in absurd (omega arith)
 
 -- what is known of a number without a minus, from the text alone
 pub record Plain (s : List ℕ) (most : ℕ) (w : Whole) : Type 0 where
@@ -235,12 +233,12 @@ pub record Plain (s : List ℕ) (most : ℕ) (w : Whole) : Type 0 where
   pub positive : w.negative ≡ false
   pub within : w.magnitude ≤ most
 
-pub numeral_inv : (s : List ℕ) (radix most : ℕ) {w : Whole} → numeral_of s radix most false ≡ Numeral.Is w → Plain s most w
+pub numeral_inv : (s : List ℕ) (radix most : ℕ) {w : Whole} → numeral_of s radix most false ≡ Some w → Plain s most w
 unfolding numeral_of
 numeral_inv [] radix most e = let z : ◌≡◌ {A = ℕ} 0 1 = cc in absurd (omega arith)
 numeral_inv (b ∷ s) radix most {w} e = by (eqb b 43) refl
   where
-    of : (u : List ℕ) → signed_by_of false (unsigned_of u radix most) ≡ Numeral.Is w → Plain (b ∷ s) most w
+    of : (u : List ℕ) → signed_by_of false (unsigned_of u radix most) ≡ Some w → Plain (b ∷ s) most w
     of u e = record {
       some = omega arith;
       positive = signed-sign false (unsigned_of u radix most) e;
@@ -273,17 +271,17 @@ module _ (radix : ℕ) (r : radix ≤ 36) where
       let l : digit_of b < radix = ltb-true _ _ d.0 in
       rw (lt-ltb b 128 (digit_ascii b (omega arith))) (digits_ascii s d.1)
 
-  unsigned-ascii : (s : List ℕ) (most m : ℕ) → unsigned_of s radix most ≡ Unsigned.Is m → every ascii s ≡ true
+  unsigned-ascii : (s : List ℕ) (most m : ℕ) → unsigned_of s radix most ≡ Some m → every ascii s ≡ true
   unsigned-ascii s most m e = by (digits_only radix s) refl
     where
       by : (t : Bool) → digits_only radix s ≡ t → every ascii s ≡ true
       by true d = digits_ascii s d
       by false d = absurd (nothing_is (sym (unsigned-off radix most s d) ∙ e))
         where
-          nothing_is : Unsigned.Nothing ≡ Unsigned.Is m → ⊥
+          nothing_is : None ≡ Some m → ⊥
           nothing_is w = let z : ◌≡◌ {A = ℕ} 0 1 = cc in omega arith
 
-  pub numeral_ascii : (s : List ℕ) (most : ℕ) (minus : Bool) {w : Whole} → numeral_of s radix most minus ≡ Numeral.Is w → every ascii s ≡ true
+  pub numeral_ascii : (s : List ℕ) (most : ℕ) (minus : Bool) {w : Whole} → numeral_of s radix most minus ≡ Some w → every ascii s ≡ true
   unfolding numeral_of
   numeral_ascii [] most minus e = refl
   numeral_ascii (b ∷ s) most minus {w} e = by (eqb b 43) refl (minus && eqb b 45) refl

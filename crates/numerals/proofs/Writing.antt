@@ -2,7 +2,7 @@
 use Prim.Native.Nat.{ℕ, zero, suc, ◌+◌, ◌-◌, ◌*◌, ◌/◌, ◌%◌, ◌^◌, ◌≤◌, ◌<◌}
 use mathlib.Core.Path.{◌≡◌, refl, sym, ap, ◌∙◌}
 use mathlib.Core.Bool.{Bool, true, false}
-use mathlib.Core.List.{List, [], ◌∷◌, ◌++◌, append-nil, append_assoc}
+use mathlib.Core.List.{List, [], ◌∷◌, ◌++◌, append_assoc}
 use native.Mathlib.Omega.{arith}
 use native.Mathlib.Nat.{mod-lt, mod-one, mod-eq_of_lt, one-le-pow, pow-zero, pow-suc, div-eq_of_lt, div-div-eq-div-mul, lt-div-mul-add}
 use native.Mathlib.Numerals.{add-one}
@@ -205,10 +205,6 @@ pub record Putting (radix width n at : ℕ) (t : List ℕ) (left i : ℕ) (t' : 
   pub laid : t' ≡ sets t (at + i) after
 
 module _ (radix width n at : ℕ) (t : List ℕ) where
-  pub putting_start : at + width ≤ length t → Putting radix width n at t n width t
-  putting_start h =
-      record { room = h; some = omega arith; kept = refl; after = []; is = sym (append-nil (padded radix width n)); laid = refl }
-
   module _ (left i : ℕ) (t' : List ℕ) (p : Putting radix width n at t left i t') where
     pub putting_step : 0 < i → Putting radix width n at t (left / radix) (i - 1) (set t' (at + (i - 1)) (digit_char (left % radix)))
     unfolding padded

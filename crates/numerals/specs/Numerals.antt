@@ -1,9 +1,8 @@
 -- Whole numbers, from the documentation of Rust's `from_str_radix` (`parse` is the same at radix 10): "The string is expected to be an
 -- optional + (or - of a signed type) sign followed by only digits. Leading and trailing non-digit characters (including whitespace)
 -- represent an error." Definitions alone.
-use Rattle.std.specs.Prelude.{ℕ, ◌+◌, ◌-◌, ◌*◌, Bool, true, false, cond, ◌&&◌, List, [], ◌∷◌, eqb, leb, ltb}
-use Rattle.numerals.specs.declared.Numeral.{Numeral}
-use Rattle.numerals.specs.declared.Unsigned.{Unsigned}
+use Rattle.std.specs.Prelude.{Option, Some, None, ℕ, ◌+◌, ◌-◌, ◌*◌, Bool, true, false, cond, ◌&&◌, List, [], ◌∷◌, eqb, leb, ltb}
+use Rattle.numerals.specs.declared.Whole.{Whole}
 
 -- the value of a digit: 0 to 9, and A to Z or a to z as 10 to 35; 36 for any other byte
 unfoldable pub digit_of : ℕ → ℕ
@@ -22,23 +21,27 @@ unfolding digit_of
 value_from radix v [] = v
 value_from radix v (b ∷ s) = value_from radix (v * radix + digit_of b) s
 
+-- the number n, unless it is past the largest
+abbrev pub up_to : ℕ → ℕ → Option ℕ
+up_to n most = cond (leb n most) (Some n) None
+
 -- one digit or more, and no value past the largest
-unfoldable pub unsigned_of : List ℕ → ℕ → ℕ → Unsigned
+unfoldable pub unsigned_of : List ℕ → ℕ → ℕ → Option ℕ
 unfolding digits_only value_from
-unsigned_of [] radix most = Unsigned.Nothing
+unsigned_of [] radix most = None
 unsigned_of (b ∷ s) radix most =
     cond (digits_only radix (b ∷ s) && leb (value_from radix 0 (b ∷ s)) most)
-    (Unsigned.Is (value_from radix 0 (b ∷ s)))
-    Unsigned.Nothing
+    (Some (value_from radix 0 (b ∷ s)))
+    None
 
-abbrev pub signed_by_of : Bool → Unsigned → Numeral
-signed_by_of negative (Unsigned.Is m) = Numeral.Is (record { negative = negative; magnitude = m })
-signed_by_of negative Unsigned.Nothing = Numeral.Nothing
+abbrev pub signed_by_of : Bool → Option ℕ → Option Whole
+signed_by_of negative (Some m) = Some (record { negative = negative; magnitude = m })
+signed_by_of negative None = None
 
 -- A sign or none, then the digits. A minus is a sign where the type has one, and its least value is one below -most.
-unfoldable pub numeral_of : List ℕ → ℕ → ℕ → Bool → Numeral
+unfoldable pub numeral_of : List ℕ → ℕ → ℕ → Bool → Option Whole
 unfolding unsigned_of
-numeral_of [] radix most minus = Numeral.Nothing
+numeral_of [] radix most minus = None
 numeral_of (b ∷ s) radix most minus =
     cond (eqb b 43) (signed_by_of false (unsigned_of s radix most))
     (cond (minus && eqb b 45) (signed_by_of true (unsigned_of s radix (most + 1)))

@@ -4,8 +4,8 @@
 // serves every type, by the radix, the largest value and whether a minus is taken.
 mod write;
 
-ghost use Rattle.std.specs.Prelude.{◌≡◌, cond, ◌+◌, ◌*◌, ◌≤◌, ◌<◌, ◌^◌, leb, length};
-ghost use Rattle.numerals.specs.Numerals.{digit_of, unsigned_of, signed_by_of, numeral_of};
+ghost use Rattle.std.specs.Prelude.{Some, None, ◌≡◌, cond, ◌+◌, ◌*◌, ◌≤◌, ◌<◌, ◌^◌, leb, length};
+ghost use Rattle.numerals.specs.Numerals.{digit_of, up_to, unsigned_of, signed_by_of, numeral_of};
 
 pub use write::{decimal_width, put_digits};
 
@@ -15,106 +15,69 @@ pub struct Whole {
     pub magnitude: u64,
 }
 
-#[derive(Clone, Copy)]
-pub enum Numeral {
-    Is(Whole),
-    Nothing,
-}
-
-// A number without its sign.
-#[derive(Clone, Copy)]
-pub enum Unsigned {
-    Is(u64),
-    Nothing,
-}
-
 // A digit's value: the letters, capital or small, are 10 to 35. Any other byte answers 36.
+#[tactic(auto, unfolding(crate::specs::Numerals::digit_of))]
 pub fn digit(b: u8) -> u64
     ensures { result ≡ digit_of b }
 {
     match b {
-        b'0'..=b'9' => (b - 48) as u64,
-        b'A'..=b'Z' => (b - 55) as u64,
-        b'a'..=b'z' => (b - 87) as u64,
+        b'0'..=b'9' => u64::from(b - b'0'),
+        b'A'..=b'Z' => u64::from(b - b'A') + 10,
+        b'a'..=b'z' => u64::from(b - b'a') + 10,
         _ => 36,
     }
 }
 
 // The value of one digit more, up to the largest.
-fn one_more(value: u64, radix: u64, d: u64, most: u64) -> Unsigned
+fn one_more(value: u64, radix: u64, d: u64, most: u64) -> Option<u64>
     requires { (2 ≤ radix) × (radix ≤ 36) × (d < radix) }
-    ensures { result ≡ cond (leb (value * radix + d) most) (Unsigned.Is (value * radix + d)) Unsigned.Nothing }
+    ensures { result ≡ up_to (value * radix + d) most }
 {
     // below 2^58 no product passes 64 bits, and there is nothing to divide
-    if value < 288230376151711744 {
-        let next = value * radix + d;
-        if most < next {
-            return Unsigned::Nothing;
-        }
-        return Unsigned::Is(next);
-    }
-    if most / radix < value {
-        return Unsigned::Nothing;
-    }
-    let shifted = value * radix;
-    if most - shifted < d {
-        return Unsigned::Nothing;
-    }
-    Unsigned::Is(shifted + d)
+    let next = if value < 1 << 58 {
+        value * radix + d
+    } else {
+        value.checked_mul(radix)?.checked_add(d)?
+    };
+    (next <= most).then_some(next)
 }
 
 // The value of digits alone, up to the largest.
-pub fn read_unsigned(digits: &[u8], radix: u64, most: u64) -> Unsigned
+pub fn read_unsigned(digits: &[u8], radix: u64, most: u64) -> Option<u64>
     requires { (2 ≤ radix) × (radix ≤ 36) }
     ensures { result ≡ unsigned_of digits.now radix most }
 {
-    if digits.len() == 0 {
-        return Unsigned::Nothing;
+    if digits.is_empty() {
+        return None;
     }
     let mut value = 0;
-    let mut i = 0;
-    while i < digits.len() {
-        let d = digit(digits[i]);
+    for &b in digits {
+        let d = digit(b);
         if radix <= d {
-            return Unsigned::Nothing;
+            return None;
         }
-        let Unsigned::Is(next) = one_more(value, radix, d, most) else {
-            return Unsigned::Nothing;
-        };
-        value = next;
-        i += 1;
+        value = one_more(value, radix, d, most)?;
     }
-    Unsigned::Is(value)
+    Some(value)
 }
 
 // The number that the whole text spells, in the radix, from 0 (or, with a minus, from -most - 1) to most.
-pub fn read_numeral(text: &[u8], radix: u64, most: u64, minus: bool) -> Numeral
+pub fn read_numeral(text: &[u8], radix: u64, most: u64, minus: bool) -> Option<Whole>
     requires { (2 ≤ radix) × (radix ≤ 36) × (most < 2 ^ 63) }
     ensures { result ≡ numeral_of text.now radix most minus }
 {
-    if text.len() == 0 {
-        return Numeral::Nothing;
+    match text {
+        [b'+', digits @ ..] => signed(false, read_unsigned(digits, radix, most)),
+        [b'-', digits @ ..] if minus => signed(true, read_unsigned(digits, radix, most + 1)),
+        _ => signed(false, read_unsigned(text, radix, most)),
     }
-    let sign = text[0];
-    if sign == b'+' {
-        return signed(false, read_unsigned(&text[1..], radix, most));
-    }
-    if minus {
-        if sign == b'-' {
-            return signed(true, read_unsigned(&text[1..], radix, most + 1));
-        }
-    }
-    signed(false, read_unsigned(text, radix, most))
 }
 
-fn signed(negative: bool, size: Unsigned) -> Numeral
+fn signed(negative: bool, size: Option<u64>) -> Option<Whole>
     ensures { result ≡ signed_by_of negative size }
 {
-    match size {
-        Unsigned::Is(magnitude) => Numeral::Is(Whole {
-            negative,
-            magnitude,
-        }),
-        Unsigned::Nothing => Numeral::Nothing,
-    }
+    size.map(|magnitude| Whole {
+        negative,
+        magnitude,
+    })
 }

@@ -3,11 +3,16 @@ ghost use Rattle.std.specs.Prelude.{◌≡◌, ◌+◌, ◌≤◌, ◌<◌, leng
 ghost use Rattle.scan.specs.Posts.{Appended};
 ghost use Rattle.numerals.specs.Written.{digit_char, padded, decimal_width};
 
+#[tactic(auto, unfolding(crate::specs::Written::digit_char))]
 fn digit_char(d: u64) -> u8
     requires { d < 36 }
     ensures { result ≡ digit_char d }
 {
-    if d < 10 { 48 + d as u8 } else { 55 + d as u8 }
+    if d < 10 {
+        b'0' + d as u8
+    } else {
+        b'A' + (d - 10) as u8
+    }
 }
 
 // How many decimal digits a number has: 1 or more.
@@ -30,9 +35,7 @@ pub fn put_digits(out: &mut [u8], at: usize, n: u64, radix: u64, width: usize) -
     ensures { Appended (padded radix width n) at out.old out.new result }
 {
     let mut left = n;
-    let mut i = width;
-    while 0 < i {
-        i -= 1;
+    for i in (0..width).rev() {
         out[at + i] = digit_char(left % radix);
         left /= radix;
     }

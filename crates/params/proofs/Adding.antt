@@ -1,6 +1,7 @@
 -- Parameters, one attribute after the other. Assumes nothing.
 --     Listing, listing_start, listing_on, listing_all, listing_full     one turn of `collect_params`
 --     value-fits, span-is, adds_none, adds_row                one attribute
+use Rattle.std.specs.Prelude.{Option, Some, None}
 use Prim.Native.Nat.{ℕ, ◌+◌, ◌-◌, ◌*◌, ◌≤◌, ◌<◌}
 use mathlib.Core.Path.{◌≡◌, refl, sym, ap, ◌∙◌}
 use mathlib.Core.Bool.{true, false}
@@ -17,7 +18,6 @@ use Rattle.tree.specs.Trees.{Attr}
 use Rattle.track.specs.declared.strings.Span.{Span}
 use Rattle.track.specs.declared.values.Param as declared
 use Rattle.track.specs.Track.{Param}
-use Rattle.records.specs.declared.cells.Added.{Added}
 use Rattle.records.specs.Posts.{AddPost}
 use Rattle.track.specs.Layout.{each, param_cells}
 use Rattle.xml.specs.Find.{Owned}
@@ -137,14 +137,14 @@ value-long u z k f =
     ap length (string_is z p n) ∙ omega (arith, length-take n (drop p z), length-drop p z, f)
 
 pub span-is : (u z : List ℕ) (k r : ℕ) → NameFits u z k → PartFrom (name_at u z k) r (after_first_colon (name_at u z k)) → (x : Span)
-    → x.place ≡ get_or u (k * 4) 0 + r → x.len ≡ get_or u (k * 4 + 1) 0 - r → SpanIs u z k x
+    → x.place ≡ get_or u (k * 4) 0 + r → x.len ≡ length (name_at u z k) - r → SpanIs u z k x
 span-is u z k r f c x p n =
     let s = name_at u z k in
     let w : length (after_first_colon s) ≡ length s - r = ap length (sym c.is) ∙ length-drop r s in
     let long = name_long u z k f in
     record {
       place_is = p ∙ ap (λ m. get_or u (k * 4) 0 + m) (omega (arith, w, c.within));
-      len_is = omega (arith, n, w, long);
+      len_is = omega (arith, n, w);
       within = omega (arith, p, n, f.1, c.within, long);
     }
 
@@ -153,15 +153,15 @@ cells_of : (u z : List ℕ) (k : ℕ) (x : declared.Param) → SpanIs u z k x.na
 unfolding param_cells placed_params
 cells_of u z k x s p q f = rw (s.place_is, s.len_is, p, q, value-long u z k f)
 
-pub adds_none : (u z : List ℕ) (k : ℕ) (t : List ℕ) (n : ℕ) → is_param_name (name_at u z k) ≡ false → Adds u z k t t n (Added.Next n)
+pub adds_none : (u z : List ℕ) (k : ℕ) (t : List ℕ) (n : ℕ) → is_param_name (name_at u z k) ≡ false → Adds u z k t t n (Some n)
 unfolding placed_params
 adds_none u z k t n e = rw e (omega arith, λ h. h, refl)
 
 pub adds_row : (u z : List ℕ) (k : ℕ) (t t' : List ℕ) (n : ℕ) (x : declared.Param) → is_param_name (name_at u z k) ≡ true
-    → SpanIs u z k x.name → x.value.place ≡ get_or u (k * 4 + 2) 0 → x.value.len ≡ get_or u (k * 4 + 3) 0 → ValueFits u z k → (r : Added)
+    → SpanIs u z k x.name → x.value.place ≡ get_or u (k * 4 + 2) 0 → x.value.len ≡ get_or u (k * 4 + 3) 0 → ValueFits u z k → (r : Option ℕ)
     → AddPost 64 4 (param_cells x) t t' n r → Adds u z k t t' n r
-adds_row u z k t t' n x e s p q f (Added.Next m) w =
+adds_row u z k t t' n x e s p q f (Some m) w =
     let one : params_at u z k ≡ param_at u z k ∷ [] = rw e in
     let row : param_cells x ≡ placed_params (param_at u z k ∷ []) = cells_of u z k x s p q f in
     (w.1 ∙ rw one, λ h. omega (arith, w.0, w.1), w.2 ∙ rw (one, row))
-adds_row u z k t t' n x e s p q f Added.Full w = (w.0, w.1, rw e)
+adds_row u z k t t' n x e s p q f None w = (w.0, w.1, rw e)

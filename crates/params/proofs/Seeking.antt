@@ -2,9 +2,11 @@
 --     sought, sought_here, sought_next, sought_nowhere     one turn of `seek`
 --     by_value, none-value           what follows from what it answers
 --     param_rate, no_rate                     the same of a parameter
---     finds_fits, finds_value, meets-fits, meets-value     the same of either answer
+--     finds_value, meets-fits, meets-value     the same of either answer
 --     begins, part-from                       names taken apart
---     frame_ticked, timing-framed, timing-refused     the two rates
+--     timing-is, timing_framed, timing-refused     the two rates
+use Rattle.std.specs.Prelude as rust
+use Rattle.std.specs.Prelude.{Some, None}
 use Prim.Native.Nat.{ℕ, ◌+◌, ◌-◌, ◌≤◌, ◌<◌}
 use mathlib.Core.Path.{◌≡◌, refl, sym, ◌∙◌, ap}
 use mathlib.Core.Bool.{Bool, true, false, ◌&&◌}
@@ -22,7 +24,7 @@ use Rattle.scan.proofs.Every.{by-test}
 use Rattle.times.specs.Expressions.{time_decimal}
 use Rattle.tree.specs.Trees.{Attr}
 use Rattle.tree.specs.declared.answers.Refusal.{Refusal}
-use Rattle.track.specs.Layout.{is_some}
+use Rattle.times.specs.declared.offset.TimingCtx.{TimingCtx}
 use Rattle.grammar.specs.Scan.{prefix}
 use Rattle.derivation.proofs.SearchLaws.{prefix-at}
 use Rattle.records.specs.Find.{first_that}
@@ -34,13 +36,12 @@ use Rattle.meaning.specs.Answers.{Answer, is, ◌>>=◌}
 use Rattle.meaning.specs.Nodes as nodes
 use Rattle.meaning.specs.Nodes.{value_of, valued, read_from}
 use Rattle.meaning.specs.Kinds.{with_places, attrs_in}
-use Rattle.meaning.specs.Meaning.{rate_answer, float_or, is_param, rate_of}
+use Rattle.meaning.specs.Meaning.{rate_answer, float_or, is_param, rate_of, timing}
 use Rattle.xml.specs.declared.find.Attribute.{Attribute}
-use Rattle.xml.specs.declared.find.Value.{Value}
-use Rattle.styling.specs.Posts.{name_at, value_in_of, turned, Finds, FoundFits}
+use Rattle.styling.specs.Posts.{name_at, value_in_of, option, turned, Finds, FoundFits}
 use Rattle.styling.proofs.Attributes.{found-valued, none-valued}
 use Rattle.params.specs.declared.seek.Sought.{Sought}
-use Rattle.params.specs.Named.{is_param_name, sought_by, first_by_of, IsBy, NoneBy, Meets, found_in, ticked, after_frame, timing_of}
+use Rattle.params.specs.Named.{is_param_name, sought_by, first_by_of, IsBy, NoneBy, Meets, found_in, timing_of}
 
 -- ---- row by row
 abbrev pub sought : (p : List ℕ → Bool) (z : List ℕ) → List Attr → Option (nodes.Attr Placed)
@@ -107,21 +108,17 @@ module _ (name : List ℕ) (l : List (nodes.Attr Placed)) where
   no_rate x = reads ∙ rw x.is_none
 
 -- ---- what a search answers
-pub finds_fits : (z name : List ℕ) (l : List (nodes.Attr Placed)) (r : Value) → Finds z name l r → FoundFits z r
-finds_fits z name l (Value.At h) x = x.within
-finds_fits z name l Value.Absent x = tt
+pub finds_value : (z name : List ℕ) (l : List (nodes.Attr Placed)) (r : rust.Option Attribute) → Finds z name l r → found_in z r ≡ valued with_places name l
+finds_value z name l (Some h) x = sym (found-valued x)
+finds_value z name l None x = sym (none-valued x)
 
-pub finds_value : (z name : List ℕ) (l : List (nodes.Attr Placed)) (r : Value) → Finds z name l r → found_in z r ≡ valued with_places name l
-finds_value z name l (Value.At h) x = sym (found-valued x)
-finds_value z name l Value.Absent x = sym (none-valued x)
+pub meets-fits : (z : List ℕ) (p : List ℕ → Bool) (l : List (nodes.Attr Placed)) (r : rust.Option Attribute) → Meets z p l r → FoundFits z r
+meets-fits z p l (Some h) x = x.within
+meets-fits z p l None x = tt
 
-pub meets-fits : (z : List ℕ) (p : List ℕ → Bool) (l : List (nodes.Attr Placed)) (r : Value) → Meets z p l r → FoundFits z r
-meets-fits z p l (Value.At h) x = x.within
-meets-fits z p l Value.Absent x = tt
-
-pub meets-value : (z : List ℕ) (p : List ℕ → Bool) (l : List (nodes.Attr Placed)) (r : Value) → Meets z p l r → found_in z r ≡ value_of (first_by_of p l)
-meets-value z p l (Value.At h) x = by_value x
-meets-value z p l Value.Absent x = none-value x
+pub meets-value : (z : List ℕ) (p : List ℕ → Bool) (l : List (nodes.Attr Placed)) (r : rust.Option Attribute) → Meets z p l r → found_in z r ≡ value_of (first_by_of p l)
+meets-value z p l (Some h) x = by_value x
+meets-value z p l None x = none-value x
 
 -- ---- names
 pub begins : (m s : List ℕ) (r : Bool) → Marked m s 0 r → prefix m s ≡ r
@@ -131,14 +128,24 @@ pub part-from : (s w : List ℕ) (r : ℕ) → PartFrom s r w → take (length s
 part-from s w r x = take_all (length s - r) (drop r s) (omega (arith, length-drop r s)) ∙ x.is
 
 -- ---- the two rates
-module _ (l : List (nodes.Attr Placed)) where
-  pub frame_ticked : (has : Bool) (frame : Float) (a : Answer (Option Float)) → a ≡ rate_of with_places (ascii "tickRate") l
-      → (a >>= ticked has frame) ≡ after_frame l has frame
-  frame_ticked has frame a h = ap (λ (b : Answer (Option Float)). b >>= ticked has frame) h
+-- a rate that is absent is 0
+pub timing-is : (zero : Float) → zero ≡ float_or none → (frame tick : rust.Option Float)
+    → record { frame_rate = rust.unwrap_or frame zero; has_frame_rate = rust.is_some frame; tick_rate = rust.unwrap_or tick zero; has_tick_rate = rust.is_some tick }
+    ≡ timing (option frame) (option tick)
+timing-is x e (Some a) (Some b) = refl
+timing-is x e (Some a) None = rw e
+timing-is x e None (Some b) = rw e
+timing-is x e None None = rw e
 
-  pub timing-framed : (frame : Option Float) → is frame ≡ rate_of with_places (ascii "frameRate") l
-      → after_frame l (is_some frame) (float_or frame) ≡ timing_of l
-  timing-framed frame h = ap (λ (b : Answer (Option Float)). b >>= λ f. after_frame l (is_some f) (float_or f)) h
+module _ (l : List (nodes.Attr Placed)) where
+  abbrev after_frame : Option Float → Answer TimingCtx
+  after_frame frame = rate_of with_places (ascii "tickRate") l >>= λ tick. is (timing frame tick)
+
+  pub timing_framed : (frame : Option Float) (a : Answer (Option Float)) → is frame ≡ rate_of with_places (ascii "frameRate") l
+      → a ≡ rate_of with_places (ascii "tickRate") l → (a >>= λ tick. is (timing frame tick)) ≡ timing_of l
+  timing_framed frame a h t =
+      ap (λ (b : Answer (Option Float)). b >>= λ tick. is (timing frame tick)) t
+      ∙ ap (λ (b : Answer (Option Float)). b >>= after_frame) h
 
   pub timing-refused : (r : Refusal) → turned r ≡ rate_of with_places (ascii "frameRate") l → turned r ≡ timing_of l
-  timing-refused r h = ap (λ (b : Answer (Option Float)). b >>= λ f. after_frame l (is_some f) (float_or f)) h
+  timing-refused r h = ap (λ (b : Answer (Option Float)). b >>= after_frame) h

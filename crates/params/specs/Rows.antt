@@ -1,11 +1,10 @@
 -- The rows of parameters. Definitions alone.
-use Rattle.std.specs.Prelude.{ℕ, ◌+◌, ◌-◌, ◌*◌, ◌≤◌, ◌<◌, ◌≡◌, cond, List, [], ◌∷◌, length, get_or, take}
+use Rattle.std.specs.Prelude.{Option, Some, None, ℕ, ◌+◌, ◌-◌, ◌*◌, ◌≤◌, ◌<◌, ◌≡◌, cond, List, [], ◌∷◌, length, get_or, take}
 use Rattle.std.proofs.lemmas.List.Edits.{sets}
 use Rattle.scan.specs.Names.{after_first_colon}
 use Rattle.scan.specs.Part.{string_at}
 use Rattle.track.specs.declared.strings.Span.{Span}
 use Rattle.track.specs.Track.{Param}
-use Rattle.records.specs.declared.cells.Added.{Added}
 use Rattle.xml.specs.Reading.{Placed}
 use Rattle.styling.specs.Posts.{name_at}
 use Rattle.params.specs.Named.{is_param_name}
@@ -40,12 +39,12 @@ placed_params (x ∷ l) =
     x.name.place ∷ length x.name.bytes ∷ x.value.place ∷ length x.value.bytes ∷ placed_params l
 
 -- what attribute k adds stands in the n-th row, and all else is as it was; or there are 64 already
-abbrev pub Adds : (u z : List ℕ) (k : ℕ) → (t t' : List ℕ) (n : ℕ) → Added → Type 0
-Adds u z k t t' n (Added.Next m) =
+abbrev pub Adds : (u z : List ℕ) (k : ℕ) → (t t' : List ℕ) (n : ℕ) → Option ℕ → Type 0
+Adds u z k t t' n (Some m) =
     (m ≡ n + length (params_at u z k)) × (n ≤ 64 → m ≤ 64) × (t' ≡ sets t (n * 4) (placed_params (params_at u z k)))
-Adds u z k t t' n Added.Full = (64 ≤ n) × (t' ≡ t) × (params_at u z k ≡ param_at u z k ∷ [])
+Adds u z k t t' n None = (64 ≤ n) × (t' ≡ t) × (params_at u z k ≡ param_at u z k ∷ [])
 
 -- these parameters stand in the table; or they are more than 64, and the first 64 do
-abbrev pub Collects : List (Param Placed) → (t t' : List ℕ) → Added → Type 0
-Collects l t t' (Added.Next n) = (n ≡ length l) × (n ≤ 64) × (t' ≡ sets t 0 (placed_params l))
-Collects l t t' Added.Full = (64 < length l) × (t' ≡ sets t 0 (placed_params (take 64 l)))
+abbrev pub Collects : List (Param Placed) → (t t' : List ℕ) → Option ℕ → Type 0
+Collects l t t' (Some n) = (n ≡ length l) × (n ≤ 64) × (t' ≡ sets t 0 (placed_params l))
+Collects l t t' None = (64 < length l) × (t' ≡ sets t 0 (placed_params (take 64 l)))

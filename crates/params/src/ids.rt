@@ -3,29 +3,27 @@ ghost use Rattle.std.specs.Prelude.{◌≡◌};
 ghost use Rattle.meaning.specs.Nodes.{id_of};
 ghost use Rattle.meaning.specs.Kinds.{with_places};
 ghost use Rattle.meaning.specs.Meaning.{lang_of};
-ghost use Rattle.styling.specs.Posts.{HasRows, OfRows, FoundFits};
+ghost use Rattle.styling.specs.Posts.{Of, FoundFits};
 ghost use Rattle.params.specs.Named.{found_in};
 
 use crate::seek::Sought;
-use xml::Value;
+use xml::{Attribute, Attributes};
 
-// `xml:id`, or else `id`.
-pub fn id_of(attrs: &[u32], strings: &[u8], first: usize, many: usize) -> Value
-    requires { HasRows attrs.now strings.now first many }
-    ensures found_fits { FoundFits strings.now result }
-    ensures of_rows { OfRows attrs.now strings.now first many (λ l. found_in strings.now result ≡ id_of with_places l) }
+// `xml:id`, or else `id`. (`or_else` was tried, and its proof did not close.)
+pub fn id_of(attrs: &Attributes<'_>) -> Option<Attribute>
+    ensures found_fits { FoundFits attrs.now.strings.now result }
+    ensures of_rows { Of attrs.now (λ l. found_in attrs.now.strings.now result ≡ id_of with_places l) }
 {
-    match styling::find(attrs, strings, first, many, b"xml:id") {
-        Value::At(h) => Value::At(h),
-        Value::Absent => styling::find(attrs, strings, first, many, b"id"),
+    match styling::find(attrs, b"xml:id") {
+        Some(h) => Some(h),
+        None => styling::find(attrs, b"id"),
     }
 }
 
 // `xml:lang`, byte for byte.
-pub fn lang_of(attrs: &[u32], strings: &[u8], first: usize, many: usize) -> Value
-    requires { HasRows attrs.now strings.now first many }
-    ensures found_fits { FoundFits strings.now result }
-    ensures of_rows { OfRows attrs.now strings.now first many (λ l. found_in strings.now result ≡ lang_of with_places l) }
+pub fn lang_of(attrs: &Attributes<'_>) -> Option<Attribute>
+    ensures found_fits { FoundFits attrs.now.strings.now result }
+    ensures of_rows { Of attrs.now (λ l. found_in attrs.now.strings.now result ≡ lang_of with_places l) }
 {
-    crate::seek::seek(attrs, strings, first, many, Sought::Whole, b"xml:lang")
+    crate::seek::seek(attrs, Sought::Whole, b"xml:lang")
 }

@@ -7,4 +7,4 @@ mod seek;
 
 pub use ids::{id_of, lang_of};
 pub use params::collect_params;
-pub use rates::{TimingSaid, timing_of};
+pub use rates::timing_of;

@@ -2,82 +2,62 @@
 ghost use Rattle.std.specs.Prelude.{◌≡◌, ◌+◌, ◌*◌, ◌≤◌, ◌<◌, ◌^◌, length};
 ghost use Rattle.meaning.specs.Kinds.{with_places};
 ghost use Rattle.meaning.specs.Meaning.{params_of};
-ghost use Rattle.styling.specs.Posts.{HasRows, OfRows, NameFits, name_at};
+ghost use Rattle.styling.specs.Posts.{Of, NameFits, name_at};
 ghost use Rattle.params.specs.Named.{is_param_name};
 ghost use Rattle.params.specs.Rows.{ValueFits, SpanIs, Adds, Collects};
 
-use records::Added;
 use track::{Param, Span};
 use tree::ATTR_CELLS;
+use xml::Attributes;
 
 // Is attribute k a parameter?
-fn is_param_at(attrs: &[u32], strings: &[u8], k: usize) -> bool
-    requires { NameFits attrs.now strings.now k }
-    ensures { result ≡ is_param_name (name_at attrs.now strings.now k) }
+fn is_param_at(attrs: &Attributes<'_>, k: usize) -> bool
+    requires { NameFits attrs.now.attrs.now attrs.now.strings.now k }
+    ensures { result ≡ is_param_name (name_at attrs.now.attrs.now attrs.now.strings.now k) }
 {
-    let start = scan::get(attrs, k * ATTR_CELLS);
-    let end = start + scan::get(attrs, k * ATTR_CELLS + 1);
-    crate::seek::is_param(&strings[start..end])
+    crate::seek::is_param(attrs.name(k))
 }
 
 // The name of attribute k after its first colon.
-fn name_at(attrs: &[u32], strings: &[u8], k: usize) -> Span
-    requires { NameFits attrs.now strings.now k }
-    ensures { SpanIs attrs.now strings.now k result }
+fn name_at(attrs: &Attributes<'_>, k: usize) -> Span
+    requires { NameFits attrs.now.attrs.now attrs.now.strings.now k }
+    ensures { SpanIs attrs.now.attrs.now attrs.now.strings.now k result }
 {
-    let start = scan::get(attrs, k * ATTR_CELLS);
-    let len = scan::get(attrs, k * ATTR_CELLS + 1);
-    let end = start + len;
-    let at = scan::strip_ns(&strings[start..end]);
+    let name = attrs.name(k);
+    let at = scan::strip_ns(name);
     Span {
-        place: start + at,
-        len: len - at,
+        place: scan::get(attrs.attrs, k * ATTR_CELLS) + at,
+        len: name.len() - at,
     }
 }
 
 // Attribute k in the n-th row, if it is a parameter; or there are 64 already.
-fn add_at(attrs: &[u32], strings: &[u8], k: usize, params: &mut [u32], n: usize) -> Added
-    requires { NameFits attrs.now strings.now k × ValueFits attrs.now strings.now k × (length strings.now < 2 ^ 32)
-        × (256 ≤ length params.old) }
-    ensures { Adds attrs.now strings.now k params.old params.new n result }
+fn add_at(attrs: &Attributes<'_>, k: usize, params: &mut [u32], n: usize) -> Option<usize>
+    requires { NameFits attrs.now.attrs.now attrs.now.strings.now k × ValueFits attrs.now.attrs.now attrs.now.strings.now k
+        × (length attrs.now.strings.now < 2 ^ 32) × (256 ≤ length params.old) }
+    ensures { Adds attrs.now.attrs.now attrs.now.strings.now k params.old params.new n result }
 {
-    if !is_param_at(attrs, strings, k) {
-        return Added::Next(n);
+    if !is_param_at(attrs, k) {
+        return Some(n);
     }
-    let name = name_at(attrs, strings, k);
-    let h = xml::attr_at(attrs, k);
+    let name = name_at(attrs, k);
+    let h = xml::attr_at(attrs.attrs, k);
     let value = Span {
         place: h.place,
         len: h.len,
     };
-    records::add_param(params, n, Param { name, value })
+    records::add(params, n, Param { name, value })
 }
 
 // The parameters of tt in their rows; or there are more than 64, and the first 64 are.
-pub fn collect_params(
-    attrs: &[u32],
-    strings: &[u8],
-    first: usize,
-    many: usize,
-    params: &mut [u32],
-) -> Added
-    requires { HasRows attrs.now strings.now first many × (length strings.now < 2 ^ 32) × (256 ≤ length params.old) }
-    ensures { OfRows attrs.now strings.now first many (λ l.
-        Collects (params_of with_places l) params.old params.new result) }
+pub fn collect_params(attrs: &Attributes<'_>, params: &mut [u32]) -> Option<usize>
+    requires { (length attrs.now.strings.now < 2 ^ 32) × (256 ≤ length params.old) }
+    ensures { Of attrs.now (λ l. Collects (params_of with_places l) params.old params.new result) }
 {
-    let end = first + many;
+    let end = attrs.first + attrs.many;
     let mut n = 0;
-    let mut k = first;
-    while k < end {
-        match add_at(attrs, strings, k, params, n) {
-            Added::Next(m) => {
-                n = m;
-            }
-            Added::Full => {
-                return Added::Full;
-            }
-        }
-        k += 1;
+    for k in attrs.first..end {
+        n = add_at(attrs, k, params, n)?;
     }
-    Added::Next(n)
+    Some(n)
 }

@@ -1,12 +1,11 @@
 // Attributes whose names match byte for byte.
 ghost use Rattle.std.specs.Prelude.{◌≡◌};
-ghost use Rattle.styling.specs.Posts.{HasRows, OfRows, NameFits, name_at};
+ghost use Rattle.styling.specs.Posts.{Of, NameFits, name_at};
 ghost use Rattle.params.specs.Named.{is_param_name, sought_by, Meets};
 
-use tree::ATTR_CELLS;
-use xml::Value;
+use xml::{Attribute, Attributes};
 
-// The name whole, or a parameter's name without its prefix.
+// The name whole, or a parameter's name without its prefix. (Two tests alone: a function as a parameter reads no plainer.)
 #[derive(Clone, Copy)]
 pub enum Sought {
     Whole,
@@ -17,20 +16,13 @@ pub enum Sought {
 pub fn is_param(name: &[u8]) -> bool
     ensures { result ≡ is_param_name name.now }
 {
-    if scan::starts_with(name, 0, b"ttp:") {
-        return true;
-    }
-    scan::starts_with(name, 0, b"ittp:")
+    scan::starts_with(name, 0, b"ttp:") || scan::starts_with(name, 0, b"ittp:")
 }
 
 fn is_param_named(found: &[u8], name: &[u8]) -> bool
     ensures { result ≡ sought_by Sought.Param name.now found.now }
 {
-    if !is_param(found) {
-        return false;
-    }
-    let at = scan::strip_ns(found);
-    scan::same(&found[at..], name)
+    is_param(found) && scan::same(&found[scan::strip_ns(found)..], name)
 }
 
 fn is_sought(found: &[u8], sought: Sought, name: &[u8]) -> bool
@@ -43,35 +35,22 @@ fn is_sought(found: &[u8], sought: Sought, name: &[u8]) -> bool
 }
 
 // Is attribute k what is sought?
-fn is_row(attrs: &[u32], strings: &[u8], k: usize, sought: Sought, name: &[u8]) -> bool
-    requires { NameFits attrs.now strings.now k }
-    ensures { result ≡ sought_by sought name.now (name_at attrs.now strings.now k) }
+fn is_row(attrs: &Attributes<'_>, k: usize, sought: Sought, name: &[u8]) -> bool
+    requires { NameFits attrs.now.attrs.now attrs.now.strings.now k }
+    ensures { result ≡ sought_by sought name.now (name_at attrs.now.attrs.now attrs.now.strings.now k) }
 {
-    let start = scan::get(attrs, k * ATTR_CELLS);
-    let end = start + scan::get(attrs, k * ATTR_CELLS + 1);
-    is_sought(&strings[start..end], sought, name)
+    is_sought(attrs.name(k), sought, name)
 }
 
 // The first attribute that is.
-pub fn seek(
-    attrs: &[u32],
-    strings: &[u8],
-    first: usize,
-    many: usize,
-    sought: Sought,
-    name: &[u8],
-) -> Value
-    requires { HasRows attrs.now strings.now first many }
-    ensures { OfRows attrs.now strings.now first many (λ l.
-        Meets strings.now (sought_by sought name.now) l result) }
+pub fn seek(attrs: &Attributes<'_>, sought: Sought, name: &[u8]) -> Option<Attribute>
+    ensures { Of attrs.now (λ l. Meets attrs.now.strings.now (sought_by sought name.now) l result) }
 {
-    let end = first + many;
-    let mut k = first;
-    while k < end {
-        if is_row(attrs, strings, k, sought, name) {
-            return Value::At(xml::attr_at(attrs, k));
+    let end = attrs.first + attrs.many;
+    for k in attrs.first..end {
+        if is_row(attrs, k, sought, name) {
+            return Some(xml::attr_at(attrs.attrs, k));
         }
-        k += 1;
     }
-    Value::Absent
+    None
 }

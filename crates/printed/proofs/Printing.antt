@@ -1,10 +1,9 @@
 -- Laws of the line of a refusal: how long it is, and that it is its four pieces one after the other. Assumes nothing.
+use Rattle.std.specs.Prelude.{Option, Some, Result, Ok, Err}
 use Prim.Native.Nat.{ℕ, ◌+◌}
 use mathlib.Core.Path.{◌≡◌, refl}
 use native.Mathlib.Omega.{arith}
 use lib.ListN.{length, length-append}
-use Rattle.scan.specs.declared.table.Written.{Written}
-use Rattle.scan.specs.declared.table.Written.TheVariants.{At}
 use Rattle.scan.specs.Posts.{Appended, Wrote}
 use Rattle.scan.specs.Text.{ascii}
 use Rattle.scan.proofs.Stores.{appended_on}
@@ -12,7 +11,6 @@ use Rattle.numerals.specs.Written.{padded, decimal_width}
 use Rattle.numerals.proofs.Writing.{padded-length}
 use Rattle.grammar.specs.Words.{Bytes}
 use Rattle.tree.specs.declared.answers.Refusal.{Refusal}
-use Rattle.writer.specs.declared.calls.Answer.{Answer}
 use Rattle.printed.specs.Printed.{refusal_line, Prints}
 
 pub line_length : (r : Refusal) → length (refusal_line r) ≡ decimal_width r.number + decimal_width r.place + 2
@@ -33,9 +31,9 @@ pub digits_end : (w n : ℕ) {i j : ℕ} {t t' : Bytes} → Appended (padded 10 
 digits_end w n p = omega (arith, p.next, padded-length 10 w n)
 
 -- ---- by cases on the answer
-pub print_text : {answer : Answer} {n : ℕ} {t t' : Bytes} → answer ≡ Answer.Bytes n → t' ≡ t → Prints answer t t' (At n)
+pub print_text : {answer : Result ℕ Refusal} {n : ℕ} {t t' : Bytes} → answer ≡ Ok n → t' ≡ t → Prints answer t t' (Some n)
 print_text e f = rw e (refl, f)
 
-pub print_line : {answer : Answer} {r : Refusal} (t t' : Bytes) (w : Written) → answer ≡ Answer.Refused r → Wrote (refusal_line r) 0 t t' w
+pub print_line : {answer : Result ℕ Refusal} {r : Refusal} (t t' : Bytes) (w : Option ℕ) → answer ≡ Err r → Wrote (refusal_line r) 0 t t' w
     → Prints answer t t' w
 print_line t t' w e p = rw e p

@@ -1,13 +1,10 @@
 -- What program `recaption` prints (document 01, "Output"). Definitions alone.
-use Rattle.std.specs.Prelude.{ℕ, ◌≡◌}
-use Rattle.scan.specs.declared.table.Written.{Written}
-use Rattle.scan.specs.declared.table.Written.TheVariants.{At}
+use Rattle.std.specs.Prelude.{Option, Some, Result, Ok, Err, ℕ, ◌≡◌}
 use Rattle.scan.specs.Posts.{Wrote}
 use Rattle.scan.specs.Text.{ascii}
 use Rattle.numerals.specs.Written.{padded, decimal_width}
 use Rattle.grammar.specs.Words.{Bytes, ◌then◌}
 use Rattle.tree.specs.declared.answers.Refusal.{Refusal}
-use Rattle.writer.specs.declared.calls.Answer.{Answer}
 
 -- a number in decimal digits, without zeros in front
 abbrev pub decimal : ℕ → Bytes
@@ -20,6 +17,6 @@ refusal_line r = decimal r.number then ascii " " then decimal r.place then ascii
 -- What is printed are the first bytes of `after`, as many as are told; all others are as in `before`.
 --     "writes TTML": the text that was written, which stands in `before`
 --     "on a refusal only" the line; or it does not fit, and nothing is changed
-abbrev pub Prints : Answer → (before after : Bytes) → Written → Type 0
-Prints (Answer.Bytes n) before after w = (w ≡ At n) × (after ≡ before)
-Prints (Answer.Refused r) before after w = Wrote (refusal_line r) 0 before after w
+abbrev pub Prints : Result ℕ Refusal → (before after : Bytes) → Option ℕ → Type 0
+Prints (Ok n) before after w = (w ≡ Some n) × (after ≡ before)
+Prints (Err r) before after w = Wrote (refusal_line r) 0 before after w

@@ -1,16 +1,11 @@
 -- What the exported functions answer, by the definitions of the crates below. Definitions alone.
-use Rattle.std.specs.Prelude.{ℕ, ◌^◌, ◌≤◌, ◌<◌, ◌≡◌, Bool, true, false, cond, ◌&&◌, List, [], ◌∷◌, ◌⊎◌, length, leb, ltb}
+use Rattle.std.specs.Prelude.{Option, Some, None, ℕ, ◌^◌, ◌≤◌, ◌<◌, ◌≡◌, Bool, true, false, cond, ◌&&◌, List, [], ◌∷◌, ◌⊎◌, length, leb, ltb}
 use Rattle.std.proofs.lemmas.List.Edits.{sets}
 use Rattle.scan.specs.Marks.{starts_at, seek}
 use Rattle.scan.specs.Posts.{Appended, Begun}
-use Rattle.scan.specs.declared.table.Written.{Written}
-use Rattle.scan.specs.declared.table.Written.TheVariants.{At, Full}
 use Rattle.utf8.specs.White.{Trimmed, WordAt, NextWord}
-use Rattle.utf8.specs.declared.white.Word.TheVariants.{Nothing}
-use Rattle.numerals.specs.declared.Numeral.{Numeral}
 use Rattle.numerals.specs.Numerals.{numeral_of}
-use Rattle.entities.specs.declared.reference.Entity.{Entity}
-use Rattle.entities.specs.declared.reference.Entity.TheVariants.{Char, Unknown}
+use Rattle.numerals.specs.declared.Whole.{Whole}
 
 -- the answer for no place and no length
 abbrev pub none : ℕ
@@ -42,37 +37,37 @@ abbrev pub Trims : List ℕ → List ℕ → List ℕ → Bool → Type 0
 Trims s t t' r = SpanOr (Trimmed s) (length t < 2) t t' r
 
 abbrev pub FindsWord : List ℕ → ℕ → List ℕ → List ℕ → Bool → Type 0
-FindsWord s p t t' r = SpanOr (WordAt s p) ((length t < 2) ⊎ (length s < p) ⊎ NextWord s p Nothing) t t' r
+FindsWord s p t t' r = SpanOr (WordAt s p) ((length t < 2) ⊎ (length s < p) ⊎ NextWord s p None) t t' r
 
 -- ---- numbers
 -- the number that is asked for: none where the radix, the largest value or the table will not do
-abbrev pub asked : List ℕ → ℕ → ℕ → Bool → List ℕ → Numeral
+abbrev pub asked : List ℕ → ℕ → ℕ → Bool → List ℕ → Option Whole
 asked s radix most minus t =
-    cond (leb 2 radix && leb radix 36 && ltb most (2 ^ 63) && ltb 0 (length t)) (numeral_of s radix most minus) Numeral.Nothing
+    cond (leb 2 radix && leb radix 36 && ltb most (2 ^ 63) && ltb 0 (length t)) (numeral_of s radix most minus) None
 
 -- 0: no number, 1: a number, 2: a negative one
-abbrev pub sign_of : Numeral → ℕ
-sign_of (Numeral.Is w) = cond w.negative 2 1
-sign_of Numeral.Nothing = 0
+abbrev pub sign_of : Option Whole → ℕ
+sign_of (Some w) = cond w.negative 2 1
+sign_of None = 0
 
-abbrev pub size_of : Numeral → List ℕ
-size_of (Numeral.Is w) = w.magnitude ∷ []
-size_of Numeral.Nothing = []
+abbrev pub size_of : Option Whole → List ℕ
+size_of (Some w) = w.magnitude ∷ []
+size_of None = []
 
 -- the answer is the number's sign, and its size stands in the table's first cell
-pub record Numbered (n : Numeral) (t t' : List ℕ) (r : ℕ) : Type 0 where
+pub record Numbered (n : Option Whole) (t t' : List ℕ) (r : ℕ) : Type 0 where
   pub is : r ≡ sign_of n
   pub laid : t' ≡ sets t 0 (size_of n)
 
 -- ---- references and escapes
-abbrev pub code_of : Entity → ℕ
-code_of (Char c) = c
-code_of Unknown = 0xFFFF_FFFF
+abbrev pub code_of : Option ℕ → ℕ
+code_of (Some c) = c
+code_of None = 0xFFFF_FFFF
 
 -- where the next byte goes, or none
-abbrev pub end_or : Written → ℕ
-end_or (At n) = n
-end_or Full = none
+abbrev pub end_or : Option ℕ → ℕ
+end_or (Some n) = n
+end_or None = none
 
 -- w stands at the table's start, and the answer is its length, where the table has as many cells as it wants; else the answer is none,
 -- and the table is as it was

@@ -1,24 +1,23 @@
 -- What the functions on colours answer. Definitions alone.
-use Rattle.std.specs.Prelude.{ℕ, Bool, cond, List, [], ◌∷◌}
+use Rattle.std.specs.Prelude.{Result, Ok, Err, ℕ, Bool, cond, List, [], ◌∷◌}
 use Rattle.colors.specs.declared.read.Rgba.{Rgba}
-use Rattle.colors.specs.declared.read.Color.{Color}
-use Rattle.colors.specs.declared.read.Color.TheVariants.{Is, Nothing, Cut}
 use Rattle.colors.specs.Colors.{number_of}
 use Rattle.colors.specs.Written.{rgb_text, rgba_text}
+use Rattle.colors.specs.declared.read.ColorError.{ColorError}
 
 -- 1 for a colour, else document 01's number
-abbrev pub color_code : Color → ℕ
-color_code (Is c) = 1
-color_code Nothing = number_of Nothing
-color_code Cut = number_of Cut
+abbrev pub color_code : Result Rgba ColorError → ℕ
+color_code (Ok c) = 1
+color_code (Err ColorError.Invalid) = number_of (Err ColorError.Invalid)
+color_code (Err ColorError.Cut) = number_of (Err ColorError.Cut)
 
 abbrev pub rgba_cells : Rgba → List ℕ
 rgba_cells c = c.r ∷ c.g ∷ c.b ∷ c.a ∷ []
 
-abbrev pub color_cells : Color → List ℕ
-color_cells (Is c) = rgba_cells c
-color_cells Nothing = []
-color_cells Cut = []
+abbrev pub color_cells : Result Rgba ColorError → List ℕ
+color_cells (Ok c) = rgba_cells c
+color_cells (Err ColorError.Invalid) = []
+color_cells (Err ColorError.Cut) = []
 
 -- with its alpha or without
 abbrev pub color_text : Bool → Rgba → List ℕ

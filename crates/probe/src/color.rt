@@ -6,7 +6,7 @@ ghost use Rattle.colors.specs.Named.{rgba};
 ghost use Rattle.probe.specs.Answers.{Answered, Filled};
 ghost use Rattle.probe.specs.Colors.{rgba_cells, color_code, color_cells, color_text};
 
-use colors::{Color, Rgba};
+use colors::{ColorError, Rgba};
 
 // Red, green, blue and alpha, in the first four bytes.
 fn put_rgba(c: Rgba, out: &mut [u8])
@@ -29,12 +29,12 @@ pub fn probe_color(text: &[u8], out: &mut [u8]) -> u32
         return 2;
     }
     match colors::parse_ttml_color_rgba(text) {
-        Color::Is(c) => {
+        Ok(c) => {
             put_rgba(c, out);
             1
         }
-        Color::Nothing => 0,
-        Color::Cut => 15,
+        Err(ColorError::Invalid) => 0,
+        Err(ColorError::Cut) => 15,
     }
 }
 

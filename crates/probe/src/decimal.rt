@@ -1,5 +1,5 @@
 // C names for decimals and sizes. What an answer fills is written only where it is one.
-ghost use Rattle.std.specs.Prelude.{◌≡◌, cond, ◌≤◌, ◌<◌, ◌^◌, length, ltb};
+ghost use Rattle.std.specs.Prelude.{◌≡◌, ◌≤◌, ◌<◌, ◌^◌, length, ltb};
 ghost use Rattle.std.proofs.lemmas.List.Edits.{sets};
 ghost use Rattle.std.specs.Float.Ieee as Ieee;
 ghost use Rattle.decimals.specs.Decimal.{decimal_of};
@@ -7,25 +7,16 @@ ghost use Rattle.decimals.specs.Size.{size_of, is_size};
 ghost use Rattle.probe.specs.Answers.{Answered};
 ghost use Rattle.probe.specs.Decimals.{will_read, kind_of, digit_cells, decimal_cells, float_cells, SizePut, Sized, width_of};
 
-use decimals::{Decimal, Digits, Size};
-use scan::Written;
-
-// 1 for a minus.
-fn minus_cell(negative: bool) -> u64
-    ensures { result ≡ cond negative 1 0 }
-{
-    if negative { 1 } else { 0 }
-}
+use decimals::{DecimalError, Digits, Size};
 
 // A decimal's digits, how many stand behind the point, and 1 for a minus, in the first three cells.
 fn put_digits(d: Digits, out: &mut [u64])
     requires { 3 ≤ length out.old }
     ensures { out.new ≡ sets out.old 0 (digit_cells d) }
 {
-    let minus = minus_cell(d.negative);
     out[0] = d.digits;
     out[1] = d.scale as u64;
-    out[2] = minus;
+    out[2] = d.negative as u64;
 }
 
 // The decimal that the text spells within the limits: 0 none, 1 one, 2 one past them. Its digits,
@@ -35,22 +26,16 @@ pub fn probe_decimal(text: &[u8], digits: u64, decimals: u64, out: &mut [u64]) -
     ensures { Answered (will_read digits decimals out.old) (kind_of (decimal_of text.now digits decimals))
         (decimal_cells (decimal_of text.now digits decimals)) 3 out.old out.new result }
 {
-    if out.len() < 3 {
-        return 3;
-    }
-    if 18 < digits {
-        return 3;
-    }
-    if 0xFFFF_FFFF < decimals {
+    if out.len() < 3 || 18 < digits || 0xFFFF_FFFF < decimals {
         return 3;
     }
     match decimals::read_decimal(text, digits as usize, decimals as usize) {
-        Decimal::Is(d) => {
+        Ok(d) => {
             put_digits(d, out);
             1
         }
-        Decimal::Nothing => 0,
-        Decimal::Beyond => 2,
+        Err(DecimalError::Invalid) => 0,
+        Err(DecimalError::Beyond) => 2,
     }
 }
 
@@ -59,16 +44,16 @@ pub fn probe_decimal_f64(text: &[u8], out: &mut [f64]) -> u32
     ensures { Answered (ltb 0 (length out.old)) (kind_of (decimal_of text.now 15 22))
         (float_cells (decimal_of text.now 15 22)) 3 out.old out.new result }
 {
-    if out.len() == 0 {
+    if out.is_empty() {
         return 3;
     }
     match decimals::read_decimal(text, 15, 22) {
-        Decimal::Is(d) => {
+        Ok(d) => {
             out[0] = decimals::to_f64(d);
             1
         }
-        Decimal::Nothing => 0,
-        Decimal::Beyond => 2,
+        Err(DecimalError::Invalid) => 0,
+        Err(DecimalError::Beyond) => 2,
     }
 }
 
@@ -87,11 +72,11 @@ fn put_size(d: Digits, spelling: &mut [u8], out: &mut [f32]) -> u32
 {
     let size = decimals::size_of(d);
     match decimals::spell(spelling, 0, size) {
-        Written::At(_) => {
+        Some(_) => {
             out[0] = size.value;
             1
         }
-        Written::Full => 3,
+        None => 3,
     }
 }
 
@@ -102,13 +87,13 @@ pub fn probe_size(text: &[u8], spelling: &mut [u8], out: &mut [f32]) -> u32
     ensures { Sized (decimal_of text.now 6 10) spelling.old spelling.new out.old out.new
         result }
 {
-    if out.len() == 0 {
+    if out.is_empty() {
         return 3;
     }
     match decimals::read_decimal(text, 6, 10) {
-        Decimal::Is(d) => put_size(d, spelling, out),
-        Decimal::Nothing => 0,
-        Decimal::Beyond => 2,
+        Ok(d) => put_size(d, spelling, out),
+        Err(DecimalError::Invalid) => 0,
+        Err(DecimalError::Beyond) => 2,
     }
 }
 
@@ -117,15 +102,11 @@ pub fn probe_size_width(text: &[u8]) -> usize
     ensures { result ≡ width_of (decimal_of text.now 6 10) }
 {
     match decimals::read_decimal(text, 6, 10) {
-        Decimal::Is(d) => {
+        Ok(d) => {
             let mut spelling = [0u8; 18];
-            match decimals::spell(&mut spelling, 0, decimals::size_of(d)) {
-                Written::At(n) => n,
-                Written::Full => 0,
-            }
+            decimals::spell(&mut spelling, 0, decimals::size_of(d)).unwrap_or(0)
         }
-        Decimal::Nothing => 0,
-        Decimal::Beyond => 0,
+        Err(_) => 0,
     }
 }
 

@@ -19,12 +19,9 @@ pub use color::{probe_color, probe_color_text};
 pub use decimal::{
     probe_decimal, probe_decimal_f64, probe_is_size, probe_size, probe_size_width, probe_truncate,
 };
-use entities::Entity;
-use numerals::Numeral;
+use numerals::Whole;
 pub use parse::probe_parse_xml;
-use scan::Written;
 pub use time::{probe_format_ts, probe_time};
-use utf8::Word;
 
 // Where the longest valid beginning of the text ends.
 pub fn probe_utf8_end(text: &[u8]) -> usize
@@ -58,18 +55,15 @@ pub fn probe_trim(text: &[u8], out: &mut [u64]) -> bool
 pub fn probe_next_word(text: &[u8], from: usize, out: &mut [u64]) -> bool
     ensures { FindsWord text.now from out.old out.new result }
 {
-    if out.len() < 2 {
-        return false;
-    }
-    if text.len() < from {
+    if out.len() < 2 || text.len() < from {
         return false;
     }
     match utf8::next_word(text, from) {
-        Word::At(span) => {
+        Some(span) => {
             put_span(out, span.start, span.end);
             true
         }
-        Word::Nothing => false,
+        None => false,
     }
 }
 
@@ -77,28 +71,21 @@ pub fn probe_next_word(text: &[u8], from: usize, out: &mut [u64]) -> bool
 pub fn probe_find_seq(src: &[u8], from: usize, mark: &[u8]) -> usize
     ensures { result ≡ first_of mark.now src.now from }
 {
-    if mark.len() == 0 {
-        return 0xFFFF_FFFF_FFFF_FFFF;
+    if mark.is_empty() {
+        return usize::MAX;
     }
     if src.len() <= from {
-        return 0xFFFF_FFFF_FFFF_FFFF;
+        return usize::MAX;
     }
     let place = scan::find_seq(src, from, mark);
-    if place < src.len() {
-        place
-    } else {
-        0xFFFF_FFFF_FFFF_FFFF
-    }
+    if place < src.len() { place } else { usize::MAX }
 }
 
 // Does the mark stand at the place?
 pub fn probe_starts_with(src: &[u8], from: usize, mark: &[u8]) -> bool
     ensures { result ≡ stands_at mark.now src.now from }
 {
-    if src.len() < from {
-        return false;
-    }
-    scan::starts_with(src, from, mark)
+    from <= src.len() && scan::starts_with(src, from, mark)
 }
 
 // Are the two the same but for the case of ASCII letters?
@@ -123,16 +110,16 @@ pub fn probe_strip_ns(name: &[u8]) -> usize
 }
 
 // 0: no number, 1: a number, 2: a negative number. Its size goes to the first cell.
-fn put_number(n: Numeral, out: &mut [u64]) -> u32
+fn put_number(n: Option<Whole>, out: &mut [u64]) -> u32
     requires { 0 < length out.old }
     ensures { Numbered n out.old out.new result }
 {
     match n {
-        Numeral::Is(w) => {
+        Some(w) => {
             out[0] = w.magnitude;
             if w.negative { 2 } else { 1 }
         }
-        Numeral::Nothing => 0,
+        None => 0,
     }
 }
 
@@ -141,16 +128,7 @@ fn put_number(n: Numeral, out: &mut [u64]) -> u32
 pub fn probe_numeral(text: &[u8], radix: u32, max: u64, minus: bool, out: &mut [u64]) -> u32
     ensures { Numbered (asked text.now radix max minus out.old) out.old out.new result }
 {
-    if radix < 2 {
-        return 0;
-    }
-    if 36 < radix {
-        return 0;
-    }
-    if 0x7FFF_FFFF_FFFF_FFFF < max {
-        return 0;
-    }
-    if out.len() == 0 {
+    if !(2..=36).contains(&radix) || 0x7FFF_FFFF_FFFF_FFFF < max || out.is_empty() {
         return 0;
     }
     put_number(numerals::read_numeral(text, radix as u64, max, minus), out)
@@ -160,10 +138,7 @@ pub fn probe_numeral(text: &[u8], radix: u32, max: u64, minus: bool, out: &mut [
 pub fn probe_lookup_entity(name: &[u8]) -> u32
     ensures { result ≡ code_of (lookup name.now) }
 {
-    match entities::lookup_entity(name) {
-        Entity::Char(c) => c,
-        Entity::Unknown => 0xFFFF_FFFF,
-    }
+    entities::lookup_entity(name).unwrap_or(u32::MAX)
 }
 
 // The text with its references read, at the start of out: how many bytes, or 2^64 - 1 if out is
@@ -172,18 +147,15 @@ pub fn probe_decode_entities(text: &[u8], out: &mut [u8]) -> usize
     ensures { Filled (length text.now) (decoded text.now) out.old out.new result }
 {
     if out.len() < text.len() {
-        return 0xFFFF_FFFF_FFFF_FFFF;
+        return usize::MAX;
     }
     entities::decode_entities(text, out, 0)
 }
 
-fn place_of(w: Written) -> usize
+fn place_of(w: Option<usize>) -> usize
     ensures { result ≡ end_or w }
 {
-    match w {
-        Written::At(n) => n,
-        Written::Full => 0xFFFF_FFFF_FFFF_FFFF,
-    }
+    w.unwrap_or(usize::MAX)
 }
 
 // The text as it stands between tags, at the start of out: how many bytes, or 2^64 - 1 if it does

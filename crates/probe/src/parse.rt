@@ -4,7 +4,7 @@ ghost use Rattle.std.proofs.lemmas.List.Edits.{sets};
 ghost use Rattle.xml.specs.Promise.{tables};
 ghost use Rattle.probe.specs.Trees.{room, TellsIf};
 
-use tree::Answer;
+use tree::TreeSize;
 
 // A refusal's place and a tree's numbers of nodes and attributes, in the first three cells.
 fn put_counts(out: &mut [u64], place: usize, nodes: usize, attrs: usize)
@@ -31,14 +31,14 @@ pub fn probe_parse_xml(
         (tables nodes.new attrs.new strings.new) out.old out.new result }
 {
     if out.len() < 3 {
-        return 0xFFFF_FFFF;
+        return u32::MAX;
     }
     match xml::parse_xml(text, nodes, attrs, strings) {
-        Answer::Refused(r) => {
+        Err(r) => {
             put_counts(out, r.place, 0, 0);
             r.number
         }
-        Answer::Tree { nodes: n, attrs: m } => {
+        Ok(TreeSize { nodes: n, attrs: m }) => {
             put_counts(out, 0, n, m);
             0
         }

@@ -5,7 +5,7 @@ ghost use Rattle.times.specs.Written.{clock_text};
 ghost use Rattle.probe.specs.Answers.{Answered, Filled};
 ghost use Rattle.probe.specs.Times.{timing, time_code, time_cells};
 
-use times::{Time, TimingCtx};
+use times::{TimeError, TimingCtx};
 
 // The time that the text is: 0 none, 1 one, with its microseconds in the first cell, or document
 // 01's number 14, 15 or 16. 2 if there is no cell.
@@ -22,7 +22,7 @@ pub fn probe_time(
         (time_cells (time_in text.now (timing frame_rate has_frame_rate tick_rate has_tick_rate))) 2 out.old
         out.new result }
 {
-    if out.len() == 0 {
+    if out.is_empty() {
         return 2;
     }
     let ctx = TimingCtx {
@@ -32,14 +32,14 @@ pub fn probe_time(
         has_tick_rate,
     };
     match times::parse_ttml_time(text, ctx) {
-        Time::Is(us) => {
+        Ok(us) => {
             out[0] = us;
             1
         }
-        Time::Nothing => 0,
-        Time::Beyond => 14,
-        Time::LongFraction => 15,
-        Time::Overflow => 16,
+        Err(TimeError::Invalid) => 0,
+        Err(TimeError::Beyond) => 14,
+        Err(TimeError::LongFraction) => 15,
+        Err(TimeError::Overflow) => 16,
     }
 }
 

@@ -2,6 +2,7 @@
 --     case_taken, case_away         the text is taken, or turned away
 --     parsed-case, cue_case         so the answer is a track, and the tables mean it
 --     parsed-refused, cue_refused   or it is that number and place
+use Rattle.std.specs.Prelude.{Result, Ok, ⊤}
 use Prim.Native.Nat.{ℕ, ◌≤◌}
 use mathlib.Core.Path.{◌≡◌, refl, sym, ap, ◌∙◌}
 use mathlib.Core.List.{List}
@@ -36,11 +37,11 @@ use Rattle.meaning.specs.Steps.{nodes_from, nodes_of_text, parsed, cue_parsed}
 use Rattle.meaning.proofs.Erasing.{bytes_of}
 use Rattle.laid.specs.Laid.{whole, alone, single}
 use Rattle.laid.proofs.Meant.{good_whole, good_single}
-use Rattle.promised.specs.declared.Answer as promised
 use Rattle.promised.specs.Promise.{Says, Tables, tree_tables, LongEnough, nodes_of, Takes, TurnsAway, no_tree, no_track, Parsed, CueParsed}
 use Rattle.promised.proofs.Numbers.{whole_numbers, single-numbers}
 use Rattle.promised.proofs.Promises.{some_number}
 use Rattle.promised.proofs.Meaning.{left_means}
+use Rattle.tree.specs.declared.answers.Refusal.{Refusal}
 
 alone-bytes : (c : Cue Placed) → track_by bytes_of (alone c) ≡ alone (cue_by bytes_of c)
 unfolding alone track_by each
@@ -105,9 +106,9 @@ module _ (s : List ℕ) (lent : Tables) (long : LongEnough lent) (short : length
   cue_then (is f) = refl
   cue_then (refused n p) = refl
 
-  module _ {answer : promised.Answer} {left : Tables} where
+  module _ {answer : Result ⊤ Refusal} {left : Tables} where
     pub parsed-case : Parsed s lent answer left → {b : Track Bytes} → parsed s ≡ is b
-        → (answer ≡ promised.Answer.Track) × (track_in left.track ≡ some b)
+        → (answer ≡ (Ok tt)) × (track_in left.track ≡ some b)
     unfolding parsed
     parsed-case p e =
         let x = taken-bytes (track_by bytes_of) (nodes_of_text s >>= track_of with_places) e in
@@ -121,7 +122,7 @@ module _ (s : List ℕ) (lent : Tables) (long : LongEnough lent) (short : length
         (p.refused n q (some_number whole whole_numbers s lent a)).1 a
 
     pub cue_case : CueParsed s lent answer left → {c : Cue Bytes} → cue_parsed s ≡ is c
-        → (answer ≡ promised.Answer.Track) × (track_in left.track ≡ some (alone c))
+        → (answer ≡ (Ok tt)) × (track_in left.track ≡ some (alone c))
     unfolding cue_parsed
     cue_case p e =
         let x = taken-bytes (cue_by bytes_of) (nodes_of_text s >>= cue_of with_places) e in

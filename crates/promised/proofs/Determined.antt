@@ -1,6 +1,7 @@
 -- The promise determines everything: two outcomes that both meet it are the same answer with the same cells in all tables. Assumes nothing.
 --     decided        a text is taken, or it is turned away with some number
 --     determined     the theorem
+use Rattle.std.specs.Prelude.{Result, Ok, Err, ⊤}
 use Prim.Native.Nat.{ℕ, ◌<◌}
 use mathlib.Core.Path.{◌≡◌, refl, sym, ap, ap₂, ◌∙◌}
 use mathlib.Core.Logic.{◌⊎◌, inl, inr}
@@ -24,11 +25,11 @@ use Rattle.meaning.specs.Answers.{is, refused}
 use Rattle.meaning.specs.Answers as meaning
 use Rattle.meaning.specs.Nodes.{Nodes}
 use Rattle.laid.specs.Laid.{track_tables}
-use Rattle.promised.specs.declared.Answer.{Answer}
 use Rattle.promised.specs.Promise.{number_of, place_of, Says, Tables, tree_tables, LongEnough, AllZero, nodes_of, Takes, TurnsAway}
 use Rattle.promised.specs.Promise.{short_table, no_tree, no_track, Promise}
 use Rattle.promised.proofs.Numbers.{Numbered}
 use Rattle.promised.proofs.Promises.{refusal, some_number}
+use Rattle.tree.specs.declared.answers.Refusal.{Refusal}
 
 -- ---- taken or turned away
 tree-long : (T : xml.Tables) → xml.LongEnough T ⊎ (¬ xml.LongEnough T)
@@ -68,10 +69,10 @@ zero_same h k =
     tables-same (h.of_tree.of_nodes ∙ sym k.of_tree.of_nodes) (h.of_tree.of_attrs ∙ sym k.of_tree.of_attrs)
     (h.of_track ∙ sym k.of_track)
 
-refused_as : (r : Answer) (i p : ℕ) → 0 < i → Says r i p → r ≡ refusal i p
+refused_as : (r : Result ⊤ Refusal) (i p : ℕ) → 0 < i → Says r i p → r ≡ refusal i p
 unfolding number_of place_of
-refused_as Answer.Track i p h e = absurd (omega (arith, h, e.0))
-refused_as (Answer.Refused x) i p h e = ap₂ refusal e.0 e.1
+refused_as (Ok tt) i p h e = absurd (omega (arith, h, e.0))
+refused_as (Err x) i p h e = ap₂ refusal e.0 e.1
 
 module _ (meant : Nodes Placed → meaning.Answer (Track Placed)) (numbers : (f : Nodes Placed) → Numbered (meant f)) where
   pub decided : (s : List ℕ) (lent : Tables)
@@ -94,7 +95,7 @@ module _ (meant : Nodes Placed → meaning.Answer (Track Placed)) (numbers : (f 
       by (inl l) = read l (xml-determined.decided s (tree_tables lent))
       by (inr h) = inr (1, 0, short_table h)
 
-  pub determined : {s : List ℕ} {lent : Tables} {x y : Answer} {a b : Tables} → Promise meant s lent x a → Promise meant s lent y b
+  pub determined : {s : List ℕ} {lent : Tables} {x y : Result ⊤ Refusal} {a b : Tables} → Promise meant s lent x a → Promise meant s lent y b
       → (x ≡ y) × (a ≡ b)
   determined {s} {lent} {x} {y} {a} {b} p q = by (decided s lent)
     where

@@ -1,4 +1,5 @@
 -- Worked cases of the whole calls: whatever meets the promise answers so. Each from what the text means, computed in `meaning`.
+use Rattle.std.specs.Prelude.{Result, Ok, ⊤}
 use mathlib.Core.Path.{◌≡◌, refl}
 use mathlib.Core.List.{[], ◌∷◌}
 use mathlib.Core.Option.{none, some}
@@ -8,9 +9,9 @@ use Rattle.track.specs.Track.{Bytes, Track, done, text, break}
 use Rattle.track.specs.Meaning.{track_in}
 use Rattle.meaning.proofs.Computing.{computing}
 use Rattle.meaning.proofs.Examples.{utf8, cue, example, no_tt}
-use Rattle.promised.specs.declared.Answer as promised
 use Rattle.promised.specs.Promise.{Says, Tables, LongEnough, Parsed}
 use Rattle.promised.proofs.Cases.{parsed-case, parsed-refused}
+use Rattle.tree.specs.declared.answers.Refusal.{Refusal}
 
 -- document 01, "Output"
 abbrev pub film : Bytes
@@ -25,8 +26,8 @@ film_track = record {
   cues = cue (pos 1000000) (pos 1500000) (text (utf8 "A") (break (text (utf8 "B") done))) ∷ [];
 }
 
-module _ {lent left : Tables} {answer : promised.Answer} (long : LongEnough lent) where
-  pub film-read : Parsed film lent answer left → (answer ≡ promised.Answer.Track) × (track_in left.track ≡ some film_track)
+module _ {lent left : Tables} {answer : Result ⊤ Refusal} (long : LongEnough lent) where
+  pub film-read : Parsed film lent answer left → (answer ≡ (Ok tt)) × (track_in left.track ≡ some film_track)
   unfolding computing
   film-read p = parsed-case film lent long (omega arith) refl p example
 

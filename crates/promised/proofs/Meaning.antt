@@ -3,6 +3,7 @@
 --     left_means       it means the track by its bytes
 --     parsed-means     which is what the tree that the grammar derives means, its entities read
 --     cue_means        the same of the single cue
+use Rattle.std.specs.Prelude.{Result, Ok, ⊤}
 use Prim.Native.Nat.{ℕ}
 use mathlib.Core.Path.{◌≡◌, refl, sym, ap, ◌∙◌}
 use mathlib.Core.List.{List}
@@ -16,7 +17,6 @@ use Rattle.grammar.proofs.Theorem.{no_two}
 use Rattle.tree.specs.Trees as placed
 use Rattle.derivation.specs.Strings.{tree_in}
 use Rattle.derivation.proofs.Theorem.{gives-exactly}
-use Rattle.track.specs.declared.check.Check.{Check}
 use Rattle.track.specs.Track.{Cue, Track}
 use Rattle.track.specs.Layout.{each}
 use Rattle.track.specs.Tables.{lengths}
@@ -38,11 +38,11 @@ use Rattle.meaning.proofs.Erasing as erasing
 use Rattle.laid.specs.Laid.{track_tables, whole, alone, single}
 use Rattle.laid.proofs.Meant.{Good}
 use Rattle.laid.proofs.Fitting.{text-accepted, text-track}
-use Rattle.promised.specs.declared.Answer as promised
 use Rattle.promised.specs.Promise.{Tables, tree_tables, Takes, Promise}
 use Rattle.promised.proofs.Trees as trees
+use Rattle.tree.specs.declared.answers.Refusal.{Refusal}
 
-module _ (meant : Nodes Placed → Answer (Track Placed)) (good : Good meant) {s : List ℕ} {lent left : Tables} {answer : promised.Answer}
+module _ (meant : Nodes Placed → Answer (Track Placed)) (good : Good meant) {s : List ℕ} {lent left : Tables} {answer : Result ⊤ Refusal}
     (p : Promise meant s lent answer left) {f : Forest} {t : Track Placed} (x : Takes meant s lent f t) where
   abbrev forest : placed.Forest
   forest = trees.forest s (tree_tables lent) x.tree
@@ -52,7 +52,7 @@ module _ (meant : Nodes Placed → Answer (Track Placed)) (good : Good meant) {s
       p.track f t x
       ∙ ap (λ (z : List ℕ). track_tables (lengths lent.track) z (length s) t) (trees.strings-are s (tree_tables lent) x.tree (p.tree f t x))
 
-  pub left_passes : {r : Check} → Checked left.track r → r ≡ Check.Track
+  pub left_passes : {r : Result ⊤ Refusal} → Checked left.track r → r ≡ Ok tt
   left_passes c =
       let h = trees.means_of s (tree_tables lent) x.tree {meant = meant} x.means in
       let a = text-accepted meant good s forest t h (lengths lent.track) x.long_enough.of_track in

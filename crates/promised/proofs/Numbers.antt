@@ -1,5 +1,7 @@
 -- A tree that means no track, or no cue, meets a number from 12 to 16. Assumes nothing.
 --     whole_numbers, single-numbers
+use Rattle.std.specs.Prelude as rust
+use Rattle.std.specs.Prelude.{Some, None, Result, Ok, Err}
 use Prim.Native.Nat.{ℕ, ◌+◌, ◌≤◌}
 use mathlib.Core.Path.{◌≡◌, refl}
 use mathlib.Core.Bool.{Bool, true, false, cond}
@@ -11,14 +13,10 @@ use lib.Dec.{leb}
 use lib.IntN.{ℤ, pos, ◌+ℤ◌}
 use Rattle.scan.proofs.Every.{by-test}
 use Rattle.utf8.specs.White.{trimmed}
-use Rattle.times.specs.declared.sums.Sum.{Sum}
 use Rattle.times.specs.declared.offset.TimingCtx.{TimingCtx}
-use Rattle.times.specs.declared.offset.Time.{Time}
 use Rattle.times.specs.Sums.{checked}
 use Rattle.times.specs.Expressions.{time_in, time_decimal}
-use Rattle.colors.specs.declared.read.Color.{Color}
 use Rattle.colors.specs.Colors.{color_in}
-use Rattle.decimals.specs.declared.read.Decimal.{Decimal}
 use Rattle.scan.specs.Names.{same_bytes_of, after_first_colon}
 use Rattle.track.specs.Track.{Bytes, Segments, Cue, segment_rows, joined}
 use Rattle.track.specs.Track as track
@@ -37,6 +35,11 @@ use Rattle.meaning.specs.Meaning.{rate_answer, is_param, params_of, rate_of, ins
 use Rattle.meaning.specs.Meaning.{stop_of, cue_in, cue_from, cue_of}
 use Rattle.meaning.specs.Kinds.{with_places}
 use Rattle.laid.specs.Laid.{whole, alone, single}
+use Rattle.decimals.specs.declared.read.DecimalError.{DecimalError}
+use Rattle.times.specs.declared.offset.TimeError.{TimeError}
+use Rattle.colors.specs.declared.read.ColorError.{ColorError}
+use Rattle.decimals.specs.declared.read.Digits.{Digits}
+use Rattle.colors.specs.declared.read.Rgba.{Rgba}
 
 -- ---- answers
 
@@ -68,9 +71,9 @@ numbered_sum : (e : ℕ) (a b : ℤ) → Numbered (sum e a b)
 unfolding sum
 numbered_sum e a b = by (checked (a +ℤ b))
   where
-    by : (x : Sum) → Numbered (sum_answer e x)
-    by (Sum.Is z) = numbered_is z
-    by Sum.Overflow = numbered_refused 16 e (omega arith) (omega arith)
+    by : (x : rust.Option ℤ) → Numbered (sum_answer e x)
+    by (Some z) = numbered_is z
+    by None = numbered_refused 16 e (omega arith) (omega arith)
 
 numbered_end : (e : ℕ) (reference start : ℤ) (end dur : Option ℤ) → Numbered (end_of e reference start end dur)
 unfolding end_of
@@ -83,27 +86,27 @@ unfolding lasting_to
 numbered_lasting e start (some d) children = numbered_sum e start d
 numbered_lasting e start none children = numbered_is children
 
-numbered_time : (e a : ℕ) (x : Time) → Numbered (time_answer e a x)
-numbered_time e a (Time.Is z) = numbered_is (some z)
-numbered_time e a Time.Nothing = numbered_is none
-numbered_time e a Time.Beyond = numbered_refused 14 a (omega arith) (omega arith)
-numbered_time e a Time.LongFraction = numbered_refused 15 a (omega arith) (omega arith)
-numbered_time e a Time.Overflow = numbered_refused 16 e (omega arith) (omega arith)
+numbered_time : (e a : ℕ) (x : Result ℤ TimeError) → Numbered (time_answer e a x)
+numbered_time e a (Ok z) = numbered_is (some z)
+numbered_time e a (Err TimeError.Invalid) = numbered_is none
+numbered_time e a (Err TimeError.Beyond) = numbered_refused 14 a (omega arith) (omega arith)
+numbered_time e a (Err TimeError.LongFraction) = numbered_refused 15 a (omega arith) (omega arith)
+numbered_time e a (Err TimeError.Overflow) = numbered_refused 16 e (omega arith) (omega arith)
 
-numbered_color : (a : ℕ) (x : Color) → Numbered (color_answer a x)
-numbered_color a (Color.Is c) = numbered_is (some c)
-numbered_color a Color.Nothing = numbered_is none
-numbered_color a Color.Cut = numbered_refused 15 a (omega arith) (omega arith)
+numbered_color : (a : ℕ) (x : Result Rgba ColorError) → Numbered (color_answer a x)
+numbered_color a (Ok c) = numbered_is (some c)
+numbered_color a (Err ColorError.Invalid) = numbered_is none
+numbered_color a (Err ColorError.Cut) = numbered_refused 15 a (omega arith) (omega arith)
 
-numbered_size : (a : ℕ) (x : Decimal) → Numbered (size_answer a x)
-numbered_size a (Decimal.Is d) = numbered_is (some _)
-numbered_size a Decimal.Nothing = numbered_is none
-numbered_size a Decimal.Beyond = numbered_refused 14 a (omega arith) (omega arith)
+numbered_size : (a : ℕ) (x : Result Digits DecimalError) → Numbered (size_answer a x)
+numbered_size a (Ok d) = numbered_is (some _)
+numbered_size a (Err DecimalError.Invalid) = numbered_is none
+numbered_size a (Err DecimalError.Beyond) = numbered_refused 14 a (omega arith) (omega arith)
 
-numbered_rate : (a : ℕ) (x : Decimal) → Numbered (rate_answer a x)
-numbered_rate a (Decimal.Is d) = numbered_is (some _)
-numbered_rate a Decimal.Nothing = numbered_is none
-numbered_rate a Decimal.Beyond = numbered_refused 14 a (omega arith) (omega arith)
+numbered_rate : (a : ℕ) (x : Result Digits DecimalError) → Numbered (rate_answer a x)
+numbered_rate a (Ok d) = numbered_is (some _)
+numbered_rate a (Err DecimalError.Invalid) = numbered_is none
+numbered_rate a (Err DecimalError.Beyond) = numbered_refused 14 a (omega arith) (omega arith)
 
 -- ---- elements
 

@@ -6,6 +6,7 @@
 --     promise_away                        the tree reader refuses
 --     promise_none                        the tree's nodes mean a number
 --     promise_track                       the tree's nodes mean a track, and that is laid out
+use Rattle.std.specs.Prelude.{Result, Ok, Err, ⊤}
 use Prim.Native.Nat.{ℕ, ◌≤◌, ◌<◌}
 use mathlib.Core.Path.{◌≡◌, refl, sym, ap, subst, ◌∙◌}
 use mathlib.Core.List.{List}
@@ -14,7 +15,6 @@ use lib.ListN.{length, replicate}
 use lib.IntN.{pos}
 use Rattle.grammar.specs.Tree.{Forest}
 use Rattle.grammar.specs.Limits as count
-use Rattle.tree.specs.declared.answers.Answer as tree
 use Rattle.tree.specs.declared.answers.Refusal.{Refusal}
 use Rattle.track.specs.Track.{Track}
 use Rattle.track.specs.Tables.{Lengths, lengths, zero_float}
@@ -33,11 +33,12 @@ use Rattle.track.specs.Layout.{cue_times, segment_cells, style_size, all_segment
 use Rattle.track.specs.Layout.{layout}
 use Rattle.track.specs.Layout as placing
 use Rattle.laid.specs.Laid.{laid_of, texts_of, track_tables}
-use Rattle.promised.specs.declared.Answer.{Answer}
 use Rattle.promised.specs.Promise.{number_of, place_of, Tables, tree_tables, LongEnough, zeros, AllZero, nodes_of, Takes, TurnsAway}
 use Rattle.promised.specs.Promise.{short_table, no_tree, no_track, Promise}
 use Rattle.promised.proofs.Numbers.{Numbered}
 use Rattle.promised.proofs.Trees as trees
+use Rattle.tree.specs.declared.answers.TreeSize.{TreeSize}
+use Rattle.tree.specs.Answers.{tree_with}
 
 -- ---- answers
 is≢refused : {A : Type 0} {a : A} {n p : ℕ} → ◌≡◌ {A = meaning.Answer A} (is a) (refused n p) → ⊥
@@ -52,10 +53,10 @@ number_same e = cc
 place_same : {A : Type 0} {i p j q : ℕ} → ◌≡◌ {A = meaning.Answer A} (refused i p) (refused j q) → p ≡ q
 place_same e = cc
 
-abbrev pub refusal : (number place : ℕ) → Answer
-refusal i p = Answer.Refused (record { number = i; place = p })
+abbrev pub refusal : (number place : ℕ) → Result ⊤ Refusal
+refusal i p = Err (record { number = i; place = p })
 
-refused≢track : {r : Refusal} → Answer.Refused r ≡ Answer.Track → ⊥
+refused≢track : {r : Refusal} → ◌≡◌ {A = Result ⊤ Refusal} (Err r) (Ok tt) → ⊥
 refused≢track e = let w : ◌≡◌ {A = ℕ} 0 1 = cc in omega arith
 
 -- ---- the tables of the track but for the strings, which the tree reader tests and clears
@@ -173,7 +174,7 @@ module _ (n : Lengths) (m : ℕ) (t : Track Placed) where
       )
 
 -- ---- the nodes that the tree reader left
-module _ {s : List ℕ} {lent left : xml.Tables} {r : tree.Answer} {i j : ℕ} (p : xml.Parsed s lent r left) (given : r ≡ tree.Answer.Tree i j) where
+module _ {s : List ℕ} {lent left : xml.Tables} {r : Result TreeSize Refusal} {i j : ℕ} (p : xml.Parsed s lent r left) (given : r ≡ tree_with i j) where
   abbrev pub nodes_left : Nodes Placed
   nodes_left = nodes_in left.strings (given-forest p given)
 
@@ -215,7 +216,7 @@ module _ (meant : Nodes Placed → meaning.Answer (Track Placed)) (numbers : (f 
       (number_same w, place_same w)
 
   -- ---- the promise, from the outcome
-  pub turned-away : {answer : Answer} {left : Tables} {i p : ℕ} → TurnsAway meant s lent i p → answer ≡ refusal i p → AllZero lent left
+  pub turned-away : {answer : Result ⊤ Refusal} {left : Tables} {i p : ℕ} → TurnsAway meant s lent i p → answer ≡ refusal i p → AllZero lent left
       → Promise meant s lent answer left
   unfolding number_of place_of
   turned-away a e z = record {
@@ -229,14 +230,14 @@ module _ (meant : Nodes Placed → meaning.Answer (Track Placed)) (numbers : (f 
     cleared = λ h. z;
   }
 
-  pub taken_as : {answer : Answer} {left : Tables} {f : Forest} {t : Track Placed} → Takes meant s lent f t → answer ≡ Answer.Track
-      → xml.Parsed s tree_lent (tree.Answer.Tree (count.nodes f) (count.attrs f)) (tree_tables left)
+  pub taken_as : {answer : Result ⊤ Refusal} {left : Tables} {f : Forest} {t : Track Placed} → Takes meant s lent f t → answer ≡ Ok tt
+      → xml.Parsed s tree_lent (tree_with (count.nodes f) (count.attrs f)) (tree_tables left)
       → left.track ≡ track_tables (lengths lent.track) left.track.strings (length s) t → Promise meant s lent answer left
   unfolding number_of place_of
   taken_as {answer} {left} {f} {t} x e p l = record {
     taken = ((λ y. (f, t, x)), (λ y. e));
     tree = λ g u y.
-        subst (λ (h : Forest). xml.Parsed s tree_lent (tree.Answer.Tree (count.nodes h) (count.attrs h)) (tree_tables left)) (once x y).0 p;
+        subst (λ (h : Forest). xml.Parsed s tree_lent (tree_with (count.nodes h) (count.attrs h)) (tree_tables left)) (once x y).0 p;
     track = λ g u y.
         subst (λ (v : Track Placed). left.track ≡ track_tables (lengths lent.track) left.track.strings (length s) v) (once x y).1 l;
     refused = λ n q h. (
@@ -247,7 +248,7 @@ module _ (meant : Nodes Placed → meaning.Answer (Track Placed)) (numbers : (f 
   }
 
   -- ---- from what the parts ensure
-  pub promise_short : {answer : Answer} {left : Tables} → ¬ LongEnough lent → answer ≡ refusal 1 0 → AllZero lent left
+  pub promise_short : {answer : Result ⊤ Refusal} {left : Tables} → ¬ LongEnough lent → answer ≡ refusal 1 0 → AllZero lent left
       → Promise meant s lent answer left
   promise_short h = turned-away (short_table h)
 
@@ -261,24 +262,24 @@ module _ (meant : Nodes Placed → meaning.Answer (Track Placed)) (numbers : (f 
     lift (xml.not_utf8 l h u v) = no_tree (all_long l) (xml.not_utf8 l h u v)
     lift (xml.first-met r e) = no_tree (all_long r.long_enough) (xml.first-met r e)
 
-    pub promise_away : {answer : Answer} {left : Tables} {r : Refusal} → xml.Parsed s tree_lent (tree.Answer.Refused r) (tree_tables left)
-        → answer ≡ Answer.Refused r → RestZero (lengths lent.track) left.track → Promise meant s lent answer left
+    pub promise_away : {answer : Result ⊤ Refusal} {left : Tables} {r : Refusal} → xml.Parsed s tree_lent (Err r) (tree_tables left)
+        → answer ≡ Err r → RestZero (lengths lent.track) left.track → Promise meant s lent answer left
     unfolding answers.number_of
     promise_away {r = r} p e z =
         let a = trees.refused-away s tree_lent p in
         turned-away (lift a) e (all_zero (p.cleared (away_some a)) z)
 
-    module _ {r : tree.Answer} {i j : ℕ} (given : r ≡ tree.Answer.Tree i j) where
+    module _ {r : Result TreeSize Refusal} {i j : ℕ} (given : r ≡ tree_with i j) where
       tables-long : {mid : xml.Tables} → xml.Parsed s tree_lent r mid → LongEnough lent
       tables-long p = all_long (given-tree p given).takes.readable.long_enough
 
-      pub promise_none : {answer : Answer} {left : Tables} {mid : xml.Tables} (p : xml.Parsed s tree_lent r mid) {n q : ℕ}
+      pub promise_none : {answer : Result ⊤ Refusal} {left : Tables} {mid : xml.Tables} (p : xml.Parsed s tree_lent r mid) {n q : ℕ}
           → meant (nodes_left p given) ≡ refused n q → answer ≡ refusal n q → AllZero lent left → Promise meant s lent answer left
       promise_none p e a z =
           turned-away (no_track (tables-long p) (given-tree p given).takes (ap meant (sym (nodes-left p given)) ∙ e)) a z
 
-      pub promise_track : {answer : Answer} {left : Tables} (p : xml.Parsed s tree_lent r (tree_tables left)) {t : Track Placed}
-          → meant (nodes_left p given) ≡ is t → answer ≡ Answer.Track
+      pub promise_track : {answer : Result ⊤ Refusal} {left : Tables} (p : xml.Parsed s tree_lent r (tree_tables left)) {t : Track Placed}
+          → meant (nodes_left p given) ≡ is t → answer ≡ Ok tt
           → left.track ≡ track_tables (lengths lent.track) left.track.strings (length s) t → Promise meant s lent answer left
       promise_track {answer} {left} p {t} e a l =
           let g = given-tree p given in
@@ -287,6 +288,6 @@ module _ (meant : Nodes Placed → meaning.Answer (Track Placed)) (numbers : (f 
             tree = g.takes;
             means = ap meant (sym (nodes-left p given)) ∙ e;
           } in
-          let q : xml.Parsed s tree_lent (tree.Answer.Tree (count.nodes g.tree) (count.attrs g.tree)) (tree_tables left) =
-          subst (λ (y : tree.Answer). xml.Parsed s tree_lent y (tree_tables left)) (counted p g.tree g.takes) p in
+          let q : xml.Parsed s tree_lent (tree_with (count.nodes g.tree) (count.attrs g.tree)) (tree_tables left) =
+          subst (λ (y : Result TreeSize Refusal). xml.Parsed s tree_lent y (tree_tables left)) (counted p g.tree g.takes) p in
           taken_as x a q l

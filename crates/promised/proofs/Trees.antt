@@ -4,6 +4,7 @@
 --     nodes-same                 all derivations of a text give the same nodes
 --     strings-are, nodes-held    what its tables hold: the strings, and the nodes with their places
 --     means_of                   so the text means what these nodes mean
+use Rattle.std.specs.Prelude.{Result, Ok, Err}
 use Prim.Native.Nat.{ℕ, ◌≤◌}
 use mathlib.Core.Path.{◌≡◌, refl, sym, ap, ◌∙◌}
 use mathlib.Core.Logic.{◌⊎◌, inl, inr}
@@ -18,7 +19,6 @@ use Rattle.tree.specs.Trees as placed
 use Rattle.tree.specs.Trees.{spans, InOrder}
 use Rattle.tree.specs.Read.{answer_of, nodes_of, attr_cells}
 use Rattle.tree.specs.Posts.{Fits}
-use Rattle.tree.specs.declared.answers.Answer as tree
 use Rattle.tree.specs.declared.answers.Refusal.{Refusal}
 use Rattle.tree.proofs.Places.{meaning-placed}
 use Rattle.derivation.proofs.Theorem.{Gives, gives-exactly}
@@ -26,7 +26,7 @@ use Rattle.track.specs.Track.{Track}
 use Rattle.xml.specs.Reading.{Placed, lay}
 use Rattle.xml.specs.Steps.{strings, raw, read_out, strings_of}
 use Rattle.xml.specs.Where.{document_placed}
-use Rattle.tree.specs.Answers.{number_of, place_of}
+use Rattle.tree.specs.Answers.{tree_with, number_of, place_of}
 use Rattle.xml.specs.Promise.{Tables, tables, Takes, TurnsAway, places_of, Parsed}
 use Rattle.xml.proofs.Parsing.{raw-enough}
 use Rattle.xml.proofs.Derived.{placed_as_derived}
@@ -40,6 +40,7 @@ use Rattle.meaning.specs.Texts.{nodes_read}
 use Rattle.meaning.proofs.Stands.{tables-nodes}
 use Rattle.laid.specs.Steps.{Means}
 use Rattle.promised.specs.Promise as promise
+use Rattle.tree.specs.declared.answers.TreeSize.{TreeSize}
 
 module _ (s : List ℕ) (lent : Tables) where
   abbrev n : ℕ
@@ -52,7 +53,7 @@ module _ (s : List ℕ) (lent : Tables) where
   z = length lent.strings
 
   -- ---- there is an outcome that meets the tree reader's promise
-  abbrev canon_answer : tree.Answer
+  abbrev canon_answer : Result TreeSize Refusal
   canon_answer = answer_of (raw s n m z)
 
   abbrev canon_left : Tables
@@ -75,14 +76,14 @@ module _ (s : List ℕ) (lent : Tables) where
       let y = (canon.refused j q (away_some b)).1 b in
       (sym x.0 ∙ y.0, sym x.1 ∙ y.1)
 
-  pub refused-away : {r : Refusal} {left : Tables} → Parsed s lent (tree.Answer.Refused r) left → TurnsAway s lent r.number r.place
+  pub refused-away : {r : Refusal} {left : Tables} → Parsed s lent (Err r) left → TurnsAway s lent r.number r.place
   unfolding number_of place_of
   refused-away {r} {left} p = by (decided s lent)
     where
       by : ((f : Forest) × Takes s lent f) ⊎ ((i : ℕ) × (q : ℕ) × TurnsAway s lent i q) → TurnsAway s lent r.number r.place
       by (inl x) =
           let f = x.0 in
-          let e : ◌≡◌ {A = tree.Answer} (tree.Answer.Refused r) (tree.Answer.Tree (count.nodes f) (count.attrs f)) = counted p f x.1 in
+          let e : ◌≡◌ {A = Result TreeSize Refusal} (Err r) (tree_with (count.nodes f) (count.attrs f)) = counted p f x.1 in
           let w : ◌≡◌ {A = ℕ} 0 1 = cc in
           absurd (omega arith)
       by (inr x) =
@@ -117,7 +118,7 @@ module _ (s : List ℕ) (lent : Tables) where
     read_is : read.0 ≡ forest
     read_is = placed_as_derived d.derives.derived n m (fits d) read.0 read.1 read.2 read.3 read.4
 
-    pub strings-are : {r : tree.Answer} {left : Tables} → Parsed s lent r left → left.strings ≡ lay (replicate z 0) (strings s forest)
+    pub strings-are : {r : Result TreeSize Refusal} {left : Tables} → Parsed s lent r left → left.strings ≡ lay (replicate z 0) (strings s forest)
     unfolding strings_of
     strings-are p =
         let a = ap (λ (T : Tables). T.strings) (determined p canon).1 in
@@ -127,7 +128,7 @@ module _ (s : List ℕ) (lent : Tables) where
     in_order : InOrder 0 (spans forest) (length s)
     in_order = rw read_is at (meaning-placed s n m read.0 read.1 read.2 read.3 read.4)
 
-    pub nodes-held : {r : tree.Answer} {left : Tables} → Parsed s lent r left
+    pub nodes-held : {r : Result TreeSize Refusal} {left : Tables} → Parsed s lent r left
         → nodes_in left.strings (places_of d.derives.derived) ≡ promise.nodes_of d.derives.derived
     nodes-held {r} {left} p =
         let room : length s ≤ z = omega (arith, d.readable.short, d.readable.long_enough.of_strings) in

@@ -1,10 +1,9 @@
 -- What `parse` and `bytes_to_cue` promise, in the words of document 01: of the text, the tables that are lent and what is left in them, and the
 -- answer. Definitions alone. Nothing here says how the program reads.
-use Rattle.std.specs.Prelude.{ℕ, ◌<◌, ◌≡◌, ◌↔◌, List, length, replicate, ℤ, pos, Float}
+use Rattle.std.specs.Prelude.{Result, Ok, Err, ⊤, ℕ, ◌<◌, ◌≡◌, ◌↔◌, List, length, replicate, ℤ, pos, Float}
 use Rattle.grammar.specs.Tree.{Forest}
 use Rattle.grammar.specs.Limits as count
 use Rattle.grammar.specs.Grammar.{Document}
-use Rattle.tree.specs.declared.answers.Answer.TheVariants.{Tree}
 use Rattle.track.specs.Track.{Track}
 use Rattle.track.specs.Tables.{Lengths, lengths, zero_float}
 use Rattle.track.specs.Tables as track
@@ -16,19 +15,20 @@ use Rattle.meaning.specs.Answers as meaning
 use Rattle.meaning.specs.Nodes.{Nodes}
 use Rattle.meaning.specs.Texts.{nodes_read}
 use Rattle.laid.specs.Laid.{track_tables, whole, single}
-use Rattle.promised.specs.declared.Answer.{Answer}
+use Rattle.tree.specs.declared.answers.Refusal.{Refusal}
+use Rattle.tree.specs.Answers.{tree_with}
 
 -- ---- the answer
 -- "An answer has number and byte place (0 if none is named […])": a track has no number, here 0
-unfoldable pub number_of : Answer → ℕ
-number_of Answer.Track = 0
-number_of (Answer.Refused r) = r.number
+unfoldable pub number_of : Result ⊤ Refusal → ℕ
+number_of (Ok tt) = 0
+number_of (Err r) = r.number
 
-unfoldable pub place_of : Answer → ℕ
-place_of Answer.Track = 0
-place_of (Answer.Refused r) = r.place
+unfoldable pub place_of : Result ⊤ Refusal → ℕ
+place_of (Ok tt) = 0
+place_of (Err r) = r.place
 
-abbrev pub Says : Answer → (number place : ℕ) → Type 0
+abbrev pub Says : Result ⊤ Refusal → (number place : ℕ) → Type 0
 Says answer n p = (number_of answer ≡ n) × (place_of answer ≡ p)
 
 -- ---- the tables: those of the tree reader, and those of a track. One of them, of strings, is in both.
@@ -84,12 +84,12 @@ module _ (meant : Nodes Placed → meaning.Answer (Track Placed)) (text : List �
         → meant (nodes_of d.derives.derived) ≡ refused n p → TurnsAway n p
 
   -- ---- the promise
-  pub record Promise (answer : Answer) (left : Tables) : Type 0 where
+  pub record Promise (answer : Result ⊤ Refusal) (left : Tables) : Type 0 where
     -- it answers without a number exactly if the text's tree means a track
-    pub taken : (answer ≡ Answer.Track) ↔ ((f : Forest) × (t : Track Placed) × Takes f t)
+    pub taken : (answer ≡ (Ok tt)) ↔ ((f : Forest) × (t : Track Placed) × Takes f t)
     -- then the tree stands in its tables as `parse_xml` leaves it, and the track in the others, its strings being parts of the tree's
     pub tree : (f : Forest) (t : Track Placed) → Takes f t
-        → xml.Parsed text (tree_tables lent) (Tree (count.nodes f) (count.attrs f)) (tree_tables left)
+        → xml.Parsed text (tree_tables lent) (tree_with (count.nodes f) (count.attrs f)) (tree_tables left)
     pub track : (f : Forest) (t : Track Placed) → Takes f t
         → left.track ≡ track_tables (lengths lent.track) left.track.strings (length text) t
     -- "Limits and what is turned away": with that number and that place, and with no other
@@ -98,9 +98,9 @@ module _ (meant : Nodes Placed → meaning.Answer (Track Placed)) (text : List �
     pub cleared : 0 < number_of answer → AllZero lent left
 
 -- `parse`: a track
-abbrev pub Parsed : (text : List ℕ) (lent : Tables) → Answer → (left : Tables) → Type 0
+abbrev pub Parsed : (text : List ℕ) (lent : Tables) → Result ⊤ Refusal → (left : Tables) → Type 0
 Parsed text lent answer left = Promise whole text lent answer left
 
 -- `bytes_to_cue`: a track of one cue and nothing else
-abbrev pub CueParsed : (text : List ℕ) (lent : Tables) → Answer → (left : Tables) → Type 0
+abbrev pub CueParsed : (text : List ℕ) (lent : Tables) → Result ⊤ Refusal → (left : Tables) → Type 0
 CueParsed text lent answer left = Promise single text lent answer left

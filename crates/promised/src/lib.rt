@@ -6,10 +6,3 @@
 //                       text's tree means
 //   proofs/Cases        from what a text means, computed, to the answer and what is left
 use tree::Refusal;
-
-// The track stands in the tables; or a number of document 01 and a place, and every cell is zero.
-#[derive(Clone, Copy)]
-pub enum Answer {
-    Track,
-    Refused(Refusal),
-}

@@ -3,6 +3,9 @@
 --     value-asked, referenced                     a value
 --     region_asked, region_refuses                a region
 --     cue_asked, cue_refuses, cue_past            a cue
+use Rattle.queries.specs.Reply.{Reply}
+use Rattle.std.specs.Prelude as rust
+use Rattle.std.specs.Prelude.{Some, None, Result, Ok, Err}
 use Prim.Native.Nat.{ℕ, zero, suc, ◌+◌, ◌-◌, ◌*◌, ◌≤◌, ◌<◌}
 use mathlib.Core.Path.{◌≡◌, refl, sym, ap, subst, ◌∙◌}
 use mathlib.Core.Bool.{Bool, true, false, cond}
@@ -20,13 +23,11 @@ use Rattle.scan.proofs.Every.{by-test}
 use Rattle.track.specs.declared.strings.Span.{Span}
 use Rattle.track.specs.declared.values.Look as values
 use Rattle.track.specs.declared.values.Cue as placed
-use Rattle.track.specs.declared.check.Check.{Check}
 use Rattle.track.specs.Track.{Bytes, Look, Style, Region, Track}
 use Rattle.track.specs.Tables.{Tables, cell, span, optional, rows_from, style_count, region_count, cue_count, cue_at}
 use Rattle.track.specs.Meaning.{bytes_at, given, look_in_of, region_in, cue_in, track_at, track_in}
 use Rattle.track.proofs.ShownLaws.{regions-in, cues-in}
 use Rattle.records.specs.Find.{find_style, find_region}
-use Rattle.styles.specs.declared.apply.Applied.{Applied}
 use Rattle.styles.specs.Reaches.{Reaches}
 use Rattle.styles.specs.Values.{laid_over}
 use Rattle.styles.specs.Resolve.{Resolution, resolve}
@@ -55,7 +56,6 @@ use Rattle.styles.proofs.Tidying.{tidy_blank}
 use Rattle.styles.proofs.Whole.{styles_whole}
 use Rattle.queries.specs.declared.query.Resolved.{Resolved}
 use Rattle.queries.specs.declared.region.Part.{Part}
-use Rattle.queries.specs.declared.region.PartRead.{PartRead}
 use Rattle.queries.specs.Places.{past, there}
 use Rattle.queries.specs.Promise.{
   number_of,
@@ -76,6 +76,7 @@ use Rattle.queries.proofs.Regions.{blank-unstyled}
 use Rattle.queries.proofs.OwnNumbers.{region_refused, cue_refused}
 use Rattle.queries.proofs.Reaching.{Reached, value-reached, region_reached, cue_reached}
 use Rattle.queries.proofs.Promising.{zeros, valued-query, over-query, given-query}
+use Rattle.styles.specs.declared.apply.Walk.{Walk}
 
 -- ---- strings
 pub whole : (x : List ℕ) → string_at x 0 (length x) ≡ x
@@ -114,7 +115,7 @@ alone styles z look b value =
     ∙ (ap (λ (r : Resolution). both r (resolve styles [])) (own-none z (resolve styles value)) ∙ both-none styles (resolve styles value))
 
 -- ---- from what is left to the promise
-module _ (q : Query) (T : Tables) (lent : List ℕ) (h : query_check q.text T ≡ Check.Track) (first second : Bytes) (look : values.Look)
+module _ (q : Query) (T : Tables) (lent : List ℕ) (h : query_check q.text T ≡ (Ok tt)) (first second : Bytes) (look : values.Look)
     (t₁ t₂ t₃ : List ℕ) (cleared : t₁ ≡ replicate (length lent) 0)
   where
     abbrev resolved : Resolution
@@ -126,20 +127,20 @@ module _ (q : Query) (T : Tables) (lent : List ℕ) (h : query_check q.text T �
     pub asked : q.asks (track_at T) ≡ is resolved → Reached q (track_at T) resolved → Tidy look
         → bytes_at q.text q.at ≡ q.name → (one two : Row)
         → ((v : WalkedAt) → Resolves q.text T.styles T.sizes T.strings (style_count T.head) one two look v → q.walks T v)
-        → (walked : Applied) (answer : Resolved)
+        → (walked : rust.Option Walk) (answer : Reply)
         → AnswerPost q.text T.styles T.sizes T.strings (style_count T.head) first second t₁ t₂ look one two walked
         → FinishPost q.at walked t₂ t₃ answer → Queried q T lent answer t₃
-    asked e x tidy n one two p (Applied.Done w) answer a f =
+    asked e x tidy n one two p (Some w) answer a f =
         rw (f.0, f.1)
         (given-query q T lent h resolved e x t₂ (a.kept ∙ as_long) w (a.style T.extras) (a.ids T.extras) (a.tidy tidy) a.stood
         a.behind (p (state_at t₂ w) a.placed) n)
-    asked e x tidy n one two p Applied.Full answer a f =
+    asked e x tidy n one two p None answer a f =
         rw f.0
         (over-query q T lent h resolved e (over-kept lent t₁ resolved.ids as_long (a.over T.extras)) t₃ (rw (a.kept ∙ as_long) at f.1))
 
 -- ---- a value
 module _ (value : Bytes) (T : Tables) (lent : List ℕ) where
-  pub referenced : (answer : Resolved) (left : List ℕ) → Queried (of_value value) T lent answer left → ReferencedStyle value T lent answer left
+  pub referenced : (answer : Reply) (left : List ℕ) → Queried (of_value value) T lent answer left → ReferencedStyle value T lent answer left
   referenced answer left q = record {
     queried = q;
     no_style = λ n k e. styled n k e (q.taken.0 n);
@@ -160,7 +161,7 @@ module _ (value : Bytes) (T : Tables) (lent : List ℕ) where
           same : {j k : Track Bytes} {r : Resolution} → j ≡ k → is (resolve j.styles value) ≡ is r → r ≡ resolve k.styles value
           same {j} {k} {r} v w = let x : r ≡ resolve j.styles value = cc in x ∙ ap (λ (y : Track Bytes). resolve y.styles value) v
 
-  module _ (h : query_check value T ≡ Check.Track) (look : values.Look) (blank-look : look ≡ blank_look) (t₁ t₂ t₃ : List ℕ)
+  module _ (h : query_check value T ≡ (Ok tt)) (look : values.Look) (blank-look : look ≡ blank_look) (t₁ t₂ t₃ : List ℕ)
       (cleared : t₁ ≡ replicate (length lent) 0) where
     abbrev value-answer : Resolution
     value-answer =
@@ -171,7 +172,7 @@ module _ (value : Bytes) (T : Tables) (lent : List ℕ) where
         ap (λ (s : List (Style Bytes)). is (resolve s value)) (sym (styles_whole T))
         ∙ ap is (sym (alone (styles_in T.styles T.sizes T.extras T.strings (style_count T.head)) T.strings look blank-look value))
 
-    pub value-asked : (b e : ℕ) → Trimmed value b e → (walked : Applied) (answer : Resolved)
+    pub value-asked : (b e : ℕ) → Trimmed value b e → (walked : rust.Option Walk) (answer : Reply)
         → AnswerPost value T.styles T.sizes T.strings (style_count T.head) value [] t₁ t₂ look (row 0 (span 0 (length value)))
         (row 1 (span 0 0)) walked
         → FinishPost (span b (e - b)) walked t₂ t₃ answer → ReferencedStyle value T lent answer t₃
@@ -189,24 +190,24 @@ regions_whole : (T : Tables) → regions_of T.regions T.extras T.strings (region
 unfolding region_in
 regions_whole T = sym (regions-in T)
 
-module _ (id : Bytes) (T : Tables) (lent : List ℕ) (h : query_check id T ≡ Check.Track) where
+module _ (id : Bytes) (T : Tables) (lent : List ℕ) (h : query_check id T ≡ (Ok tt)) where
   regions_are : (styles : List (Style Bytes))
       → region_found styles (find_region id (regions_of T.regions T.extras T.strings (region_count T.head)))
       ≡ region_found styles (find_region id (track_at T).regions)
   regions_are styles = ap (λ (l : List (Region Bytes)). region_found styles (find_region id l)) (regions_whole T)
 
-  asks_region : (r : PartRead) → RegionPost T.regions T.extras T.strings (region_count T.head) id r
+  asks_region : (r : Result Part ℕ) → RegionPost T.regions T.extras T.strings (region_count T.head) id r
       → region_style (track_at T) id ≡ part_as T.strings (track_at T).styles r
   unfolding region_style
   asks_region r p = sym (p.is (track_at T).styles ∙ regions_are (track_at T).styles)
 
-  pub region_refuses : (n : ℕ) → RegionPost T.regions T.extras T.strings (region_count T.head) id (PartRead.Refused n)
+  pub region_refuses : (n : ℕ) → RegionPost T.regions T.extras T.strings (region_count T.head) id (Err n)
       → (left : List ℕ) → left ≡ replicate (length lent) 0 → RegionStyle id T lent (refused_as_of n) left
   region_refuses n p left z =
-      let e = asks_region (PartRead.Refused n) p in
+      let e = asks_region (Err n) p in
       valued-query (of_region id) T lent h n e (region_refused (track_at T) id e) left z
 
-  module _ (x : Part) (p : RegionPost T.regions T.extras T.strings (region_count T.head) id (PartRead.Is x)) (t₁ t₂ t₃ : List ℕ)
+  module _ (x : Part) (p : RegionPost T.regions T.extras T.strings (region_count T.head) id (Ok x)) (t₁ t₂ t₃ : List ℕ)
       (cleared : t₁ ≡ replicate (length lent) 0) where
     abbrev answer_to : Resolution
     answer_to =
@@ -216,11 +217,11 @@ module _ (id : Bytes) (T : Tables) (lent : List ℕ) (h : query_check id T ≡ C
     same_region : region_style (track_at T) id ≡ is answer_to
     same_region =
         let S : List (Style Bytes) = styles_in T.styles T.sizes T.extras T.strings (style_count T.head) in
-        asks_region (PartRead.Is x) p
-        ∙ (ap (λ (s : List (Style Bytes)). part_as T.strings s (PartRead.Is x)) (sym (styles_whole T))
+        asks_region (Ok x) p
+        ∙ (ap (λ (s : List (Style Bytes)). part_as T.strings s (Ok x)) (sym (styles_whole T))
         ∙ ap is (sym (both-none S (with_own (resolve S (bytes_at T.strings x.chain)) (look_in_of T.strings x.look)))))
 
-    pub region_asked : (walked : Applied) (answer : Resolved)
+    pub region_asked : (walked : rust.Option Walk) (answer : Reply)
         → AnswerPost id T.styles T.sizes T.strings (style_count T.head) (bytes_at T.strings x.chain) [] t₁ t₂ x.look
         (row 1 x.chain) (row 1 (span 0 0)) walked
         → FinishPost (span 0 (length id)) walked t₂ t₃ answer → RegionStyle id T lent answer t₃
@@ -246,12 +247,12 @@ nth_past f zero j i l = refl
 nth_past f (suc n) j zero l = absurd (omega arith)
 nth_past f (suc n) j (suc i) l = nth_past f n (j + 1) i (omega arith)
 
-module _ (T : Tables) (i : ℕ) (lent : List ℕ) (h : query_check [] T ≡ Check.Track) where
+module _ (T : Tables) (i : ℕ) (lent : List ℕ) (h : query_check [] T ≡ (Ok tt)) where
   none-there : cue_count T.head ≤ i → effective_style (track_at T) i ≡ is nothing
   unfolding effective_style
   none-there l = rw (cues-in T, nth_past (cue_in T) (cue_count T.head) 0 i l)
 
-  pub cue_past : cue_count T.head ≤ i → (left : List ℕ) → left ≡ replicate (length lent) 0 → EffectiveStyle T i lent (Resolved.NoStyle 0) left
+  pub cue_past : cue_count T.head ≤ i → (left : List ℕ) → left ≡ replicate (length lent) 0 → EffectiveStyle T i lent (Ok (Resolved.NoStyle 0)) left
   unfolding nothing names_of rows_in rows_from string_at start_at
   cue_past l left z =
       given-query (of_cue_of i) T lent h nothing (none-there l)
@@ -285,7 +286,7 @@ module _ (T : Tables) (i : ℕ) (lent : List ℕ) (h : query_check [] T ≡ Chec
     own-given styles =
         by-test (eqb (get_or T.cues (i * 11 + 0) 0) 1) (λ e. rw e) (λ e. rw (e, no_bytes T.strings) (sym (resolve-nothing styles)))
 
-    asks_cue : (r : PartRead) → CueRegionPost T.regions T.extras T.strings (region_count T.head) cue.has_region cue.region r
+    asks_cue : (r : Result Part ℕ) → CueRegionPost T.regions T.extras T.strings (region_count T.head) cue.has_region cue.region r
         → effective_style (track_at T) i ≡ next (part_as T.strings (track_at T).styles r)
         (λ s. is (both s (resolve (track_at T).styles (bytes_at T.strings cue.style))))
     unfolding effective_style cue_in
@@ -299,14 +300,14 @@ module _ (T : Tables) (i : ℕ) (lent : List ℕ) (h : query_check [] T ≡ Chec
         )
 
     pub cue_refuses : (n : ℕ) → CueRegionPost T.regions T.extras T.strings (region_count T.head) cue.has_region cue.region
-        (PartRead.Refused n)
+        (Err n)
         → (left : List ℕ) → left ≡ replicate (length lent) 0 → EffectiveStyle T i lent (refused_as_of n) left
     cue_refuses n p left z =
-        let e = asks_cue (PartRead.Refused n) p in
+        let e = asks_cue (Err n) p in
         valued-query (of_cue_of i) T lent h n e (cue_refused (track_at T) i e) left z
 
     module _ (x : Part)
-        (p : CueRegionPost T.regions T.extras T.strings (region_count T.head) cue.has_region cue.region (PartRead.Is x))
+        (p : CueRegionPost T.regions T.extras T.strings (region_count T.head) cue.has_region cue.region (Ok x))
         (t₁ t₂ t₃ : List ℕ) (cleared : t₁ ≡ replicate (length lent) 0) where
       abbrev cue_answer : Resolution
       cue_answer = resolved (of_cue_of i) T lent h (bytes_at T.strings x.chain)
@@ -314,11 +315,11 @@ module _ (T : Tables) (i : ℕ) (lent : List ℕ) (h : query_check [] T ≡ Chec
 
       same_cue : effective_style (track_at T) i ≡ is cue_answer
       same_cue =
-          asks_cue (PartRead.Is x) p
-          ∙ ap (λ (s : List (Style Bytes)). next (part_as T.strings s (PartRead.Is x)) (λ r. is (both r (resolve s (bytes_at T.strings cue.style)))))
+          asks_cue (Ok x) p
+          ∙ ap (λ (s : List (Style Bytes)). next (part_as T.strings s (Ok x)) (λ r. is (both r (resolve s (bytes_at T.strings cue.style)))))
           (sym (styles_whole T))
 
-      pub cue_asked : (walked : Applied) (answer : Resolved)
+      pub cue_asked : (walked : rust.Option Walk) (answer : Reply)
           → AnswerPost [] T.styles T.sizes T.strings (style_count T.head) (bytes_at T.strings x.chain) (bytes_at T.strings cue.style) t₁ t₂ x.look (row 1 x.chain) (row 1 cue.style) walked
           → FinishPost (span 0 0) walked t₂ t₃ answer → EffectiveStyle T i lent answer t₃
       cue_asked walked answer a f =

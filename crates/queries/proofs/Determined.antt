@@ -1,5 +1,7 @@
 -- Two outcomes that meet the promise are the same. Assumes nothing.
 --     determined, determined_value, determined_region, determined_cue     the answer, and every cell of the table
+use Rattle.queries.specs.Reply.{Reply}
+use Rattle.std.specs.Prelude.{Ok, Err}
 use Prim.Native.Nat.{ℕ, ◌<◌}
 use mathlib.Core.Path.{◌≡◌, refl, sym, ap, ◌∙◌}
 use mathlib.Core.List.{List, []}
@@ -37,19 +39,19 @@ use Rattle.queries.specs.Promise.{
 }
 
 -- an answer with a number is its number and its place
-refused_as : (a b : Resolved) → 0 < number_of a → number_of a ≡ number_of b → place_of a ≡ place_of b → a ≡ b
+refused_as : (a b : Reply) → 0 < number_of a → number_of a ≡ number_of b → place_of a ≡ place_of b → a ≡ b
 unfolding number_of place_of
-refused_as (Resolved.Refused p) (Resolved.Refused q) z e f = rw (e, f)
-refused_as (Resolved.Refused p) (Resolved.Style y) z e f = absurd (omega arith)
-refused_as (Resolved.Refused p) (Resolved.NoStyle m) z e f = absurd (omega arith)
-refused_as (Resolved.Style x) b z e f = absurd (omega arith)
-refused_as (Resolved.NoStyle n) b z e f = absurd (omega arith)
+refused_as (Err p) (Err q) z e f = rw (e, f)
+refused_as (Err p) (Ok (Resolved.Style y)) z e f = absurd (omega arith)
+refused_as (Err p) (Ok (Resolved.NoStyle m)) z e f = absurd (omega arith)
+refused_as (Ok (Resolved.Style x)) b z e f = absurd (omega arith)
+refused_as (Ok (Resolved.NoStyle n)) b z e f = absurd (omega arith)
 
 -- a walk with places has one end
 abbrev Single : (WalkedAt → Type 0) → Type 0
 Single placed = (v u : WalkedAt) → placed v → placed u → v ≡ u
 
-pub determined : (q : Query) (T : Tables) (lent : List ℕ) → Single (q.walks T) → (a b : Resolved) (l m : List ℕ)
+pub determined : (q : Query) (T : Tables) (lent : List ℕ) → Single (q.walks T) → (a b : Reply) (l m : List ℕ)
     → Queried q T lent a l → Queried q T lent b m → (a ≡ b) × (l ≡ m)
 determined q T lent single a b l m x y =
     by-test (eqb (number_of a) 0) (λ e. given (x.taken.0 (eqb-true (number_of a) 0 e)))
@@ -86,7 +88,7 @@ cue_single T i v u (past h e) (there k q) = absurd (omega arith)
 cue_single T i v u (there h p) (past k q) = absurd (omega arith)
 cue_single T i v u (there h p) (there k q) = part-single [] T _ _ v u p q
 
-module _ (T : Tables) (lent : List ℕ) (a b : Resolved) (l m : List ℕ) where
+module _ (T : Tables) (lent : List ℕ) (a b : Reply) (l m : List ℕ) where
   pub determined_value : (value : Bytes) → ReferencedStyle value T lent a l → ReferencedStyle value T lent b m → (a ≡ b) × (l ≡ m)
   determined_value value p q =
       determined (of_value value) T lent (values_single value T 0 (span 0 (length value)) (span 0 0) blank_look) a b l m p.queried q.queried

@@ -2,6 +2,7 @@
 --     own-number                         its values
 --     region_number, cue-number          what is asked of a region, and of a cue
 --     region_refused, cue_refused        the number itself
+use Rattle.std.specs.Prelude.{Result, Ok, Err}
 use Prim.Native.Nat.{ℕ}
 use mathlib.Core.Path.{◌≡◌, refl, subst}
 use mathlib.Core.Logic.{◌⊎◌, inl, inr}
@@ -9,14 +10,16 @@ use mathlib.Core.List.{List}
 use mathlib.Core.Option.{Option, none, some}
 use lib.ListN.{take}
 use Rattle.scan.specs.Bytes.{run_length_of}
-use Rattle.colors.specs.declared.read.Color.{Color}
 use Rattle.colors.specs.Colors.{color_in}
-use Rattle.decimals.specs.declared.read.Decimal.{Decimal}
 use Rattle.decimals.specs.Decimal.{decimal_of}
 use Rattle.track.specs.Track.{Bytes, Extra, Style, Region, Cue, Track}
 use Rattle.records.specs.Find.{find_region}
 use Rattle.styles.specs.Own.{Read, is, refused, next, value_of, color_read, color_of, size_read, size_byte, size_in, own_values}
 use Rattle.styles.specs.Queries.{region_found, region_style, region_optional, cue_found, effective_style, nth}
+use Rattle.decimals.specs.declared.read.DecimalError.{DecimalError}
+use Rattle.colors.specs.declared.read.ColorError.{ColorError}
+use Rattle.decimals.specs.declared.read.Digits.{Digits}
+use Rattle.colors.specs.declared.read.Rgba.{Rgba}
 
 abbrev pub OwnNumber : {A : Type 0} → Read A → Type 0
 OwnNumber (is x) = Unit {0}
@@ -26,19 +29,19 @@ next-number : {A B : Type 0} (r : Read A) (f : A → Read B) → OwnNumber r →
 next-number (is x) f h k = k x
 next-number (refused n) f h k = h
 
-color-number : (c : Color) → OwnNumber (color_read c)
-color-number (Color.Is c) = tt
-color-number Color.Nothing = tt
-color-number Color.Cut = inr refl
+color-number : (c : Result Rgba ColorError) → OwnNumber (color_read c)
+color-number (Ok c) = tt
+color-number (Err ColorError.Invalid) = tt
+color-number (Err ColorError.Cut) = inr refl
 
 colors_number : (v : Option Bytes) → OwnNumber (color_of v)
 colors_number none = tt
 colors_number (some v) = color-number (color_in v)
 
-size_number : (d : Decimal) → OwnNumber (size_read d)
-size_number (Decimal.Is d) = tt
-size_number Decimal.Nothing = tt
-size_number Decimal.Beyond = inl refl
+size_number : (d : Result Digits DecimalError) → OwnNumber (size_read d)
+size_number (Ok d) = tt
+size_number (Err DecimalError.Invalid) = tt
+size_number (Err DecimalError.Beyond) = inl refl
 
 sizes_number : (v : Option Bytes) → OwnNumber (size_in v)
 sizes_number none = tt

@@ -1,6 +1,8 @@
 -- What a region says of itself. Assumes nothing.
 --     color-read, size-read, align_read         an absent value reads as an empty one
 --     own-cut, own-cut_back, own-beyond, own-all     the ways through `own_values`
+use Rattle.std.specs.Prelude as rust
+use Rattle.std.specs.Prelude.{Some, None, Ok, Err}
 use Prim.Native.Nat.{ℕ, ◌≤◌, ◌<◌}
 use mathlib.Core.Path.{◌≡◌, refl, sym, ◌∙◌}
 use mathlib.Core.Bool.{Bool, true, false}
@@ -16,13 +18,11 @@ use Rattle.scan.specs.Names.{same_bytes_of, same_folded}
 use Rattle.utf8.specs.White.{trimmed, white_end}
 use Rattle.scan.proofs.Every.{by-test}
 use Rattle.colors.specs.declared.read.Rgba.{Rgba}
-use Rattle.colors.specs.declared.read.Color.{Color}
 use Rattle.colors.specs.Colors.{color, color_in}
 use Rattle.colors.specs.Named.{named_in}
 use Rattle.decimals.specs.declared.size.Size.{Size}
 use Rattle.decimals.specs.Decimal.{decimal_of}
 use Rattle.decimals.specs.Size.{size_of}
-use Rattle.decimals.specs.declared.read.Decimal.{Decimal}
 use Rattle.decimals.specs.declared.read.Digits.{Digits}
 use Rattle.decimals.proofs.Tests.{no}
 use Rattle.track.specs.Alignment.{align_word}
@@ -34,10 +34,7 @@ use Rattle.styles.specs.Own.{is, ascii, value_of, color_read, color_of, size_rea
 use Rattle.styles.specs.Cells.{no_color, no_size_of}
 use Rattle.queries.specs.declared.own.Value.{Value}
 use Rattle.queries.specs.declared.own.Paint.{Paint}
-use Rattle.queries.specs.declared.own.ColorRead.{ColorRead}
 use Rattle.queries.specs.declared.own.Measure.{Measure}
-use Rattle.queries.specs.declared.own.SizeRead.{SizeRead}
-use Rattle.queries.specs.declared.own.OwnRead.{OwnRead}
 use Rattle.queries.specs.Places.{extras_of, extras_at}
 use Rattle.queries.specs.Steps.{
   value_at,
@@ -54,6 +51,8 @@ use Rattle.queries.specs.Steps.{
   OwnPost,
 }
 use Rattle.queries.proofs.Numbered.{once_at, value-named, value-placed, value-absent, value-within}
+use Rattle.decimals.specs.declared.read.DecimalError.{DecimalError}
+use Rattle.colors.specs.declared.read.ColorError.{ColorError}
 
 no_bytes : (z : List ℕ) → string_at z 0 0 ≡ []
 unfolding string_at
@@ -137,32 +136,32 @@ module _ (e z : List ℕ) (i n : ℕ) where
   says-word w (some v) = refl
 
   -- what is read first
-  module _ (r : ColorRead) (p : ColorPost (bytes_in e z 9 n i) r) where
+  module _ (r : rust.Option Paint) (p : ColorPost (bytes_in e z 9 n i) r) where
     color-read_is : color_of (value_of "tts:color" l) ≡ color_as r
     color-read_is = rw color-is (sym (color-read e z 9 n i)) ∙ sym p.is
 
-    pub own-cut : r ≡ ColorRead.Cut → OwnPost e z i n (OwnRead.Refused 15)
+    pub own-cut : r ≡ None → OwnPost e z i n (Err 15)
     unfolding own_values
     own-cut h = record { is = rw (color-read_is, h); tidy = omega arith; family = tt }
 
-    module _ (color : Paint) (h : r ≡ ColorRead.Is color) (s : ColorRead) (q : ColorPost (bytes_in e z 1 n i) s) where
+    module _ (color : Paint) (h : r ≡ Some color) (s : rust.Option Paint) (q : ColorPost (bytes_in e z 1 n i) s) where
       back_read_is : color_of (value_of "tts:backgroundColor" l) ≡ color_as s
       back_read_is = rw back_is (sym (color-read e z 1 n i)) ∙ sym q.is
 
-      pub own-cut_back : s ≡ ColorRead.Cut → OwnPost e z i n (OwnRead.Refused 15)
+      pub own-cut_back : s ≡ None → OwnPost e z i n (Err 15)
       unfolding own_values
       own-cut_back g = record { is = rw (color-read_is, h, back_read_is, g); tidy = omega arith; family = tt }
 
-      module _ (back : Paint) (g : s ≡ ColorRead.Is back) (t : SizeRead) (o : SizePost (bytes_in e z 19 n i) t) where
+      module _ (back : Paint) (g : s ≡ Some back) (t : rust.Option Measure) (o : SizePost (bytes_in e z 19 n i) t) where
         size-read_is : size_in (value_of "tts:fontSize" l) ≡ size_as t
         size-read_is = rw size_is (sym (size-read e z 19 n i)) ∙ sym o.is
 
-        pub own-beyond : t ≡ SizeRead.Beyond → OwnPost e z i n (OwnRead.Refused 14)
+        pub own-beyond : t ≡ None → OwnPost e z i n (Err 14)
         unfolding own_values
         own-beyond b = record { is = rw (color-read_is, h, back_read_is, g, size-read_is, b); tidy = omega arith; family = tt }
 
-        pub own-all : (size : Measure) → t ≡ SizeRead.Is size → (x : values.Look) → x ≡ own_look e z i n color back size
-            → OwnPost e z i n (OwnRead.Is x)
+        pub own-all : (size : Measure) → t ≡ Some size → (x : values.Look) → x ≡ own_look e z i n color back size
+            → OwnPost e z i n (Ok x)
         unfolding own_values look_in_of
         own-all size b x y = record {
           is = rw (
@@ -192,28 +191,28 @@ module _ (e z : List ℕ) (i n : ℕ) where
 
 -- ---- one value
 module _ (v : Bytes) where
-  pub color-post : (c : Rgba) → color_in v ≡ Color.Is c → ColorPost v (ColorRead.Is (record { has = true; color = c }))
+  pub color-post : (c : Rgba) → color_in v ≡ Ok c → ColorPost v (Some (record { has = true; color = c }))
   color-post c h = record { is = rw h; tidy = λ e. no e }
 
-  pub color-none : color_in v ≡ Color.Nothing → ColorPost v (ColorRead.Is (record { has = false; color = no_color }))
+  pub color-none : color_in v ≡ (Err ColorError.Invalid) → ColorPost v (Some (record { has = false; color = no_color }))
   color-none h = record { is = rw h; tidy = λ e. refl }
 
-  pub color-cut : color_in v ≡ Color.Cut → ColorPost v ColorRead.Cut
+  pub color-cut : color_in v ≡ (Err ColorError.Cut) → ColorPost v None
   color-cut h = record { is = rw h; tidy = tt }
 
   module _ (n : ℕ) (k : n ≡ run_length_of size_byte v) where
-    pub size-post : (d : Digits) (s : Size) → decimal_of (take n v) 6 10 ≡ Decimal.Is d → s ≡ size_of d
-        → SizePost v (SizeRead.Is (record { has = true; size = s }))
+    pub size-post : (d : Digits) (s : Size) → decimal_of (take n v) 6 10 ≡ Ok d → s ≡ size_of d
+        → SizePost v (Some (record { has = true; size = s }))
     size-post d s h e = let g = rw k at h in record { is = rw (g, e); tidy = λ x. no x }
 
-    pub size_none : decimal_of (take n v) 6 10 ≡ Decimal.Nothing → (s : Size) → s ≡ no_size_of → SizePost v (SizeRead.Is (record {
+    pub size_none : decimal_of (take n v) 6 10 ≡ (Err DecimalError.Invalid) → (s : Size) → s ≡ no_size_of → SizePost v (Some (record {
       has = false;
       size =
           s;
     }))
     size_none h s e = let g = rw k at h in record { is = rw g; tidy = λ x. e }
 
-    pub size-beyond : decimal_of (take n v) 6 10 ≡ Decimal.Beyond → SizePost v SizeRead.Beyond
+    pub size-beyond : decimal_of (take n v) 6 10 ≡ (Err DecimalError.Beyond) → SizePost v None
     size-beyond h = let g = rw k at h in record { is = rw g; tidy = tt }
 
 module _ (t : ℕ → Bool) (s : List ℕ) (i : ℕ) (e : run_end_of t s 0 ≡ run_end_of t s i) where

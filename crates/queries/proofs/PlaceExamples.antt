@@ -1,4 +1,5 @@
 -- A worked case: the value "a a" has one id, and its row points at the first of its two places. Assumes nothing.
+use Rattle.std.specs.Prelude.{None}
 use mathlib.Core.Path.{refl}
 use mathlib.Core.Bool.{false}
 use mathlib.Core.List.{[], ◌∷◌}
@@ -7,7 +8,6 @@ use Rattle.scan.specs.Loop.{loop, go}
 use Rattle.scan.specs.Names.{same_bytes_of}
 use Rattle.scan.specs.Part.{string_at}
 use Rattle.utf8.specs.Utf8.{sequence_at, char_at}
-use Rattle.utf8.specs.declared.white.Word.TheVariants.{Nothing}
 use Rattle.utf8.specs.White.{is_white, white_at, white_end, word_end_of, WordAt, NextWord}
 use Rattle.utf8.proofs.WhiteLaws.{words_from-none}
 use Rattle.utf8.proofs.Wording.{word_at}
@@ -38,11 +38,11 @@ second_word : WordAt value 1 2 3
 unfolding white_end word_end_of loop go white_at sequence_at char_at is_white
 second_word = word_at value 1 2 3 (record { is = refl; after = omega arith; within_text = omega arith; stops = λ l. refl }) refl (omega arith)
 
-no_more : NextWord value 3 Nothing
+no_more : NextWord value 3 None
 unfolding white_end loop go
 no_more ws = words_from-none value 3 ws (omega arith)
 
-nothing : NextWord [] 0 Nothing
+nothing : NextWord [] 0 None
 unfolding white_end loop go
 nothing ws = words_from-none [] 0 ws (omega arith)
 

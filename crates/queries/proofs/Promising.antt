@@ -3,6 +3,8 @@
 --     finish_none, finish_some          the end
 --     table_is                          the table of ids, from its cells
 --     refused-query, checked-query, valued-query, over-query, given-query     a refusal by any number, by the check, by a value, 18; a style, or none
+use Rattle.queries.specs.Reply.{Reply}
+use Rattle.std.specs.Prelude.{Some, Result, Ok, Err, ⊤}
 use Prim.Native.Nat.{ℕ, zero, suc, ◌+◌, ◌-◌, ◌*◌, ◌≤◌, ◌<◌}
 use mathlib.Core.Path.{◌≡◌, refl, sym, ap, ap₂, subst, ◌∙◌}
 use mathlib.Core.Bool.{Bool, true, false, cond, ◌||◌}
@@ -20,7 +22,6 @@ use Rattle.scan.proofs.Every.{by-test}
 use Rattle.decimals.proofs.Tests.{no}
 use Rattle.tree.specs.declared.answers.Refusal.{Refusal}
 use Rattle.track.specs.declared.strings.Span.{Span}
-use Rattle.track.specs.declared.check.Check.{Check}
 use Rattle.track.specs.Track.{Bytes, Track}
 use Rattle.track.specs.Tables.{Tables, rows_from}
 use Rattle.track.specs.Meaning.{is_utf8, is_track, bytes_at, track_at, track_in}
@@ -29,7 +30,6 @@ use Rattle.track.specs.Check.{is_full, check_of}
 use Rattle.track.proofs.Answers.{long_full, full-long}
 use Rattle.track.proofs.Exactly.{track_some, track_none, check_short, check_none, check_track}
 use Rattle.styles.specs.declared.apply.Walk.{Walk}
-use Rattle.styles.specs.declared.apply.Applied.{Applied}
 use Rattle.styles.specs.Resolve.{Resolution}
 use Rattle.styles.specs.Own.{Read, is, refused}
 use Rattle.styles.specs.Cells.{Tidy}
@@ -110,16 +110,16 @@ module _ (text : Bytes) (T : Tables) where
   unfolding query_check check_text check_rest
   none-held f l u t = rw (check_none T f t, l, u)
 
-  held : is_full T ≡ true → leb (length text) 65536 ≡ true → is_utf8 text ≡ true → is_track T ≡ true → query_check text T ≡ Check.Track
+  held : is_full T ≡ true → leb (length text) 65536 ≡ true → is_utf8 text ≡ true → is_track T ≡ true → query_check text T ≡ Ok tt
   unfolding query_check check_text check_rest
   held f l u t = rw (check_track T f t, l, u)
 
   -- any fact of the check, by the five ways
-  ways : (P : Check → Type 0) → (is_full T ≡ false → P (track.refused_as_of 1))
+  ways : (P : Result ⊤ Refusal → Type 0) → (is_full T ≡ false → P (track.refused_as_of 1))
       → (is_full T ≡ true → leb (length text) 65536 ≡ false → P (track.refused_as_of 2))
       → (is_full T ≡ true → leb (length text) 65536 ≡ true → is_utf8 text ≡ false → P (track.refused_as_of 3))
       → (is_full T ≡ true → leb (length text) 65536 ≡ true → is_utf8 text ≡ true → is_track T ≡ false → P (track.refused_as_of 17))
-      → (is_full T ≡ true → leb (length text) 65536 ≡ true → is_utf8 text ≡ true → is_track T ≡ true → P Check.Track)
+      → (is_full T ≡ true → leb (length text) 65536 ≡ true → is_utf8 text ≡ true → is_track T ≡ true → P (Ok tt))
       → P (query_check text T)
   ways P a b c d e =
       by-test (is_full T)
@@ -132,32 +132,32 @@ module _ (text : Bytes) (T : Tables) where
       (λ l. rw (long f l) (b f l)))
       (λ f. rw (short f) (a f))
 
-  abbrev Taken : Check → Type 0
-  Taken Check.Track = Accepted T × (length text ≤ 65536) × (is_utf8 text ≡ true)
-  Taken (Check.Refused r) = Unit {0}
+  abbrev Taken : Result ⊤ Refusal → Type 0
+  Taken (Ok tt) = Accepted T × (length text ≤ 65536) × (is_utf8 text ≡ true)
+  Taken (Err r) = Unit {0}
 
   taken : Taken (query_check text T)
   taken =
       ways Taken (λ f. tt) (λ f l. tt) (λ f l u. tt) (λ f l u t. tt)
       (λ f l u t. (record { full = f; is-track = t }, leb-true (length text) 65536 l, u))
 
-  pub check_taken : query_check text T ≡ Check.Track → Accepted T × (length text ≤ 65536) × (is_utf8 text ≡ true)
+  pub check_taken : query_check text T ≡ (Ok tt) → Accepted T × (length text ≤ 65536) × (is_utf8 text ≡ true)
   check_taken h = rw h at taken
 
 -- no text is asked for
 pub check_none_asked : (T : Tables) → query_check [] T ≡ check_of T
 unfolding is_utf8 utf8_end loop go
 check_none_asked T =
-    ways [] T (λ (c : Check). c ≡ check_of T) (λ f. sym (check_short T f)) (λ f l. no l) (λ f l u. no u) (λ f l u t. sym (check_none T f t))
+    ways [] T (λ (c : Result ⊤ Refusal). c ≡ check_of T) (λ f. sym (check_short T f)) (λ f l. no l) (λ f l u. no u) (λ f l u t. sym (check_none T f t))
     (λ f l u t. sym (check_track T f t))
 
 -- ---- the end
 module _ (name : Span) (w : Walk) (t : List ℕ) where
-  pub finish_none : w.found ≡ false → FinishPost name (Applied.Done w) t t (Resolved.NoStyle w.count)
+  pub finish_none : w.found ≡ false → FinishPost name (Some w) t t (Ok (Resolved.NoStyle w.count))
   finish_none h = (rw h, refl)
 
   pub finish_some : w.found ≡ true
-      → FinishPost name (Applied.Done w) t t (Resolved.Style (record { name = name; look = w.look; ids = w.count }))
+      → FinishPost name (Some w) t t (Ok (Resolved.Style (record { name = name; look = w.look; ids = w.count })))
   finish_some h = (rw h, refl)
 
 -- ---- the table of ids
@@ -280,7 +280,7 @@ module _ (q : Query) (T : Tables) (lent : List ℕ) where
   -- ---- the promise
   -- a refusal
   pub refused-query : (r : Refusal) → 0 < r.number → TurnsAway q T lent r.number r.place → (left : List ℕ) → left ≡ replicate (length lent) 0
-      → Queried q T lent (Resolved.Refused r) left
+      → Queried q T lent (Err r) left
   unfolding number_of place_of
   refused-query r g w left z = record {
     taken = (λ e. never g e, λ t. taken-only t.2 w);
@@ -295,9 +295,9 @@ module _ (q : Query) (T : Tables) (lent : List ℕ) where
       once : {n p : ℕ} → TurnsAway q T lent n p → r.number ≡ n
       once {n} a = let e : some r.number ≡ some n = sym (away_met w) ∙ away_met a in cc
 
-  abbrev Away : Check → Type 0
-  Away Check.Track = Unit {0}
-  Away (Check.Refused r) = (0 < r.number) × TurnsAway q T lent r.number r.place
+  abbrev Away : Result ⊤ Refusal → Type 0
+  Away (Ok tt) = Unit {0}
+  Away (Err r) = (0 < r.number) × TurnsAway q T lent r.number r.place
 
   away : Away (query_check q.text T)
   away =
@@ -312,11 +312,11 @@ module _ (q : Query) (T : Tables) (lent : List ℕ) where
       over l = leb-false (length q.text) 65536 l
 
   -- the check refuses
-  pub checked-query : (r : Refusal) → query_check q.text T ≡ Check.Refused r → (left : List ℕ) → left ≡ replicate (length lent) 0
-      → Queried q T lent (Resolved.Refused r) left
-  checked-query r h left z = let w : Away (Check.Refused r) = rw h at away in refused-query r w.0 w.1 left z
+  pub checked-query : (r : Refusal) → query_check q.text T ≡ Err r → (left : List ℕ) → left ≡ replicate (length lent) 0
+      → Queried q T lent (Err r) left
+  checked-query r h left z = let w : Away (Err r) = rw h at away in refused-query r w.0 w.1 left z
 
-  module _ (h : query_check q.text T ≡ Check.Track) where
+  module _ (h : query_check q.text T ≡ (Ok tt)) where
     handed : Askable q.text T (track_at T)
     handed =
         let a = check_taken q.text T h in
@@ -324,7 +324,7 @@ module _ (q : Query) (T : Tables) (lent : List ℕ) where
 
     -- a value of a region refuses
     pub valued-query : (n : ℕ) → q.asks (track_at T) ≡ refused n → (n ≡ 14) ⊎ (n ≡ 15) → (left : List ℕ) → left ≡ replicate (length lent) 0
-        → Queried q T lent (Resolved.Refused (record { number = n; place = 0 })) left
+        → Queried q T lent (Err (record { number = n; place = 0 })) left
     valued-query n e (inl g) left z =
         rw g (refused-query (record { number = 14; place = 0 }) (omega arith) (own-size handed (rw g at e)) left z)
     valued-query n e (inr g) left z =
@@ -333,7 +333,7 @@ module _ (q : Query) (T : Tables) (lent : List ℕ) where
     module _ (r : Resolution) (e : q.asks (track_at T) ≡ is r) where
       -- 18
       pub over-query : Over lent r.ids → (left : List ℕ) → left ≡ replicate (length lent) 0
-          → Queried q T lent (Resolved.Refused (record { number = 18; place = 0 })) left
+          → Queried q T lent (Err (record { number = 18; place = 0 })) left
       over-query o left z = refused-query (record { number = 18; place = 0 }) (omega arith) (too_many handed e o) left z
 
       -- a style, or none
@@ -353,7 +353,7 @@ module _ (q : Query) (T : Tables) (lent : List ℕ) where
               let t = table_is w.count left stood.fits stood.marks behind in
               rw (rows-count left w.count, ← kept) t
 
-          gives : (answer : Resolved) → style_in T.strings answer ≡ style_of T.strings w → count_of answer ≡ w.count
+          gives : (answer : Reply) → style_in T.strings answer ≡ style_of T.strings w → count_of answer ≡ w.count
               → ((b : Bytes) → name_in q.text answer ≡ some b → b ≡ q.name) → AbsentZero answer → answer ≡ answer_of q.at w
               → Gives q T lent (track_at T) r answer left
           gives answer s c m a v = record {
@@ -371,7 +371,7 @@ module _ (q : Query) (T : Tables) (lent : List ℕ) where
             within = λ i l. stood.rows i (rw c at l);
           }
 
-          as_answer : (answer : Resolved) → number_of answer ≡ 0 → Gives q T lent (track_at T) r answer left → Queried q T lent answer left
+          as_answer : (answer : Reply) → number_of answer ≡ 0 → Gives q T lent (track_at T) r answer left → Queried q T lent answer left
           as_answer answer n g = record {
             taken = (λ z. (track_at T, r, takes), λ t. n);
             gives = λ k x t. same k x t;
@@ -391,9 +391,9 @@ module _ (q : Query) (T : Tables) (lent : List ℕ) where
           unfolding number_of count_of name_in style_in
           given-query p =
               by-test w.found
-              (λ t. rw t (as_answer (Resolved.Style (record { name = q.at; look = w.look; ids = w.count })) refl (gives _ (rw t) refl named tidy
+              (λ t. rw t (as_answer (Ok (Resolved.Style (record { name = q.at; look = w.look; ids = w.count }))) refl (gives _ (rw t) refl named tidy
               (rw t))))
-              (λ t. rw t (as_answer (Resolved.NoStyle w.count) refl (gives _ (rw t) refl (λ b x. no_name x) tt (rw t))))
+              (λ t. rw t (as_answer (Ok (Resolved.NoStyle w.count)) refl (gives _ (rw t) refl (λ b x. no_name x) tt (rw t))))
             where
               named : (b : Bytes) → some (bytes_at q.text q.at) ≡ some b → b ≡ q.name
               named b x = let y : b ≡ bytes_at q.text q.at = cc in y ∙ p

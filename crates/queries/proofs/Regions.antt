@@ -1,6 +1,7 @@
 -- A region's part of an answer: its chain, and what it says itself. Assumes nothing.
 --     blank-post, region_none, region_refused, region_done     the ways through `region_part`
 --     cue_none, cue_some                                       and through `cue_part`
+use Rattle.std.specs.Prelude.{Some, None, Result, Ok, Err}
 use Prim.Native.Nat.{ℕ, ◌+◌, ◌*◌, ◌<◌}
 use mathlib.Core.Path.{◌≡◌, refl, sym, ap, ◌∙◌}
 use mathlib.Core.Bool.{Bool, true, false}
@@ -16,7 +17,6 @@ use Rattle.track.specs.Track.{Bytes, Style}
 use Rattle.track.specs.Tables.{span, cell, region_at}
 use Rattle.track.specs.Meaning.{bytes_at, given, look_in_of, region_in}
 use Rattle.track.specs.Layout.{is_some}
-use Rattle.scan.specs.declared.table.Found.{Found}
 use Rattle.records.specs.Find.{find_region, first_row}
 use Rattle.records.proofs.FoundRows.{row_first, region-found}
 use Rattle.styles.specs.Values.{unstyled}
@@ -26,9 +26,7 @@ use Rattle.styles.specs.Queries.{nothing, resolve_optional, with_own, region_fou
 use Rattle.styles.specs.Cells.{no_color, no_size_of, blank_look, Tidy}
 use Rattle.styles.proofs.Answering.{resolve-nothing}
 use Rattle.styles.proofs.Tidying.{tidy_blank}
-use Rattle.queries.specs.declared.own.OwnRead.{OwnRead}
 use Rattle.queries.specs.declared.region.Part.{Part}
-use Rattle.queries.specs.declared.region.PartRead.{PartRead}
 use Rattle.queries.specs.Places.{or_zero, cells_of, extras_of, extras_at, blank_part, part_at}
 use Rattle.queries.specs.Steps.{value_at, bytes_in, value_in_of, HasExtras, OwnPost, region_tables, regions_of, PartPost, RegionPost, CueRegionPost}
 use Rattle.queries.proofs.Numbered.{value-within, value-absent}
@@ -48,7 +46,7 @@ unfolding nothing
 blank-answer z styles = rw (no_bytes z, resolve-nothing styles, blank-unstyled z)
 
 module _ (z : List ℕ) (x : Part) (b : x ≡ blank_part) where
-  pub blank-post : PartPost z (λ styles. is nothing) (is blank_part) (PartRead.Is x)
+  pub blank-post : PartPost z (λ styles. is nothing) (is blank_part) (Ok x)
   unfolding blank_part
   blank-post = record {
     is = λ styles. rw b (ap is (blank-answer z styles));
@@ -87,11 +85,11 @@ look-cells z l t =
     )
 
 module _ (r e z : List ℕ) (n : ℕ) (id : Bytes) where
-  part_none : first_row r z id 4 n 0 ≡ Found.Nothing → part_at r e z n id ≡ is blank_part
+  part_none : first_row r z id 4 n 0 ≡ None → part_at r e z n id ≡ is blank_part
   unfolding part_at
   part_none h = rw h
 
-  pub region_none : first_row r z id 4 n 0 ≡ Found.Nothing → (x : Part) → x ≡ blank_part → RegionPost r e z n id (PartRead.Is x)
+  pub region_none : first_row r z id 4 n 0 ≡ None → (x : Part) → x ≡ blank_part → RegionPost r e z n id (Ok x)
   region_none h x b =
       let p = blank-post z x b in
       record {
@@ -100,7 +98,7 @@ module _ (r e z : List ℕ) (n : ℕ) (id : Bytes) where
         placed = part_none h ∙ p.placed;
       }
 
-  module _ (i : ℕ) (h : first_row r z id 4 n 0 ≡ Found.Row i) where
+  module _ (i : ℕ) (h : first_row r z id 4 n 0 ≡ Some i) where
     pub row_within : i < n
     row_within = omega (arith, (row_first r z id 4 n i h).within)
 
@@ -129,15 +127,15 @@ module _ (r e z : List ℕ) (n : ℕ) (id : Bytes) where
     unfolding part_at region_at cell
     part-some = rw h
 
-    pub region_refused : (k : ℕ) → OwnPost e z first many (OwnRead.Refused k) → RegionPost r e z n id (PartRead.Refused k)
+    pub region_refused : (k : ℕ) → OwnPost e z first many (Err k) → RegionPost r e z n id (Err k)
     region_refused k o = record {
       is = λ styles. sym (answer styles ∙ rw (← o.is));
       within = o.tidy;
       placed = part-some ∙ rw (← o.is);
     }
 
-    pub region_done : (x : Part) → HasExtras e z first many → OwnPost e z first many (OwnRead.Is x.look) → x.chain ≡ (value_at e 50 many first).span
-        → RegionPost r e z n id (PartRead.Is x)
+    pub region_done : (x : Part) → HasExtras e z first many → OwnPost e z first many (Ok x.look) → x.chain ≡ (value_at e 50 many first).span
+        → RegionPost r e z n id (Ok x)
     region_done x has o c = record {
       is = λ styles. sym (answer styles ∙ rw (← o.is, chain_is e z first many, ← (optional-chain e z many first styles), c));
       within = (rw c (value-within e z 50 many first has.values), o.tidy);
@@ -152,8 +150,8 @@ module _ (r e z : List ℕ) (n : ℕ) (id : Bytes) where
     }
 
 module _ (r e z : List ℕ) (n : ℕ) (has : Bool) (id : Span) where
-  pub cue_none : has ≡ false → (x : Part) → x ≡ blank_part → CueRegionPost r e z n has id (PartRead.Is x)
+  pub cue_none : has ≡ false → (x : Part) → x ≡ blank_part → CueRegionPost r e z n has id (Ok x)
   cue_none h x b = let p = blank-post z x b in record { is = λ styles. p.is styles ∙ rw h; within = p.within; placed = rw h p.placed }
 
-  pub cue_some : has ≡ true → (x : PartRead) → RegionPost r e z n (bytes_at z id) x → CueRegionPost r e z n has id x
+  pub cue_some : has ≡ true → (x : Result Part ℕ) → RegionPost r e z n (bytes_at z id) x → CueRegionPost r e z n has id x
   cue_some h x p = record { is = λ styles. p.is styles ∙ rw h; within = p.within; placed = rw h p.placed }

@@ -1,3 +1,4 @@
 pub mod Places
 pub mod Promise
 pub mod Steps
+pub mod Reply

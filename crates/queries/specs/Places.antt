@@ -1,6 +1,7 @@
 -- Where what is asked stands in the tables: the strings that are resolved, and what a region says itself, in cells. Definitions alone.
 --     r are the regions, e the extras, z the strings
-use Rattle.std.specs.Prelude.{ℕ, ◌≤◌, ◌<◌, ◌≡◌, cond, List, [], length}
+use Rattle.std.specs.Prelude as rust
+use Rattle.std.specs.Prelude.{Some, None, ℕ, ◌≤◌, ◌<◌, ◌≡◌, cond, List, [], length}
 use Rattle.std.proofs.Math.Option.{Option, none, some}
 use Rattle.track.specs.declared.strings.Span.{Span}
 use Rattle.track.specs.declared.values.Look as values
@@ -9,7 +10,6 @@ use Rattle.track.specs.Track.{Bytes, Look, Extra}
 use Rattle.track.specs.Tables.{Tables, span, rows_from, style_count, region_count, cue_count, extra_at, region_at, cue_at}
 use Rattle.track.specs.Layout.{each, is_some}
 use Rattle.track.specs.Shown.{bytes_at, shown_extra}
-use Rattle.scan.specs.declared.table.Found.{Found}
 use Rattle.records.specs.Find.{first_row}
 use Rattle.styles.specs.Own.{Read, is, next, value_of, own_values}
 use Rattle.styles.specs.Cells.{no_color, no_size_of, blank_look}
@@ -52,15 +52,15 @@ unfolding blank_look
 blank_part = record { look = blank_look; chain = span 0 0 }
 
 -- what the first region of this id says itself, and where its chain stands; nothing where there is none
-abbrev pub part_of : (r e z : List ℕ) → Found → Read Part
-part_of r e z (Found.Row i) =
+abbrev pub part_of : (r e z : List ℕ) → rust.Option ℕ → Read Part
+part_of r e z (Some i) =
     let x = (region_at r i).extras in
     next (own_values (extras_of e z x.first x.count)) λ own.
     is (record {
       look = cells_of own (value_of "tts:fontFamily" (extras_at e x.first x.count));
       chain = or_zero (span 0 0) (value_of "style" (extras_at e x.first x.count));
     })
-part_of r e z Found.Nothing = is blank_part
+part_of r e z None = is blank_part
 
 unfoldable pub part_at : (r e z : List ℕ) → ℕ → Bytes → Read Part
 unfolding first_row region_at extra_at rows_from each shown_extra own_values value_of blank_part

@@ -1,7 +1,8 @@
 -- What the three queries promise, in the words of document 01 and of document 02, (k): of the text asked for, the handed track, the table of
 -- ids that is lent and what is left in it, and the answer. Definitions alone. Nothing here says how the program goes about it.
 -- A row of the table of ids is four cells: 0 (the query's text) or 1 (the track's strings); place; length; 0.
-use Rattle.std.specs.Prelude.{ℕ, ◌-◌, ◌*◌, ◌≤◌, ◌<◌, ◌≡◌, cond, ◌↔◌, ◌⊎◌, List, [], ◌∷◌, ◌++◌, length, replicate}
+use Rattle.queries.specs.Reply.{Reply}
+use Rattle.std.specs.Prelude.{Ok, Err, ℕ, ◌-◌, ◌*◌, ◌≤◌, ◌<◌, ◌≡◌, cond, ◌↔◌, ◌⊎◌, List, [], ◌∷◌, ◌++◌, length, replicate}
 use Rattle.std.proofs.Math.Option.{Option, none, some}
 use Rattle.utf8.specs.Utf8.{Utf8}
 use Rattle.utf8.specs.White.{words, trimmed, white_end}
@@ -20,45 +21,44 @@ use Rattle.styles.specs.Ids.{Row, ids_in, RowWithin}
 use Rattle.styles.specs.Places.{WalkedAt}
 use Rattle.queries.specs.Places.{PlacedValue, PlacedRegion, PlacedCue}
 use Rattle.queries.specs.declared.query.Resolved.{Resolved}
-use Rattle.queries.specs.declared.query.Resolved.TheVariants.{Style, NoStyle, Refused}
 
 -- ---- the answer
 -- "An answer has number and byte place": a style, or none, has no number, here 0
-unfoldable pub number_of : Resolved → ℕ
-number_of (Style a) = 0
-number_of (NoStyle n) = 0
-number_of (Refused r) = r.number
+unfoldable pub number_of : Reply → ℕ
+number_of (Ok (Resolved.Style a)) = 0
+number_of (Ok (Resolved.NoStyle n)) = 0
+number_of (Err r) = r.number
 
-unfoldable pub place_of : Resolved → ℕ
-place_of (Style a) = 0
-place_of (NoStyle n) = 0
-place_of (Refused r) = r.place
+unfoldable pub place_of : Reply → ℕ
+place_of (Ok (Resolved.Style a)) = 0
+place_of (Ok (Resolved.NoStyle n)) = 0
+place_of (Err r) = r.place
 
-abbrev pub Says : Resolved → (number place : ℕ) → Type 0
+abbrev pub Says : Reply → (number place : ℕ) → Type 0
 Says answer n p = (number_of answer ≡ n) × (place_of answer ≡ p)
 
 -- how many ids
-unfoldable pub count_of : Resolved → ℕ
-count_of (Style a) = a.ids
-count_of (NoStyle n) = n
-count_of (Refused r) = 0
+unfoldable pub count_of : Reply → ℕ
+count_of (Ok (Resolved.Style a)) = a.ids
+count_of (Ok (Resolved.NoStyle n)) = n
+count_of (Err r) = 0
 
 -- the style's name, as a part of the query's text, and what the style says, its family being a part of the strings
-unfoldable pub name_in : Bytes → Resolved → Option Bytes
-name_in text (Style a) = some (bytes_at text a.name)
-name_in text (NoStyle n) = none
-name_in text (Refused r) = none
+unfoldable pub name_in : Bytes → Reply → Option Bytes
+name_in text (Ok (Resolved.Style a)) = some (bytes_at text a.name)
+name_in text (Ok (Resolved.NoStyle n)) = none
+name_in text (Err r) = none
 
-unfoldable pub style_in : Bytes → Resolved → Option (Look Bytes)
-style_in strings (Style a) = some (look_in_of strings a.look)
-style_in strings (NoStyle n) = none
-style_in strings (Refused r) = none
+unfoldable pub style_in : Bytes → Reply → Option (Look Bytes)
+style_in strings (Ok (Resolved.Style a)) = some (look_in_of strings a.look)
+style_in strings (Ok (Resolved.NoStyle n)) = none
+style_in strings (Err r) = none
 
 -- "unused cells are zero": of a style that is given, the parts that are absent are zero
-abbrev pub AbsentZero : Resolved → Type 0
-AbsentZero (Style a) = Tidy a.look
-AbsentZero (NoStyle n) = Unit {0}
-AbsentZero (Refused r) = Unit {0}
+abbrev pub AbsentZero : Reply → Type 0
+AbsentZero (Ok (Resolved.Style a)) = Tidy a.look
+AbsentZero (Ok (Resolved.NoStyle n)) = Unit {0}
+AbsentZero (Err r) = Unit {0}
 
 -- ---- what is asked of a track
 -- the style and the ids, or 14 or 15
@@ -146,9 +146,9 @@ abbrev pub id_table : List Row → (lent : ℕ) → List ℕ
 id_table l lent = id_cells l ++ replicate (lent - length l * 4) 0
 
 -- the answer after a walk; `at` is the place of the style's name in the text
-abbrev pub answer_at : Span → WalkedAt → Resolved
+abbrev pub answer_at : Span → WalkedAt → Reply
 answer_at at v =
-    cond v.found (Style (record { name = at; look = v.look; ids = length v.visited })) (NoStyle (length v.visited))
+    cond v.found (Ok (Resolved.Style (record { name = at; look = v.look; ids = length v.visited }))) (Ok (Resolved.NoStyle (length v.visited)))
 
 -- more ids than rows are lent, or than 65,536
 abbrev pub TooMany : (lent : List ℕ) → List Bytes → Type 0
@@ -189,7 +189,7 @@ module _ (q : Query) (T : Tables) (lent : List ℕ) where
     pub rows : length r.ids * 4 ≤ length lent
     pub few : length r.ids ≤ 65536
 
-  pub record Gives (k : Track Bytes) (r : Resolution) (answer : Resolved) (left : List ℕ) : Type 0 where
+  pub record Gives (k : Track Bytes) (r : Resolution) (answer : Reply) (left : List ℕ) : Type 0 where
     -- it is that style, or none; it has that name; "unused cells are zero"
     pub style : style_in T.strings answer ≡ r.style
     pub named : (b : Bytes) → name_in q.text answer ≡ some b → b ≡ q.name
@@ -210,7 +210,7 @@ module _ (q : Query) (T : Tables) (lent : List ℕ) where
     pub within : (i : ℕ) → i < count_of answer → RowWithin q.text T.strings left i
 
   -- ---- the promise
-  pub record Queried (answer : Resolved) (left : List ℕ) : Type 0 where
+  pub record Queried (answer : Reply) (left : List ℕ) : Type 0 where
     -- it answers without a number exactly if none is met, and then gives what is asked
     pub taken : (number_of answer ≡ 0) ↔ ((k : Track Bytes) × (r : Resolution) × Takes k r)
     pub gives : (k : Track Bytes) (r : Resolution) → Takes k r → Gives k r answer left
@@ -220,14 +220,14 @@ module _ (q : Query) (T : Tables) (lent : List ℕ) where
     pub cleared : 0 < number_of answer → left ≡ replicate (length lent) 0
 
 -- "`resolve_referenced_style` gives no style exactly if no id reachable through chains names one."
-pub record ReferencedStyle (value : Bytes) (T : Tables) (lent : List ℕ) (answer : Resolved) (left : List ℕ) : Type 0 where
+pub record ReferencedStyle (value : Bytes) (T : Tables) (lent : List ℕ) (answer : Reply) (left : List ℕ) : Type 0 where
   pub queried : Queried (of_value value) T lent answer left
   pub no_style : number_of answer ≡ 0 → (k : Track Bytes) → track_in T ≡ some k
       → (style_in T.strings answer ≡ none) ↔ ((a : Bytes) → Reaches k.styles value a → find_style a k.styles ≡ none)
 
-abbrev pub RegionStyle : Bytes → Tables → List ℕ → Resolved → List ℕ → Type 0
+abbrev pub RegionStyle : Bytes → Tables → List ℕ → Reply → List ℕ → Type 0
 RegionStyle id T lent answer left = Queried (of_region id) T lent answer left
 
 -- "A cue index past the end gives no style."
-abbrev pub EffectiveStyle : Tables → ℕ → List ℕ → Resolved → List ℕ → Type 0
+abbrev pub EffectiveStyle : Tables → ℕ → List ℕ → Reply → List ℕ → Type 0
 EffectiveStyle T i lent answer left = Queried (of_cue_of i) T lent answer left

@@ -1,29 +1,30 @@
 // The numbers that come first: 1, 2, 3 and 17.
 ghost use Rattle.std.specs.Prelude.{◌≡◌};
+ghost use Rattle.track.specs.Handed.{lists};
 ghost use Rattle.track.specs.Check.{refused_as_of};
 ghost use Rattle.queries.specs.Steps.{is_short, check_text, query_check};
 
-use track::Check;
+use track::Tables;
 use tree::{BYTES, Refusal};
 
-fn refused(number: u32) -> Check
+fn refused(number: u32) -> Result<(), Refusal>
     ensures { result ≡ refused_as_of number }
 {
-    Check::Refused(Refusal { number, place: 0 })
+    Err(Refusal { number, place: 0 })
 }
 
 // Is it number 1?
-fn is_short(check: Check) -> bool
+fn is_short(check: Result<(), Refusal>) -> bool
     ensures { result ≡ is_short check }
 {
     match check {
-        Check::Refused(r) => r.number == 1,
-        Check::Track => false,
+        Err(r) => r.number == 1,
+        Ok(()) => false,
     }
 }
 
 // A query's text, where the check of the track answers this: 1 comes before 2 and 3, and these before 17.
-fn check_text(text: &[u8], check: Check) -> Check
+fn check_text(text: &[u8], check: Result<(), Refusal>) -> Result<(), Refusal>
     ensures { result ≡ check_text text.now check }
 {
     if is_short(check) {
@@ -39,36 +40,8 @@ fn check_text(text: &[u8], check: Check) -> Check
 }
 
 // A query's text, and the track.
-pub fn check_query(
-    text: &[u8],
-    head: &[u32],
-    params: &[u32],
-    styles: &[u32],
-    regions: &[u32],
-    cues: &[u32],
-    times: &[i64],
-    segments: &[u32],
-    sizes: &[f32],
-    extras: &[u32],
-    strings: &[u8],
-    texts: &[u8],
-) -> Check
-    ensures { result ≡ query_check text.now (record {
-      head = head.entry.now;
-      params = params.now;
-      styles = styles.now;
-      regions = regions.now;
-      cues = cues.now;
-      times = times.now;
-      segments = segments.now;
-      sizes = sizes.now;
-      extras = extras.now;
-      strings = strings.now;
-      texts = texts.now;
-    }) }
+pub fn check_query(text: &[u8], t: &Tables<'_>) -> Result<(), Refusal>
+    ensures { result ≡ query_check text.now (lists t.now) }
 {
-    let check = track::check_track(
-        head, params, styles, regions, cues, times, segments, sizes, extras, strings, texts,
-    );
-    check_text(text, check)
+    check_text(text, track::check_track(t))
 }

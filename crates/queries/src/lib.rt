@@ -1,6 +1,7 @@
 #![tactic(auto)]
 // The three queries on a handed track: a style value, a region, a cue.
 mod check;
+mod kept;
 mod own;
 mod query;
 mod region;

@@ -1,11 +1,12 @@
 // What a region says of itself by its kept attributes (the Rust's `apply_tts_attrs` on them).
-ghost use Rattle.std.specs.Prelude.{◌≡◌, ◌+◌, ◌*◌, ◌≤◌, length, take};
+ghost use Rattle.std.specs.Prelude.{◌≡◌, ◌≤◌, length, take};
 ghost use Rattle.scan.specs.Bytes.{run_length_of};
 ghost use Rattle.styles.specs.Own.{size_byte, align_in};
-ghost use Rattle.queries.specs.Steps.{HasExtras, value_at, bytes_in, value_in_of, says, ColorPost, SizePost, own_look, OwnPost};
+ghost use Rattle.queries.specs.Steps.{value_at, bytes_in, value_in_of, says, ColorPost, SizePost, own_look, OwnPost};
 
-use colors::{Color, Rgba};
-use decimals::{Decimal, Size};
+use crate::kept::Kept;
+use colors::{ColorError, Rgba};
+use decimals::{DecimalError, Size};
 use scan::Class;
 use track::{Align, EXTRA_CELLS, Look, Span};
 
@@ -24,7 +25,7 @@ const FONT_WEIGHT: usize = 22;
 
 const TEXT_ALIGN: usize = 39;
 
-// An attribute's value; without one its part is empty.
+// An attribute's value; without one its part is empty. A flag and not an `Option`: no value reads as one of no bytes.
 #[derive(Clone, Copy)]
 pub struct Value {
     pub has: bool,
@@ -38,12 +39,6 @@ pub struct Paint {
     pub color: Rgba,
 }
 
-#[derive(Clone, Copy)]
-pub enum ColorRead {
-    Is(Paint),
-    Cut,
-}
-
 // A size; without one it is zero. Beyond is number 14.
 #[derive(Clone, Copy)]
 pub struct Measure {
@@ -51,34 +46,17 @@ pub struct Measure {
     pub size: Size,
 }
 
-#[derive(Clone, Copy)]
-pub enum SizeRead {
-    Is(Measure),
-    Beyond,
-}
-
-// What is said; or number 14 or 15.
-#[derive(Clone, Copy)]
-pub enum OwnRead {
-    Is(Look),
-    Refused(u32),
-}
-
-// The value of the first of so many rows of extras that has this number.
-pub fn value_of(extras: &[u32], first: usize, many: usize, number: usize) -> Value
-    requires { (first + many) * 3 ≤ length extras.now }
-    ensures { result ≡ value_at extras.now number many first }
+// The value of the first row that has this number.
+pub fn value_of(kept: &Kept<'_>, number: usize) -> Value
+    ensures { result ≡ value_at kept.now.extras.now number kept.now.many kept.now.first }
 {
-    let end = first + many;
-    let mut i = first;
-    while i < end {
-        if scan::get(extras, i * EXTRA_CELLS) == number {
+    for i in kept.first..kept.first + kept.many {
+        if scan::get(kept.extras, i * EXTRA_CELLS) == number {
             return Value {
                 has: true,
-                span: track::span_at(extras, i * EXTRA_CELLS + 1),
+                span: track::span_at(kept.extras, i * EXTRA_CELLS + 1),
             };
         }
-        i += 1;
     }
     Value {
         has: false,
@@ -86,21 +64,29 @@ pub fn value_of(extras: &[u32], first: usize, many: usize, number: usize) -> Val
     }
 }
 
-fn color_in(value: &[u8]) -> ColorRead
+// Its bytes; without one there are none.
+fn bytes_of<'a>(kept: &Kept<'a>, number: usize) -> &'a [u8]
+    ensures { result.now ≡ bytes_in kept.now.extras.now kept.now.strings.now number kept.now.many kept.now.first }
+{
+    let s = value_of(kept, number).span;
+    &kept.strings[s.place..s.place + s.len]
+}
+
+fn color_in(value: &[u8]) -> Option<Paint>
     ensures { ColorPost value.now result }
 {
     match colors::parse_ttml_color_rgba(value) {
-        Color::Is(color) => ColorRead::Is(Paint { has: true, color }),
-        Color::Nothing => {
+        Ok(color) => Some(Paint { has: true, color }),
+        Err(ColorError::Invalid) => {
             let color = Rgba {
                 r: 0,
                 g: 0,
                 b: 0,
                 a: 0,
             };
-            ColorRead::Is(Paint { has: false, color })
+            Some(Paint { has: false, color })
         }
-        Color::Cut => ColorRead::Cut,
+        Err(ColorError::Cut) => None,
     }
 }
 
@@ -114,124 +100,84 @@ fn is_size_byte(b: u8) -> bool
 fn leading_end(value: &[u8]) -> usize
     ensures { (result ≤ length value.now) × (result ≡ run_length_of size_byte value.now) }
 {
-    let mut i = 0;
-    while i < value.len() {
+    for i in 0..value.len() {
         if !is_size_byte(value[i]) {
             return i;
         }
-        i += 1;
     }
-    i
+    value.len()
 }
 
-fn size_in(value: &[u8]) -> SizeRead
+fn size_in(value: &[u8]) -> Option<Measure>
     ensures { SizePost value.now result }
 {
     let end = leading_end(value);
     match decimals::read_decimal(&value[..end], 6, 10) {
-        Decimal::Is(d) => SizeRead::Is(Measure {
+        Ok(d) => Some(Measure {
             has: true,
             size: decimals::size_of(d),
         }),
-        Decimal::Nothing => {
+        Err(DecimalError::Invalid) => {
             let size = Size {
                 value: 0.0,
                 negative: false,
                 digits: 0,
                 scale: 0,
             };
-            SizeRead::Is(Measure { has: false, size })
+            Some(Measure { has: false, size })
         }
-        Decimal::Beyond => SizeRead::Beyond,
+        Err(DecimalError::Beyond) => None,
     }
 }
 
-fn align_of(extras: &[u32], strings: &[u8], first: usize, many: usize) -> Align
-    requires { HasExtras extras.now strings.now first many }
-    ensures { result ≡ align_in (value_in_of extras.now strings.now 39 many first) }
+fn align_of(kept: &Kept<'_>) -> Align
+    ensures { result ≡ align_in (value_in_of kept.now.extras.now kept.now.strings.now 39 kept.now.many kept.now.first) }
 {
-    let v = value_of(extras, first, many, TEXT_ALIGN);
-    let s = v.span;
-    let from = s.place;
-    let to = from + s.len;
-    track::parse_text_align(&strings[from..to])
+    track::parse_text_align(bytes_of(kept, TEXT_ALIGN))
 }
 
 // Is the value with this number the word, letters in any case?
-fn is_said(
-    extras: &[u32],
-    strings: &[u8],
-    first: usize,
-    many: usize,
-    number: usize,
-    word: &[u8],
-) -> bool
-    requires { HasExtras extras.now strings.now first many }
-    ensures { result ≡ says word.now (value_in_of extras.now strings.now number many first) }
+fn is_said(kept: &Kept<'_>, number: usize, word: &[u8]) -> bool
+    ensures { result ≡ says word.now (value_in_of kept.now.extras.now kept.now.strings.now number kept.now.many kept.now.first) }
 {
-    let v = value_of(extras, first, many, number);
+    let v = value_of(kept, number);
     if !v.has {
         return false;
     }
     let s = v.span;
-    let from = s.place;
-    let to = from + s.len;
-    scan::eq_ignore_ascii_case(&strings[from..to], word)
+    scan::eq_ignore_ascii_case(&kept.strings[s.place..s.place + s.len], word)
 }
 
-fn color_of(extras: &[u32], strings: &[u8], first: usize, many: usize, number: usize) -> ColorRead
-    requires { HasExtras extras.now strings.now first many }
-    ensures { ColorPost (bytes_in extras.now strings.now number many first) result }
+fn color_of(kept: &Kept<'_>, number: usize) -> Option<Paint>
+    ensures { ColorPost (bytes_in kept.now.extras.now kept.now.strings.now number kept.now.many kept.now.first) result }
 {
-    let v = value_of(extras, first, many, number);
-    let s = v.span;
-    let from = s.place;
-    let to = from + s.len;
-    color_in(&strings[from..to])
+    color_in(bytes_of(kept, number))
 }
 
-fn size_of(extras: &[u32], strings: &[u8], first: usize, many: usize) -> SizeRead
-    requires { HasExtras extras.now strings.now first many }
-    ensures { SizePost (bytes_in extras.now strings.now 19 many first) result }
+fn size_of(kept: &Kept<'_>) -> Option<Measure>
+    ensures { SizePost (bytes_in kept.now.extras.now kept.now.strings.now 19 kept.now.many kept.now.first) result }
 {
-    let v = value_of(extras, first, many, FONT_SIZE);
-    let s = v.span;
-    let from = s.place;
-    let to = from + s.len;
-    size_in(&strings[from..to])
+    size_in(bytes_of(kept, FONT_SIZE))
 }
 
 // What is left to be said beside colours and size.
-fn own_look(
-    extras: &[u32],
-    strings: &[u8],
-    first: usize,
-    many: usize,
-    color: Paint,
-    back: Paint,
-    size: Measure,
-) -> Look
-    requires { HasExtras extras.now strings.now first many }
-    ensures { result ≡ own_look extras.now strings.now first many color back size }
+fn own_look(kept: &Kept<'_>, color: Paint, back: Paint, size: Measure) -> Look
+    ensures { result ≡ own_look kept.now.extras.now kept.now.strings.now kept.now.first kept.now.many color back size }
 {
-    let family = value_of(extras, first, many, FONT_FAMILY);
-    let span = family.span;
-    let paint = color.color;
-    let under = back.color;
-    let measure = size.size;
-    let align = align_of(extras, strings, first, many);
-    let bold = is_said(extras, strings, first, many, FONT_WEIGHT, b"bold");
-    let italic = is_said(extras, strings, first, many, FONT_STYLE, b"italic");
-    let oblique = is_said(extras, strings, first, many, FONT_STYLE, b"oblique");
+    let family = value_of(kept, FONT_FAMILY);
+    let align = align_of(kept);
+    let bold = is_said(kept, FONT_WEIGHT, b"bold");
+    let italic = is_said(kept, FONT_STYLE, b"italic");
+    let oblique = is_said(kept, FONT_STYLE, b"oblique");
     Look {
         has_color: color.has,
-        color: paint,
+        color: color.color,
         has_back: back.has,
-        back: under,
+        back: back.color,
         has_family: family.has,
-        family: span,
+        family: family.span,
         has_size: size.has,
-        size: measure,
+        size: size.size,
         bold,
         italic: italic || oblique,
         underline: false,
@@ -241,20 +187,17 @@ fn own_look(
 }
 
 // Colour, background and size in this order: the first that is refused is the answer.
-pub fn own_values(extras: &[u32], strings: &[u8], first: usize, many: usize) -> OwnRead
-    requires { HasExtras extras.now strings.now first many }
-    ensures { OwnPost extras.now strings.now first many result }
+pub fn own_values(kept: &Kept<'_>) -> Result<Look, u32>
+    ensures { OwnPost kept.now.extras.now kept.now.strings.now kept.now.first kept.now.many result }
 {
-    match color_of(extras, strings, first, many, COLOR) {
-        ColorRead::Cut => OwnRead::Refused(15),
-        ColorRead::Is(color) => match color_of(extras, strings, first, many, BACKGROUND_COLOR) {
-            ColorRead::Cut => OwnRead::Refused(15),
-            ColorRead::Is(back) => match size_of(extras, strings, first, many) {
-                SizeRead::Beyond => OwnRead::Refused(14),
-                SizeRead::Is(size) => OwnRead::Is(own_look(
-                    extras, strings, first, many, color, back, size,
-                )),
-            },
-        },
-    }
+    let Some(color) = color_of(kept, COLOR) else {
+        return Err(15);
+    };
+    let Some(back) = color_of(kept, BACKGROUND_COLOR) else {
+        return Err(15);
+    };
+    let Some(size) = size_of(kept) else {
+        return Err(14);
+    };
+    Ok(own_look(kept, color, back, size))
 }

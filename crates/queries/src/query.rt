@@ -1,12 +1,11 @@
 // The three queries. A track is handed: every refusal has place 0.
-ghost use Rattle.track.specs.Tables.{Tables};
+ghost use Rattle.track.specs.Handed.{lists};
 ghost use Rattle.std.specs.Prelude.{◌≡◌};
 ghost use Rattle.queries.specs.Steps.{refused_as_of, FinishPost};
 ghost use Rattle.queries.specs.Promise.{ReferencedStyle, RegionStyle, EffectiveStyle};
 
-use crate::region::PartRead;
-use styles::Applied;
-use track::{Check, Look, Span};
+use styles::{NamedStyles, Walk};
+use track::{Look, Span, Tables};
 use tree::Refusal;
 
 // A style: its name, a part of the query's text; what it says, its family being a part of the track's
@@ -23,211 +22,117 @@ pub struct Styled {
 pub enum Resolved {
     Style(Styled),
     NoStyle(usize),
-    Refused(Refusal),
 }
 
-fn refused(number: u32) -> Resolved
+fn refused(number: u32) -> Result<Resolved, Refusal>
     ensures { result ≡ refused_as_of number }
 {
-    Resolved::Refused(Refusal { number, place: 0 })
+    Err(Refusal { number, place: 0 })
 }
 
 // An answer from what was walked; where there was no row for an id, every cell is cleared.
-fn finish(name: Span, walked: Applied, ids: &mut [u32]) -> Resolved
+fn finish(name: Span, walked: Option<Walk>, ids: &mut [u32]) -> Result<Resolved, Refusal>
     ensures { FinishPost name walked ids.old ids.new result }
 {
-    match walked {
-        Applied::Full => {
-            scan::clear(ids);
-            refused(18)
-        }
-        Applied::Done(w) => {
-            if !w.found {
-                return Resolved::NoStyle(w.count);
-            }
-            let look = w.look;
-            Resolved::Style(Styled {
-                name,
-                look,
-                ids: w.count,
-            })
-        }
+    let Some(w) = walked else {
+        scan::clear(ids);
+        return refused(18);
+    };
+    if !w.found {
+        return Ok(Resolved::NoStyle(w.count));
     }
+    Ok(Resolved::Style(Styled {
+        name,
+        look: w.look,
+        ids: w.count,
+    }))
 }
 
 // `resolve_referenced_style` in the Rust, on a handed track.
 pub fn resolve_referenced_style(
     value: &[u8],
-    head: &[u32],
-    params: &[u32],
-    styles: &[u32],
-    regions: &[u32],
-    cues: &[u32],
-    times: &[i64],
-    segments: &[u32],
-    sizes: &[f32],
-    extras: &[u32],
-    strings: &[u8],
-    texts: &[u8],
+    t: &Tables<'_>,
     ids: &mut [u32],
-) -> Resolved
-    ensures { ReferencedStyle value.now (record {
-      head = head.entry.now;
-      params = params.now;
-      styles = styles.now;
-      regions = regions.now;
-      cues = cues.now;
-      times = times.now;
-      segments = segments.now;
-      sizes = sizes.now;
-      extras = extras.now;
-      strings = strings.now;
-      texts = texts.now;
-    })
-        ids.old result ids.new }
+) -> Result<Resolved, Refusal>
+    ensures { ReferencedStyle value.now (lists t.now) ids.old result ids.new }
 {
     scan::clear(ids);
-    match crate::check::check_query(
-        value, head, params, styles, regions, cues, times, segments, sizes, extras, strings, texts,
-    ) {
-        Check::Refused(r) => Resolved::Refused(r),
-        Check::Track => {
-            let name = utf8::trim(value);
-            let start = name.start;
-            let part = Span {
-                place: start,
-                len: name.end - start,
-            };
-            let look = styles::blank();
-            let whole = Span {
-                place: 0,
-                len: value.len(),
-            };
-            let none = Span { place: 0, len: 0 };
-            let n = scan::get(head, 1);
-            let walked = styles::resolve_over(
-                value, styles, sizes, strings, n, value, 0, whole, look, none, ids,
-            );
-            finish(part, walked, ids)
-        }
-    }
+    crate::check::check_query(value, t)?;
+    let name = utf8::trim(value);
+    let start = name.start;
+    let part = Span {
+        place: start,
+        len: name.end - start,
+    };
+    let look = styles::blank();
+    let whole = Span {
+        place: 0,
+        len: value.len(),
+    };
+    let none = Span { place: 0, len: 0 };
+    let named = NamedStyles {
+        styles: t.styles,
+        sizes: t.sizes,
+        strings: t.strings,
+        many: scan::get(t.head, 1),
+    };
+    let walked = styles::resolve_over(value, &named, value, 0, whole, look, none, ids);
+    finish(part, walked, ids)
 }
 
 // `region_style` in the Rust.
-pub fn region_style(
-    id: &[u8],
-    head: &[u32],
-    params: &[u32],
-    styles: &[u32],
-    regions: &[u32],
-    cues: &[u32],
-    times: &[i64],
-    segments: &[u32],
-    sizes: &[f32],
-    extras: &[u32],
-    strings: &[u8],
-    texts: &[u8],
-    ids: &mut [u32],
-) -> Resolved
-    ensures { RegionStyle id.now (record {
-      head = head.entry.now;
-      params = params.now;
-      styles = styles.now;
-      regions = regions.now;
-      cues = cues.now;
-      times = times.now;
-      segments = segments.now;
-      sizes = sizes.now;
-      extras = extras.now;
-      strings = strings.now;
-      texts = texts.now;
-    })
-        ids.old result ids.new }
+pub fn region_style(id: &[u8], t: &Tables<'_>, ids: &mut [u32]) -> Result<Resolved, Refusal>
+    ensures { RegionStyle id.now (lists t.now) ids.old result ids.new }
 {
     scan::clear(ids);
-    match crate::check::check_query(
-        id, head, params, styles, regions, cues, times, segments, sizes, extras, strings, texts,
-    ) {
-        Check::Refused(r) => Resolved::Refused(r),
-        Check::Track => {
-            match crate::region::region_part(regions, extras, strings, scan::get(head, 2), id) {
-                PartRead::Refused(number) => refused(number),
-                PartRead::Is(x) => {
-                    let name = Span {
-                        place: 0,
-                        len: id.len(),
-                    };
-                    let none = Span { place: 0, len: 0 };
-                    let n = scan::get(head, 1);
-                    let look = x.look;
-                    let chain = x.chain;
-                    let walked = styles::resolve_over(
-                        id, styles, sizes, strings, n, strings, 1, chain, look, none, ids,
-                    );
-                    finish(name, walked, ids)
-                }
-            }
-        }
-    }
+    crate::check::check_query(id, t)?;
+    let part = match crate::region::region_part(t, scan::get(t.head, 2), id) {
+        Err(number) => return refused(number),
+        Ok(x) => x,
+    };
+    let name = Span {
+        place: 0,
+        len: id.len(),
+    };
+    let none = Span { place: 0, len: 0 };
+    let named = NamedStyles {
+        styles: t.styles,
+        sizes: t.sizes,
+        strings: t.strings,
+        many: scan::get(t.head, 1),
+    };
+    let walked = styles::resolve_over(id, &named, t.strings, 1, part.chain, part.look, none, ids);
+    finish(name, walked, ids)
 }
 
 // `effective_style_for_cue_index` in the Rust.
 pub fn effective_style_for_cue_index(
-    head: &[u32],
-    params: &[u32],
-    styles: &[u32],
-    regions: &[u32],
-    cues: &[u32],
-    times: &[i64],
-    segments: &[u32],
-    sizes: &[f32],
-    extras: &[u32],
-    strings: &[u8],
-    texts: &[u8],
+    t: &Tables<'_>,
     cue_index: usize,
     ids: &mut [u32],
-) -> Resolved
-    ensures { EffectiveStyle (record {
-      head = head.entry.now;
-      params = params.now;
-      styles = styles.now;
-      regions = regions.now;
-      cues = cues.now;
-      times = times.now;
-      segments = segments.now;
-      sizes = sizes.now;
-      extras = extras.now;
-      strings = strings.now;
-      texts = texts.now;
-    })
-        cue_index ids.old result ids.new }
+) -> Result<Resolved, Refusal>
+    ensures { EffectiveStyle (lists t.now) cue_index ids.old result ids.new }
 {
     scan::clear(ids);
-    match track::check_track(
-        head, params, styles, regions, cues, times, segments, sizes, extras, strings, texts,
-    ) {
-        Check::Refused(r) => Resolved::Refused(r),
-        Check::Track => {
-            if scan::get(head, 3) <= cue_index {
-                return Resolved::NoStyle(0);
-            }
-            let cue = records::cue_at(cues, times, cue_index);
-            let region = cue.region;
-            let own = cue.style;
-            let m = scan::get(head, 2);
-            match crate::region::cue_part(regions, extras, strings, m, cue.has_region, region) {
-                PartRead::Refused(number) => refused(number),
-                PartRead::Is(x) => {
-                    let none = Span { place: 0, len: 0 };
-                    let n = scan::get(head, 1);
-                    let look = x.look;
-                    let chain = x.chain;
-                    let walked = styles::resolve_over(
-                        b"", styles, sizes, strings, n, strings, 1, chain, look, own, ids,
-                    );
-                    finish(none, walked, ids)
-                }
-            }
-        }
+    track::check_track(t)?;
+    if scan::get(t.head, 3) <= cue_index {
+        return Ok(Resolved::NoStyle(0));
     }
+    let cue = records::cue_at(t.cues, t.times, cue_index);
+    let m = scan::get(t.head, 2);
+    let part = match crate::region::cue_part(t, m, cue.has_region, cue.region) {
+        Err(number) => return refused(number),
+        Ok(x) => x,
+    };
+    let none = Span { place: 0, len: 0 };
+    let named = NamedStyles {
+        styles: t.styles,
+        sizes: t.sizes,
+        strings: t.strings,
+        many: scan::get(t.head, 1),
+    };
+    let walked = styles::resolve_over(
+        b"", &named, t.strings, 1, part.chain, part.look, cue.style, ids,
+    );
+    finish(none, walked, ids)
 }

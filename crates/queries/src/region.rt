@@ -2,9 +2,8 @@
 ghost use Rattle.queries.specs.Steps.{SpanIn, HasRegions, blank_part, RegionPost, CueRegionPost};
 ghost use Rattle.std.specs.Prelude.{◌≡◌};
 
-use crate::own::OwnRead;
-use records::Found;
-use track::{Look, Span};
+use crate::kept::Kept;
+use track::{Look, Span, Tables};
 
 // A region's own look, and the place of its chain among the strings. Without a region, or a chain, they are blank.
 #[derive(Clone, Copy)]
@@ -13,66 +12,50 @@ pub struct Part {
     pub chain: Span,
 }
 
-// Or number 14 or 15.
-#[derive(Clone, Copy)]
-pub enum PartRead {
-    Is(Part),
-    Refused(u32),
-}
-
 // The number of `style` in REGION_ATTR_ORDER.
 const STYLE: usize = 50;
 
 fn blank_part() -> Part
     ensures { result ≡ blank_part }
 {
-    let look = styles::blank();
     Part {
-        look,
+        look: styles::blank(),
         chain: Span { place: 0, len: 0 },
     }
 }
 
 // The part of n regions' first of this id.
-pub fn region_part(regions: &[u32], extras: &[u32], strings: &[u8], n: usize, id: &[u8]) -> PartRead
-    requires { HasRegions regions.now extras.now strings.now n }
-    ensures { RegionPost regions.now extras.now strings.now n id.now result }
+pub fn region_part(t: &Tables<'_>, n: usize, id: &[u8]) -> Result<Part, u32>
+    requires { HasRegions t.now.regions.now t.now.extras.now t.now.strings.now n }
+    ensures { RegionPost t.now.regions.now t.now.extras.now t.now.strings.now n id.now result }
 {
-    match records::find_region(regions, strings, n, id) {
-        Found::Nothing => PartRead::Is(blank_part()),
-        Found::Row(i) => {
-            let region = records::region_at(regions, i);
-            let rows = region.extras;
-            let first = rows.first;
-            let many = rows.count;
-            match crate::own::own_values(extras, strings, first, many) {
-                OwnRead::Refused(number) => PartRead::Refused(number),
-                OwnRead::Is(look) => {
-                    let value = crate::own::value_of(extras, first, many, STYLE);
-                    let chain = value.span;
-                    PartRead::Is(Part { look, chain })
-                }
-            }
-        }
-    }
+    let Some(i) = records::find_region(t.regions, t.strings, n, id) else {
+        return Ok(blank_part());
+    };
+    let region = records::region_at(t.regions, i);
+    let kept = Kept {
+        extras: t.extras,
+        strings: t.strings,
+        first: region.extras.first,
+        many: region.extras.count,
+    };
+    let look = crate::own::own_values(&kept)?;
+    let value = crate::own::value_of(&kept, STYLE);
+    Ok(Part {
+        look,
+        chain: value.span,
+    })
 }
 
 // The same of a cue's region, where it has one.
-pub fn cue_part(
-    regions: &[u32],
-    extras: &[u32],
-    strings: &[u8],
-    n: usize,
-    has: bool,
-    id: Span,
-) -> PartRead
-    requires { HasRegions regions.now extras.now strings.now n × SpanIn strings.now id }
-    ensures { CueRegionPost regions.now extras.now strings.now n has id result }
+pub fn cue_part(t: &Tables<'_>, n: usize, has: bool, id: Span) -> Result<Part, u32>
+    requires { HasRegions t.now.regions.now t.now.extras.now t.now.strings.now n × SpanIn t.now.strings.now id }
+    ensures { CueRegionPost t.now.regions.now t.now.extras.now t.now.strings.now n has id result }
 {
     if !has {
-        return PartRead::Is(blank_part());
+        return Ok(blank_part());
     }
     let from = id.place;
     let to = from + id.len;
-    region_part(regions, extras, strings, n, &strings[from..to])
+    region_part(t, n, &t.strings[from..to])
 }

@@ -3,6 +3,7 @@
 --     given-few, given-fits, given-short   a tree that was read has at most 8,192 attributes, and its text fits
 --     given-part                           its rows, as the readers of tracks take them
 --     given-ends                           nothing stands after them
+use Rattle.std.specs.Prelude.{Result}
 use Prim.Native.Nat.{ℕ, ◌+◌, ◌-◌, ◌*◌, ◌≤◌}
 use mathlib.Core.Path.{◌≡◌, refl, sym, ap, ◌∙◌}
 use mathlib.Core.Logic.{inr}
@@ -18,8 +19,6 @@ use Rattle.grammar.specs.Demand.{decode_attrs, decode_tree, decode_forest}
 use Rattle.entities.specs.Decode.{decoded}
 use Rattle.tree.specs.Trees as placed
 use Rattle.tree.specs.Trees.{Attr, nil, text, section, elem, rows, attr_rows, attrs_of, attr_spans, Span, spans, InOrder}
-use Rattle.tree.specs.declared.answers.Answer.{Answer}
-use Rattle.tree.specs.declared.answers.Answer.TheVariants.{Tree}
 use Rattle.tree.proofs.Tags.{length_attr_rows}
 use Rattle.tree.proofs.Forests.{length_rows}
 use Rattle.tree.proofs.Places.{in_whole, in_first, in_rest}
@@ -30,6 +29,9 @@ use Rattle.xml.proofs.Given.{given-tree, given-forest, given_holds, given-count}
 use Rattle.meaning.specs.Kinds.{attrs_in, nodes_in}
 use Rattle.cues.specs.Elements as elements
 use Rattle.blank.specs.Steps.{BlankFrom, Ends}
+use Rattle.tree.specs.declared.answers.Refusal.{Refusal}
+use Rattle.tree.specs.Answers.{values_of, tree_with}
+use Rattle.tree.specs.declared.answers.TreeSize.{TreeSize}
 
 module _ (z : List ℕ) (m : ℕ) (fits : m ≤ length z) where
   same : (p n : ℕ) → p + n ≤ m → string_at (take m z) p n ≡ string_at z p n
@@ -98,7 +100,7 @@ blank-drop z n h =
     ext_get_or 0 (drop n z) (replicate (length z - n) 0) (long ∙ sym (length-replicate (length z - n) 0))
     (λ i l. get_or-drop n z i 0 ∙ h (n + i) (omega arith) ∙ sym (get_or-replicate (length z - n) i 0 0 (omega (arith, l, long))))
 
-module _ {s : List ℕ} {lent left : Tables} {r : Answer} {i j : ℕ} (p : Parsed s lent r left) (e : r ≡ Tree i j) where
+module _ {s : List ℕ} {lent left : Tables} {r : Result TreeSize Refusal} {i j : ℕ} (p : Parsed s lent r left) (e : r ≡ tree_with i j) where
   many_attrs : length (attrs_of (given-forest p e)) ≡ count.attrs (given-tree p e).tree
   many_attrs =
       let g = given-tree p e in
@@ -110,7 +112,8 @@ module _ {s : List ℕ} {lent left : Tables} {r : Answer} {i j : ℕ} (p : Parse
   given-attrs : length (attrs_of (given-forest p e)) ≡ j
   given-attrs =
       let g = given-tree p e in
-      let b : Tree i j ≡ Tree (count.nodes g.tree) (count.attrs g.tree) = sym e ∙ counted p g.tree g.takes in
+      let b : tree_with i j ≡ tree_with (count.nodes g.tree) (count.attrs g.tree) = sym e ∙ counted p g.tree g.takes in
+      let values = ap values_of b in
       let c : count.attrs g.tree ≡ j = cc in
       many_attrs ∙ c
 

@@ -3,6 +3,7 @@
 --     meant-numbers, track_post, cue_post                       whatever is wanted: a number is from 12 to 16
 --     cue_asks, alone-post                                      a single cue leaves the other tables blank
 --     short_promise, away_promise, tree-asks, tree-promise      the call, by its outcomes
+use Rattle.std.specs.Prelude.{Result, Ok, Err, ⊤}
 use Prim.Native.Nat.{ℕ}
 use mathlib.Core.Path.{◌≡◌, refl, sym, ap, ◌∙◌, subst}
 use mathlib.Core.Bool.{true, false}
@@ -13,7 +14,6 @@ use lib.IntN.{ℤ}
 use lib.Ieee.{Float}
 use lib.ListN.{length, take}
 use lib.Seq.{length-take-le}
-use Rattle.tree.specs.declared.answers.Answer as tree
 use Rattle.tree.specs.declared.answers.Refusal.{Refusal}
 use Rattle.track.specs.Track.{Cue, Track}
 use Rattle.track.specs.Tables.{Tables, Lengths, lengths}
@@ -25,7 +25,6 @@ use Rattle.meaning.specs.Answers as meaning
 use Rattle.meaning.specs.Nodes.{Nodes}
 use Rattle.meaning.specs.Kinds.{nodes_in}
 use Rattle.laid.specs.Laid.{laid_of, laid_styles, laid_regions, laid_cues, laid_cue, rows_after, total, alone, whole, single}
-use Rattle.promised.specs.declared.Answer.{Answer}
 use Rattle.promised.specs.Promise.{tree_tables, Promise}
 use Rattle.promised.specs.Promise as promise
 use Rattle.promised.proofs.Numbers.{Numbered, whole_numbers, single-numbers}
@@ -39,6 +38,8 @@ use Rattle.whole.specs.Steps.{Laid, Asks, Post}
 use Rattle.single.specs.Steps.{cue_rest, CueAsks, CuePost}
 use Rattle.reader.specs.Steps.{meant_by, AsksTree, TreePost}
 use Rattle.reader.proofs.Parting.{nodes-part, given-fits, given-short, given-part, given-ends}
+use Rattle.tree.specs.declared.answers.TreeSize.{TreeSize}
+use Rattle.tree.specs.Answers.{tree_with}
 
 -- ---- the tables of a track beside any strings
 
@@ -125,12 +126,12 @@ unfolding meant_by
 meant-numbers Wanted.Track f = whole_numbers f
 meant-numbers Wanted.Cue f = single-numbers f
 
-pub track_post : {w : Wanted} → w ≡ Wanted.Track → {t u z : List ℕ} {n : ℕ} (T T' : Tables) (r : Answer) → Post whole t u z n T T' r
+pub track_post : {w : Wanted} → w ≡ Wanted.Track → {t u z : List ℕ} {n : ℕ} (T T' : Tables) (r : Result ⊤ Refusal) → Post whole t u z n T T' r
     → Post (meant_by w) t u z n T T' r
 unfolding meant_by
 track_post e {t} {u} {z} {n} T T' r h = subst (λ (w : Wanted). Post (meant_by w) t u z n T T' r) (sym e) h
 
-pub cue_post : {w : Wanted} → w ≡ Wanted.Cue → {t u z : List ℕ} {n : ℕ} (T T' : Tables) (r : Answer) → Post single t u z n T T' r
+pub cue_post : {w : Wanted} → w ≡ Wanted.Cue → {t u z : List ℕ} {n : ℕ} (T T' : Tables) (r : Result ⊤ Refusal) → Post single t u z n T T' r
     → Post (meant_by w) t u z n T T' r
 unfolding meant_by
 cue_post e {t} {u} {z} {n} T T' r h = subst (λ (w : Wanted). Post (meant_by w) t u z n T T' r) (sym e) h
@@ -211,13 +212,13 @@ module _ (h p s r c : List ℕ) (m : List ℤ) (g : List ℕ) (f : List Float) (
       texts = b.texts;
     }
 
-    pub alone-post : {t u z : List ℕ} {n : ℕ} (q : Answer) → RestZero (lengths whole_before) whole_before → CuePost t u z n before after q
+    pub alone-post : {t u z : List ℕ} {n : ℕ} (q : Result ⊤ Refusal) → RestZero (lengths whole_before) whole_before → CuePost t u z n before after q
         → Post single t u z n whole_before whole-after q
-    alone-post {z = z} Answer.Track a b =
+    alone-post {z = z} (Ok tt) a b =
         λ x.
         let w = b x in
         record { track = alone w.cue; means = rw w.means; laid = cue_laid (length z) w.cue w.plain a w.laid }
-    alone-post (Answer.Refused q) a b = λ x. (rw (b x).0, cue_zero a (b x).1)
+    alone-post (Err q) a b = λ x. (rw (b x).0, cue_zero a (b x).1)
 
 -- ---- a call, by its outcomes
 
@@ -241,11 +242,11 @@ module _ (w : Wanted) (s : List ℕ) (lent : promise.Tables) where
     zero = zero_as (length lent.track.strings) mid.track.strings a.zero
 
     -- the text has no tree
-    pub away_promise : {r : Refusal} → xml.Parsed s (tree_tables lent) (tree.Answer.Refused r) (tree_tables mid)
-        → Promise (meant_by w) s lent (Answer.Refused r) mid
+    pub away_promise : {r : Refusal} → xml.Parsed s (tree_tables lent) (Err r) (tree_tables mid)
+        → Promise (meant_by w) s lent (Err r) mid
     away_promise p = promise_away (meant_by w) (meant-numbers w) s lent long p refl zero
 
-    module _ {r : tree.Answer} {i j : ℕ} (p : xml.Parsed s (tree_tables lent) r (tree_tables mid)) (e : r ≡ tree.Answer.Tree i j) where
+    module _ {r : Result TreeSize Refusal} {i j : ℕ} (p : xml.Parsed s (tree_tables lent) r (tree_tables mid)) (e : r ≡ tree_with i j) where
       abbrev used : List ℕ
       used = take (length s) mid.track.strings
 
@@ -274,10 +275,10 @@ module _ (w : Wanted) (s : List ℕ) (lent : promise.Tables) where
       part-means = nodes-part mid.track.strings (length s) (given-fits p e) (given-forest p e) 0 (given-tree p e).holds.in_order
 
       -- what its tree means, or a number
-      pub tree-promise : (answer : Answer) (left : promise.Tables) → length mid.nodes ≡ length lent.nodes
+      pub tree-promise : (answer : Result ⊤ Refusal) (left : promise.Tables) → length mid.nodes ≡ length lent.nodes
           → length mid.attrs ≡ length lent.attrs → TreePost (meant_by w) i (length s) mid left answer
           → Promise (meant_by w) s lent answer left
-      tree-promise Answer.Track left n m x =
+      tree-promise (Ok tt) left n m x =
           let y = x.means (given-part p e) in
           let q : xml.Parsed s (tree_tables lent) r (tree_tables left) = subst (xml.Parsed s (tree_tables lent) r) (sym x.kept) p in
           let same : nodes_left q e ≡ nodes_left p e =
@@ -285,7 +286,7 @@ module _ (w : Wanted) (s : List ℕ) (lent : promise.Tables) where
           let laid : RestLaid (lengths lent.track) (length s) y.track left.track = rw (same_long, used_long) at y.laid in
           promise_track (meant_by w) (meant-numbers w) s lent long e q (ap (meant_by w) (same ∙ sym part-means) ∙ y.means) refl
           (laid-of (lengths lent.track) (length s) y.track laid)
-      tree-promise (Answer.Refused q) left n m x =
+      tree-promise (Err q) left n m x =
           let y = x.means (given-part p e) in
           let z : RestZero (lengths lent.track) left.track = subst (λ (k : Lengths). RestZero k left.track) same_long y.1 in
           promise_none (meant_by w) (meant-numbers w) s lent long e p (ap (meant_by w) (sym part-means) ∙ y.0) refl

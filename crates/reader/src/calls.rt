@@ -2,7 +2,7 @@
 ghost use Rattle.promised.specs.Promise.{tables, Parsed, CueParsed};
 
 use crate::text::Wanted;
-use promised::Answer;
+use tree::Refusal;
 
 // The track of the text; after a refusal every cell is 0.
 pub fn parse(
@@ -20,7 +20,7 @@ pub fn parse(
     extras: &mut [u32],
     strings: &mut [u8],
     texts: &mut [u8],
-) -> Answer
+) -> Result<(), Refusal>
     ensures { Parsed text.now
         (tables nodes.old attrs.old head.old params.old styles.old regions.old
         cues.old times.old segments.old sizes.old extras.old strings.old
@@ -64,7 +64,7 @@ pub fn bytes_to_cue(
     extras: &mut [u32],
     strings: &mut [u8],
     texts: &mut [u8],
-) -> Answer
+) -> Result<(), Refusal>
     ensures { CueParsed text.now
         (tables nodes.old attrs.old head.old params.old styles.old regions.old
         cues.old times.old segments.old sizes.old extras.old strings.old

@@ -4,8 +4,8 @@ ghost use Rattle.blank.specs.Steps.{rest};
 ghost use Rattle.whole.specs.Steps.{Asks, Post};
 ghost use Rattle.reader.specs.Steps.{meant_by, AsksTree, TreePost};
 
-use promised::Answer;
 use tree::Refusal;
+use xml::Tree;
 
 // The track of the first tt, or the cue of the first p.
 #[derive(Clone, Copy)]
@@ -16,9 +16,7 @@ pub enum Wanted {
 
 // What the n rows of the tree mean.
 fn read_nodes(
-    nodes: &[u32],
-    attrs: &[u32],
-    strings: &[u8],
+    tree: &Tree<'_>,
     head: &mut [u32],
     params: &mut [u32],
     styles: &mut [u32],
@@ -31,10 +29,10 @@ fn read_nodes(
     texts: &mut [u8],
     n: usize,
     wanted: Wanted,
-) -> Answer
-    requires { Asks nodes.now attrs.now strings.now n (rest head.old params.old styles.old regions.old cues.old
+) -> Result<(), Refusal>
+    requires { Asks tree.now.nodes.now tree.now.attrs.now tree.now.strings.now n (rest head.old params.old styles.old regions.old cues.old
         times.old segments.old sizes.old extras.old texts.old) }
-    ensures { Post (meant_by wanted) nodes.now attrs.now strings.now n
+    ensures { Post (meant_by wanted) tree.now.nodes.now tree.now.attrs.now tree.now.strings.now n
         (rest head.old params.old styles.old regions.old cues.old times.old
         segments.old sizes.old extras.old texts.old)
         (rest head.new params.new styles.new regions.new cues.new times.new
@@ -42,12 +40,9 @@ fn read_nodes(
 {
     match wanted {
         Wanted::Track => whole::read_track(
-            nodes, attrs, strings, head, params, styles, regions, cues, times, segments, sizes,
-            extras, texts, n,
+            tree, head, params, styles, regions, cues, times, segments, sizes, extras, texts, n,
         ),
-        Wanted::Cue => single::read_cue(
-            nodes, attrs, strings, head, cues, times, segments, texts, n,
-        ),
+        Wanted::Cue => single::read_cue(tree, head, cues, times, segments, texts, n),
     }
 }
 
@@ -70,7 +65,7 @@ fn read_tree(
     m: usize,
     len: usize,
     wanted: Wanted,
-) -> Answer
+) -> Result<(), Refusal>
     requires { AsksTree nodes.old attrs.old strings.old n m len (rest head.old params.old styles.old regions.old cues.old
         times.old segments.old sizes.old extras.old texts.old) }
     ensures { TreePost (meant_by wanted) n len
@@ -81,15 +76,19 @@ fn read_tree(
         cues.new times.new segments.new sizes.new extras.new strings.new
         texts.new) result }
 {
-    let used = &strings[..len];
+    let tree = Tree {
+        nodes,
+        attrs,
+        strings: &strings[..len],
+    };
     match read_nodes(
-        nodes, attrs, used, head, params, styles, regions, cues, times, segments, sizes, extras,
-        texts, n, wanted,
+        &tree, head, params, styles, regions, cues, times, segments, sizes, extras, texts, n,
+        wanted,
     ) {
-        Answer::Track => Answer::Track,
-        Answer::Refused(r) => {
+        Ok(()) => Ok(()),
+        Err(r) => {
             blank::drop_tree(nodes, attrs, strings, n, m, len);
-            Answer::Refused(r)
+            Err(r)
         }
     }
 }
@@ -111,7 +110,7 @@ pub fn read_text(
     strings: &mut [u8],
     texts: &mut [u8],
     wanted: Wanted,
-) -> Answer
+) -> Result<(), Refusal>
     ensures { Promise (meant_by wanted) text.now
         (tables nodes.old attrs.old head.old params.old styles.old regions.old
         cues.old times.old segments.old sizes.old extras.old strings.old
@@ -124,31 +123,29 @@ pub fn read_text(
         head, params, styles, regions, cues, times, segments, sizes, extras, texts,
     ) {
         blank::clear_tree(nodes, attrs, strings);
-        return Answer::Refused(Refusal {
+        return Err(Refusal {
             number: 1,
             place: 0,
         });
     }
-    match xml::parse_xml(text, nodes, attrs, strings) {
-        tree::Answer::Refused(r) => Answer::Refused(r),
-        tree::Answer::Tree { nodes: n, attrs: m } => read_tree(
-            nodes,
-            attrs,
-            head,
-            params,
-            styles,
-            regions,
-            cues,
-            times,
-            segments,
-            sizes,
-            extras,
-            strings,
-            texts,
-            n,
-            m,
-            text.len(),
-            wanted,
-        ),
-    }
+    let tree = xml::parse_xml(text, nodes, attrs, strings)?;
+    read_tree(
+        nodes,
+        attrs,
+        head,
+        params,
+        styles,
+        regions,
+        cues,
+        times,
+        segments,
+        sizes,
+        extras,
+        strings,
+        texts,
+        tree.nodes,
+        tree.attrs,
+        text.len(),
+        wanted,
+    )
 }

@@ -1,4 +1,5 @@
 -- Laws of the searches by name: each is the first row that passes a test. Assumes nothing.
+use Rattle.std.specs.Prelude.{Option, Some, None}
 use Prim.Native.Nat.{ℕ, zero, suc, ◌+◌, ◌-◌, ◌*◌, ◌≤◌, ◌<◌}
 use mathlib.Core.Path.{◌≡◌, refl}
 use mathlib.Core.Bool.{Bool, true, false, cond, not, ◌&&◌}
@@ -8,13 +9,12 @@ use borrow.Author.Tests.{ne_eqb}
 use native.Mathlib.Nat.{suc-mul, mul-le-mul_right}
 use lib.ListN.{get_or}
 use lib.Dec.{eqb}
-use Rattle.scan.specs.declared.table.Found.{Found}
 use Rattle.records.specs.Find.{is_named, first_row, first_with}
 
 -- the first row, of n from row i on, that passes the test
-unfoldable pub first_of : (ℕ → Bool) → (n i : ℕ) → Found
-first_of p zero i = Found.Nothing
-first_of p (suc n) i = cond (p i) (Found.Row i) (first_of p n (i + 1))
+unfoldable pub first_of : (ℕ → Bool) → (n i : ℕ) → Option ℕ
+first_of p zero i = None
+first_of p (suc n) i = cond (p i) (Some i) (first_of p n (i + 1))
 
 module _ (t z name : List ℕ) (w : ℕ) where
   -- row i has this name
@@ -47,11 +47,11 @@ module _ (t z name : List ℕ) (w : ℕ) where
 
 -- ---- a loop over rows, at row i
 module _ (p : ℕ → Bool) (n i : ℕ) where
-  pub first_out : n ≤ i → first_of p (n - i) i ≡ Found.Nothing
+  pub first_out : n ≤ i → first_of p (n - i) i ≡ None
   unfolding first_of
   first_out h = let e : n - i ≡ 0 = omega arith in rw e
 
-  pub first-hit : i < n → p i ≡ true → first_of p (n - i) i ≡ Found.Row i
+  pub first-hit : i < n → p i ≡ true → first_of p (n - i) i ≡ Some i
   unfolding first_of
   first-hit h g = let e : n - i ≡ suc (n - (i + 1)) = omega arith in rw (e, g)
 

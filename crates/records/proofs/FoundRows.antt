@@ -1,4 +1,5 @@
 -- What the searches by name find, of the track that the tables hold. Assumes nothing.
+use Rattle.std.specs.Prelude.{Some, None}
 use Prim.Native.Nat.{ℕ, zero, suc, ◌+◌, ◌*◌, ◌≤◌, ◌<◌}
 use mathlib.Core.Path.{◌≡◌, refl, sym, ap, ◌∙◌}
 use mathlib.Core.Bool.{Bool, true, false, cond, not, ◌&&◌}
@@ -15,7 +16,6 @@ use Rattle.track.specs.Tables.{Tables, cell, rows_from, style_at, region_at}
 use Rattle.track.specs.Layout.{each, is_some}
 use Rattle.track.specs.Meaning.{is_span, style_strings, is_style, is_region, style_in, region_in}
 use Rattle.scan.proofs.Every.{by-test, both}
-use Rattle.scan.specs.declared.table.Found.{Found}
 use Rattle.records.specs.Find.{is_named, first_row, first_with, first_that, is_empty, chain_from, extras_from, find_style, find_chain, find_extras}
 use Rattle.records.specs.Find.{find_region, found_in, Named}
 use Rattle.records.proofs.Finding.{first_of, named, named_with, first_row-of, first_with-of}
@@ -41,31 +41,31 @@ module _ (p : ℕ → Bool) where
   fails_from : (i k : ℕ) → p i ≡ false → (i + 1 ≤ k → p k ≡ false) → i ≤ k → p k ≡ false
   fails_from i k e r h = by-test (eqb i k) (λ z. rw (← (eqb-true i k z)) e) (λ z. r (omega (arith, eqb-false i k z)))
 
-  pub first-row : (n i j : ℕ) → first_of p n i ≡ Found.Row j → First p n i j
+  pub first-row : (n i j : ℕ) → first_of p n i ≡ Some j → First p n i j
   unfolding first_of
   first-row zero i j h = absurd (let z : ◌≡◌ {A = ℕ} 0 1 = cc in omega arith)
   first-row (suc n) i j h =
       by-test (p i)
       (λ e.
-      let g : Found.Row i ≡ Found.Row j = rw e at h in
+      let g : Some i ≡ Some j = rw e at h in
       let o : i ≡ j = cc in
       record { from = omega arith; within = omega arith; passes = rw o at e; before = λ k a b. absurd (omega arith) })
       (λ e.
       let r : First p n (i + 1) j = first-row n (i + 1) j (rw e at h) in
       record { from = omega arith; within = omega arith; passes = r.passes; before = λ k a b. fails_from i k e (λ c. r.before k c b) a })
 
-  pub first-none : (n i : ℕ) → first_of p n i ≡ Found.Nothing → (k : ℕ) → i ≤ k → k < i + n → p k ≡ false
+  pub first-none : (n i : ℕ) → first_of p n i ≡ None → (k : ℕ) → i ≤ k → k < i + n → p k ≡ false
   unfolding first_of
   first-none zero i h k a b = absurd (omega arith)
   first-none (suc n) i h k a b =
-      by-test (p i) (λ e. absurd (let g : Found.Row i ≡ Found.Nothing = rw e at h in let z : ◌≡◌ {A = ℕ} 0 1 = cc in omega arith))
+      by-test (p i) (λ e. absurd (let g : Some i ≡ None = rw e at h in let z : ◌≡◌ {A = ℕ} 0 1 = cc in omega arith))
       (λ e. fails_from i k e (λ c. first-none n (i + 1) (rw e at h) k c (omega arith)) a)
 
 module _ (t z name : List ℕ) (w n : ℕ) where
-  pub row_first : (j : ℕ) → first_row t z name w n 0 ≡ Found.Row j → First (named t z name w) n 0 j
+  pub row_first : (j : ℕ) → first_row t z name w n 0 ≡ Some j → First (named t z name w) n 0 j
   row_first j h = first-row (named t z name w) n 0 j (sym (first_row-of t z name w n 0) ∙ h)
 
-  pub with_first : (needed j : ℕ) → first_with t z name w needed n 0 ≡ Found.Row j → First (named_with t z name w needed) n 0 j
+  pub with_first : (needed j : ℕ) → first_with t z name w needed n 0 ≡ Some j → First (named_with t z name w needed) n 0 j
   with_first needed j h = first-row (named_with t z name w needed) n 0 j (sym (first_with-of t z name w needed n 0) ∙ h)
 
 -- ---- tests of a row and of its value

@@ -1,5 +1,6 @@
 -- Tables of rows grow by a row: what `AddPost` says of the layout. Assumes nothing.
 --     filled_more, row-added, table-grown     one more; param_wide … segment_wide     how many cells a row has
+use Rattle.std.specs.Prelude.{Some}
 use Prim.Native.Nat.{ℕ, zero, suc, ◌+◌, ◌-◌, ◌*◌, ◌≤◌}
 use mathlib.Core.List.{List, [], ◌∷◌, ◌++◌, append-nil, append_assoc}
 use mathlib.Core.Path.{◌≡◌, refl, ◌∙◌}
@@ -14,7 +15,6 @@ use Rattle.track.specs.declared.values.Region.{Region}
 use Rattle.track.specs.declared.values.Cue.{Cue}
 use Rattle.track.specs.declared.segments.Segment.{Segment}
 use Rattle.track.specs.Layout.{joined_cells, filled, param_cells, extra_cells, style_cells, region_cells, cue_cells, segment_cells, head_cells, Placed}
-use Rattle.records.specs.declared.cells.Added.{Added}
 use Rattle.records.specs.Posts.{AddPost, head_row, head_of}
 use Rattle.records.proofs.Storing.{optional-wide, look-wide, font-wide}
 
@@ -61,7 +61,7 @@ module _ {A : Type 0} (f : A → List ℕ) (w : ℕ) (wide : (x : A) → length 
 
   -- and there is one more
   pub table-grown : (most : ℕ) (l : List A) (x : A) (t t' : List ℕ) (m : ℕ) → t ≡ filled (most * w) (joined_cells f l)
-      → AddPost most w (f x) t t' (length l) (Added.Next m)
+      → AddPost most w (f x) t t' (length l) (Some m)
       → (t' ≡ filled (most * w) (joined_cells f (l ++ (x ∷ [])))) × (m ≡ length (l ++ (x ∷ [])))
   table-grown most l x t t' m e p =
       let h : suc (length l) * w ≤ most * w = mul-le-mul_right w p.0 in

@@ -1,28 +1,28 @@
 -- Rows found by name. Definitions alone. Names compare byte by byte, as the Rust's keys and `style` do.
-use Rattle.std.specs.Prelude.{ℕ, zero, suc, ◌+◌, ◌*◌, ◌≤◌, ◌<◌, Bool, true, false, cond, not, ◌&&◌, List, [], ◌∷◌, length, get_or, eqb}
+use Rattle.std.specs.Prelude as rust
+use Rattle.std.specs.Prelude.{Some, None, ℕ, zero, suc, ◌+◌, ◌*◌, ◌≤◌, ◌<◌, Bool, true, false, cond, not, ◌&&◌, List, [], ◌∷◌, length, get_or, eqb}
 use Rattle.std.proofs.Math.Option.{Option, none, some}
 use Rattle.scan.specs.Names.{same_bytes_of}
 use Rattle.scan.specs.Part.{string_at}
 use Rattle.track.specs.Track.{Bytes, Extra, Style, Region}
 use Rattle.track.specs.Layout.{is_some}
-use Rattle.scan.specs.declared.table.Found.{Found}
 
 -- the string whose place and length stand at cell i is this
 unfoldable pub is_named : List ℕ → List ℕ → List ℕ → ℕ → Bool
 is_named t z name i = same_bytes_of (string_at z (get_or t i 0) (get_or t (i + 1) 0)) name
 
 -- the first row, of n from row i on, that begins with this name
-unfoldable pub first_row : List ℕ → List ℕ → List ℕ → (w n i : ℕ) → Found
+unfoldable pub first_row : List ℕ → List ℕ → List ℕ → (w n i : ℕ) → rust.Option ℕ
 unfolding is_named
-first_row t z name w zero i = Found.Nothing
-first_row t z name w (suc n) i = cond (is_named t z name (i * w)) (Found.Row i) (first_row t z name w n (i + 1))
+first_row t z name w zero i = None
+first_row t z name w (suc n) i = cond (is_named t z name (i * w)) (Some i) (first_row t z name w n (i + 1))
 
 -- the same of rows whose cell `needed` is not zero
-unfoldable pub first_with : List ℕ → List ℕ → List ℕ → (w needed n i : ℕ) → Found
+unfoldable pub first_with : List ℕ → List ℕ → List ℕ → (w needed n i : ℕ) → rust.Option ℕ
 unfolding is_named
-first_with t z name w needed zero i = Found.Nothing
+first_with t z name w needed zero i = None
 first_with t z name w needed (suc n) i =
-    cond (not (eqb (get_or t (i * w + needed) 0) 0) && is_named t z name (i * w)) (Found.Row i) (first_with t z name w needed n (i + 1))
+    cond (not (eqb (get_or t (i * w + needed) 0) 0) && is_named t z name (i * w)) (Some i) (first_with t z name w needed n (i + 1))
 
 -- the table has n rows of w cells, each beginning with a string that is within z
 pub record Named (t z : List ℕ) (w n : ℕ) : Type 0 where
@@ -68,6 +68,6 @@ unfolding first_that
 find_region id l = first_that (λ (x : Region Bytes). same_bytes_of x.id id) l
 
 -- what is found, of rows that are known by f
-abbrev pub found_in : {A : Type 0} → (ℕ → A) → Found → Option A
-found_in f (Found.Row i) = some (f i)
-found_in f Found.Nothing = none
+abbrev pub found_in : {A : Type 0} → (ℕ → A) → rust.Option ℕ → Option A
+found_in f (Some i) = some (f i)
+found_in f None = none

@@ -1,11 +1,10 @@
 -- What the writers of rows ask and ensure.
-use Rattle.std.specs.Prelude.{ℕ, ◌+◌, ◌*◌, ◌≤◌, ◌<◌, ◌^◌, ◌≡◌, List, [], ◌∷◌, ◌++◌, ℤ, Float, length}
+use Rattle.std.specs.Prelude.{Option, Some, None, ℕ, ◌+◌, ◌*◌, ◌≤◌, ◌<◌, ◌^◌, ◌≡◌, List, [], ◌∷◌, ◌++◌, ℤ, Float, length}
 use Rattle.std.proofs.lemmas.List.Edits.{sets}
 use Rattle.track.specs.declared.strings.Span.{Span}
 use Rattle.track.specs.declared.values.Rows.{Rows}
 use Rattle.track.specs.declared.segments.Segment.{Segment}
 use Rattle.track.specs.Layout.{Placed, optional_cells, all_segments}
-use Rattle.records.specs.declared.cells.Added.{Added}
 use Rattle.records.specs.declared.head.Head.{Head}
 
 -- places, lengths and rows are kept in 32 bits
@@ -53,15 +52,15 @@ head_of k u v =
     }
 
 -- a row of w cells is added to a table t of n rows, and there are one more; or there are `most` already, and nothing is written
-abbrev pub AddPost : (most w : ℕ) → List ℕ → (t t' : List ℕ) → ℕ → Added → Type 0
-AddPost most w row t t' n (Added.Next m) = (n < most) × (m ≡ n + 1) × (t' ≡ sets t (n * w) row)
-AddPost most w row t t' n Added.Full = (most ≤ n) × (t' ≡ t)
+abbrev pub AddPost : (most w : ℕ) → List ℕ → (t t' : List ℕ) → ℕ → Option ℕ → Type 0
+AddPost most w row t t' n (Some m) = (n < most) × (m ≡ n + 1) × (t' ≡ sets t (n * w) row)
+AddPost most w row t t' n None = (most ≤ n) × (t' ≡ t)
 
 -- with it a float or times are written beside
-abbrev pub ValuePost : ℕ → Float → (t t' : List Float) → Added → Type 0
-ValuePost i v t t' (Added.Next m) = t' ≡ sets t i (v ∷ [])
-ValuePost i v t t' Added.Full = t' ≡ t
+abbrev pub ValuePost : ℕ → Float → (t t' : List Float) → Option ℕ → Type 0
+ValuePost i v t t' (Some m) = t' ≡ sets t i (v ∷ [])
+ValuePost i v t t' None = t' ≡ t
 
-abbrev pub TimesPost : ℕ → ℤ → ℤ → (t t' : List ℤ) → Added → Type 0
-TimesPost i v w t t' (Added.Next m) = t' ≡ sets t i (v ∷ w ∷ [])
-TimesPost i v w t t' Added.Full = t' ≡ t
+abbrev pub TimesPost : ℕ → ℤ → ℤ → (t t' : List ℤ) → Option ℕ → Type 0
+TimesPost i v w t t' (Some m) = t' ≡ sets t i (v ∷ w ∷ [])
+TimesPost i v w t t' None = t' ≡ t

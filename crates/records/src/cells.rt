@@ -10,13 +10,6 @@ use colors::Rgba;
 use decimals::Size;
 use track::{Rows, Span};
 
-// A row is added, and there are so many now; or the table is full (number 13).
-#[derive(Clone, Copy)]
-pub enum Added {
-    Next(usize),
-    Full,
-}
-
 pub fn flag_cell(b: bool) -> u32
     ensures { result ≡ flag b }
 {

@@ -5,7 +5,7 @@ ghost use Rattle.track.specs.Tables.{cue_at};
 ghost use Rattle.track.specs.Layout.{cue_cells};
 ghost use Rattle.records.specs.Posts.{SmallSpan, SmallRows, AddPost, TimesPost};
 
-use crate::cells::Added;
+use crate::rows::Row;
 use track::{CUE_CELLS, CUES, Cue};
 
 pub fn cue_at(cues: &[u32], times: &[i64], i: usize) -> Cue
@@ -26,35 +26,37 @@ pub fn cue_at(cues: &[u32], times: &[i64], i: usize) -> Cue
     }
 }
 
-fn put_cue(cues: &mut [u32], at: usize, x: Cue)
-    requires { (at + 11 ≤ length cues.old) × SmallSpan x.style × SmallSpan x.region × SmallRows x.segments × SmallRows x.extras }
-    ensures { cues.new ≡ sets cues.old at (cue_cells x) }
-{
-    let style = x.style;
-    let region = x.region;
-    let segments = x.segments;
-    let extras = x.extras;
-    crate::cells::put_optional(cues, at, x.has_style, style);
-    crate::cells::put_optional(cues, at + 3, x.has_region, region);
-    cues[at + 6] = crate::cells::flag_cell(x.preserve);
-    crate::cells::put_rows(cues, at + 7, segments);
-    crate::cells::put_rows(cues, at + 9, extras);
+impl Row for Cue {
+    ghost WIDTH = { 11 };
+
+    ghost MOST = { 2048 };
+
+    ghost cells = { cue_cells };
+
+    ghost Small = { λ x. SmallSpan x.style × SmallSpan x.region × SmallRows x.segments × SmallRows x.extras };
+
+    const WIDTH: usize = CUE_CELLS;
+
+    const MOST: usize = CUES;
+
+    fn put(self, table: &mut [u32], at: usize) {
+        crate::cells::put_optional(table, at, self.has_style, self.style);
+        crate::cells::put_optional(table, at + 3, self.has_region, self.region);
+        table[at + 6] = crate::cells::flag_cell(self.preserve);
+        crate::cells::put_rows(table, at + 7, self.segments);
+        crate::cells::put_rows(table, at + 9, self.extras);
+    }
 }
 
 // A cue more, where there are n.
-pub fn add_cue(cues: &mut [u32], times: &mut [i64], n: usize, x: Cue) -> Added
+pub fn add_cue(cues: &mut [u32], times: &mut [i64], n: usize, x: Cue) -> Option<usize>
     requires { (22528 ≤ length cues.old) × (4096 ≤ length times.old) × SmallSpan x.style × SmallSpan x.region
         × SmallRows x.segments × SmallRows x.extras }
     ensures add_post { AddPost 2048 11 (cue_cells x) cues.old cues.new n result }
     ensures times_post { TimesPost (n * 2) x.start x.end times.old times.new result }
 {
-    if CUES <= n {
-        return Added::Full;
-    }
-    let start = x.start;
-    let end = x.end;
-    put_cue(cues, n * CUE_CELLS, x);
-    times[n * 2] = start;
-    times[n * 2 + 1] = end;
-    Added::Next(n + 1)
+    let m = crate::rows::add(cues, n, x)?;
+    times[n * 2] = x.start;
+    times[n * 2 + 1] = x.end;
+    Some(m)
 }

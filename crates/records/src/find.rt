@@ -4,7 +4,6 @@ ghost use Rattle.std.specs.Prelude.{◌≡◌, true, ℕ, ◌+◌, ◌*◌, ◌�
 ghost use Rattle.track.specs.Meaning.{is_span};
 ghost use Rattle.records.specs.Find.{is_named, first_row, first_with, Named};
 
-use scan::Found;
 use track::{REGION_CELLS, STYLE_CELLS};
 
 // Is this the string whose place and length stand at a cell?
@@ -18,18 +17,16 @@ fn is_named(cells: &[u32], strings: &[u8], at: usize, name: &[u8]) -> bool
 }
 
 // The first of n rows of so many cells that begins with this name.
-fn find_row(cells: &[u32], strings: &[u8], width: usize, n: usize, name: &[u8]) -> Found
+fn find_row(cells: &[u32], strings: &[u8], width: usize, n: usize, name: &[u8]) -> Option<usize>
     requires { Named cells.now strings.now width n }
     ensures { result ≡ first_row cells.now strings.now name.now width n 0 }
 {
-    let mut i = 0;
-    while i < n {
+    for i in 0..n {
         if is_named(cells, strings, i * width, name) {
-            return Found::Row(i);
+            return Some(i);
         }
-        i += 1;
     }
-    Found::Nothing
+    None
 }
 
 // The same, of rows whose cell `needed` is not zero.
@@ -40,24 +37,20 @@ fn find_with(
     needed: usize,
     n: usize,
     name: &[u8],
-) -> Found
+) -> Option<usize>
     requires { Named cells.now strings.now width n × (needed < width) }
     ensures { result ≡ first_with cells.now strings.now name.now width needed n 0 }
 {
-    let mut i = 0;
-    while i < n {
-        if cells[i * width + needed] != 0 {
-            if is_named(cells, strings, i * width, name) {
-                return Found::Row(i);
-            }
+    for i in 0..n {
+        if cells[i * width + needed] != 0 && is_named(cells, strings, i * width, name) {
+            return Some(i);
         }
-        i += 1;
     }
-    Found::Nothing
+    None
 }
 
 // The Rust's `style`: the first of n styles of this name.
-pub fn find_style(styles: &[u32], strings: &[u8], n: usize, name: &[u8]) -> Found
+pub fn find_style(styles: &[u32], strings: &[u8], n: usize, name: &[u8]) -> Option<usize>
     requires { Named styles.now strings.now 27 n }
     ensures { result ≡ first_row styles.now strings.now name.now 27 n 0 }
 {
@@ -65,7 +58,7 @@ pub fn find_style(styles: &[u32], strings: &[u8], n: usize, name: &[u8]) -> Foun
 }
 
 // The first style of this name that has a chain.
-pub fn find_chain(styles: &[u32], strings: &[u8], n: usize, name: &[u8]) -> Found
+pub fn find_chain(styles: &[u32], strings: &[u8], n: usize, name: &[u8]) -> Option<usize>
     requires { Named styles.now strings.now 27 n }
     ensures { result ≡ first_with styles.now strings.now name.now 27 3 n 0 }
 {
@@ -73,7 +66,7 @@ pub fn find_chain(styles: &[u32], strings: &[u8], n: usize, name: &[u8]) -> Foun
 }
 
 // The first style of this name that has extras.
-pub fn find_extras(styles: &[u32], strings: &[u8], n: usize, name: &[u8]) -> Found
+pub fn find_extras(styles: &[u32], strings: &[u8], n: usize, name: &[u8]) -> Option<usize>
     requires { Named styles.now strings.now 27 n }
     ensures { result ≡ first_with styles.now strings.now name.now 27 26 n 0 }
 {
@@ -81,7 +74,7 @@ pub fn find_extras(styles: &[u32], strings: &[u8], n: usize, name: &[u8]) -> Fou
 }
 
 // The first region of this id.
-pub fn find_region(regions: &[u32], strings: &[u8], n: usize, id: &[u8]) -> Found
+pub fn find_region(regions: &[u32], strings: &[u8], n: usize, id: &[u8]) -> Option<usize>
     requires { Named regions.now strings.now 4 n }
     ensures { result ≡ first_row regions.now strings.now id.now 4 n 0 }
 {

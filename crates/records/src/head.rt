@@ -24,13 +24,12 @@ pub fn put_head(head: &mut [u32], x: Head)
     requires { (10 ≤ length head.old) × SmallHead x }
     ensures { head.new ≡ sets head.old 0 (head_row x) }
 {
-    let lang = x.lang;
     head[0] = x.params as u32;
     head[1] = x.styles as u32;
     head[2] = x.regions as u32;
     head[3] = x.cues as u32;
     head[4] = x.segments as u32;
-    crate::cells::put_optional(head, 5, x.has_lang, lang);
+    crate::cells::put_optional(head, 5, x.has_lang, x.lang);
     head[8] = x.strings as u32;
     head[9] = x.texts as u32;
 }

@@ -3,9 +3,9 @@ ghost use Rattle.std.specs.Prelude.{◌≡◌, ◌+◌, ◌*◌, ◌≤◌, ◌<
 ghost use Rattle.std.proofs.lemmas.List.Edits.{sets};
 ghost use Rattle.track.specs.Tables.{param_at, extra_at};
 ghost use Rattle.track.specs.Layout.{param_cells, extra_cells};
-ghost use Rattle.records.specs.Posts.{SmallSpan, AddPost};
+ghost use Rattle.records.specs.Posts.{SmallSpan};
 
-use crate::cells::Added;
+use crate::rows::Row;
 use track::{EXTRA_CELLS, Extra, PARAM_CELLS, PARAMS, Param};
 
 pub fn param_at(params: &[u32], i: usize) -> Param
@@ -19,19 +19,23 @@ pub fn param_at(params: &[u32], i: usize) -> Param
     }
 }
 
-// A parameter more, where there are n.
-pub fn add_param(params: &mut [u32], n: usize, x: Param) -> Added
-    requires { (256 ≤ length params.old) × SmallSpan x.name × SmallSpan x.value }
-    ensures { AddPost 64 4 (param_cells x) params.old params.new n result }
-{
-    if PARAMS <= n {
-        return Added::Full;
+impl Row for Param {
+    ghost WIDTH = { 4 };
+
+    ghost MOST = { 64 };
+
+    ghost cells = { param_cells };
+
+    ghost Small = { λ x. SmallSpan x.name × SmallSpan x.value };
+
+    const WIDTH: usize = PARAM_CELLS;
+
+    const MOST: usize = PARAMS;
+
+    fn put(self, table: &mut [u32], at: usize) {
+        crate::cells::put_span(table, at, self.name);
+        crate::cells::put_span(table, at + 2, self.value);
     }
-    let name = x.name;
-    let value = x.value;
-    crate::cells::put_span(params, n * PARAM_CELLS, name);
-    crate::cells::put_span(params, n * PARAM_CELLS + 2, value);
-    Added::Next(n + 1)
 }
 
 pub fn extra_at(extras: &[u32], i: usize) -> Extra
@@ -51,7 +55,6 @@ pub fn put_extra(extras: &mut [u32], i: usize, x: Extra)
     ensures { extras.new ≡ sets extras.old (i * 3) (extra_cells x) }
 {
     let at = i * EXTRA_CELLS;
-    let value = x.value;
     extras[at] = x.number as u32;
-    crate::cells::put_span(extras, at + 1, value);
+    crate::cells::put_span(extras, at + 1, x.value);
 }

@@ -4,9 +4,8 @@ ghost use Rattle.std.proofs.lemmas.List.Edits.{sets};
 ghost use Rattle.scan.specs.Part.{part};
 ghost use Rattle.track.specs.Layout.{font_cells, segment_cells};
 ghost use Rattle.records.specs.Posts.{SmallSpan, SmallSegment, AddPost};
-ghost use Rattle.records.specs.Siblings.{pulled, without_cells};
+ghost use Rattle.records.specs.Siblings.{without_cells};
 
-use crate::cells::Added;
 use track::{
     BOLD, BREAK, COLOR, FONT, Font, ITALIC, Rgb, SEGMENT_CELLS, SEGMENTS, STRIKE, Segment, Span,
     TEXT, TIMESTAMP, UNDERLINE,
@@ -19,10 +18,8 @@ fn put_kind(segments: &mut [u32], at: usize, kind: u32, rows: usize)
 {
     segments[at] = kind;
     segments[at + 1] = rows as u32;
-    let mut i = 2;
-    while i < SEGMENT_CELLS {
+    for i in 2..SEGMENT_CELLS {
         segments[at + i] = 0;
-        i += 1;
     }
 }
 
@@ -35,10 +32,10 @@ fn put_font(segments: &mut [u32], at: usize, x: Font)
     } else {
         Span { place: 0, len: 0 }
     };
-    let size = x.size;
     crate::cells::put_span(segments, at, family);
-    segments[at + 2] = crate::cells::flag_cell(x.has_family) + track::size_marks(x.has_size, size);
-    segments[at + 3] = track::size_bits(x.has_size, size);
+    segments[at + 2] = crate::cells::flag_cell(x.has_family)
+        + track::size_marks(x.has_size, x.size);
+    segments[at + 3] = track::size_bits(x.has_size, x.size);
 }
 
 // The cells of a segment's row.
@@ -84,28 +81,28 @@ pub fn put_segment(segments: &mut [u32], i: usize, rows: usize, s: Segment)
 }
 
 // A text more, where there are n segments: a row of its own, written without a look at its kind.
-pub fn add_text(segments: &mut [u32], n: usize, x: Span) -> Added
+pub fn add_text(segments: &mut [u32], n: usize, x: Span) -> Option<usize>
     requires { (98304 ≤ length segments.old) × SmallSpan x }
     ensures { AddPost 16384 6 (segment_cells (Segment.Text x) 1) segments.old segments.new n result }
 {
     if SEGMENTS <= n {
-        return Added::Full;
+        return None;
     }
     put_kind(segments, n * SEGMENT_CELLS, TEXT, 1);
     crate::cells::put_span(segments, n * SEGMENT_CELLS + 2, x);
-    Added::Next(n + 1)
+    Some(n + 1)
 }
 
 // A break more.
-pub fn add_break(segments: &mut [u32], n: usize) -> Added
+pub fn add_break(segments: &mut [u32], n: usize) -> Option<usize>
     requires { 98304 ≤ length segments.old }
     ensures { AddPost 16384 6 (segment_cells Segment.Break 1) segments.old segments.new n result }
 {
     if SEGMENTS <= n {
-        return Added::Full;
+        return None;
     }
     put_kind(segments, n * SEGMENT_CELLS, BREAK, 1);
-    Added::Next(n + 1)
+    Some(n + 1)
 }
 
 // The six cells from one place on written at another: all are read first, so that they move as a block.
@@ -139,28 +136,12 @@ pub fn shift_segments(segments: &mut [u32], at: usize, end: usize, by: usize)
     }
 }
 
-// Cells from `at + by` up to `end`, moved by so many places toward the start.
-fn pull_cells(cells: &mut [u32], at: usize, end: usize, by: usize)
-    requires { (at + by ≤ end) × (end ≤ length cells.old) }
-    ensures { cells.new ≡ pulled at end by cells.old }
-{
-    let mut i = at + by;
-    while i < end {
-        cells[i - by] = cells[i];
-        i += 1;
-    }
-}
-
 // Row `at` dropped: the rows after it, up to `end`, stand one row earlier, and the last row is cleared.
 pub fn drop_segment(segments: &mut [u32], at: usize, end: usize)
     requires { (at < end) × (end * 6 ≤ length segments.old) }
     ensures { segments.new ≡ without_cells 0 6 (at * 6) (end * 6) segments.old }
 {
-    pull_cells(
-        segments,
-        at * SEGMENT_CELLS,
-        end * SEGMENT_CELLS,
-        SEGMENT_CELLS,
-    );
+    let row = at * SEGMENT_CELLS;
+    segments.copy_within(row + SEGMENT_CELLS..end * SEGMENT_CELLS, row);
     put_kind(segments, end * SEGMENT_CELLS - SEGMENT_CELLS, 0, 0);
 }

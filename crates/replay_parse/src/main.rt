@@ -37,9 +37,10 @@ fn replay(list: &[u8], text: &mut [u8]) -> Tally {
     let mut pos = 0;
     while pos < list.len() {
         let end = scan::find_byte(list, pos, b'\n');
-        laid = text::lay_line(&list[pos..end], text, laid);
-        tally = counted(tally, &list[pos..end], &text[..laid]);
-        laid = text::carried(&list[pos..end], laid);
+        let line = &list[pos..end];
+        laid = text::lay_line(line, text, laid);
+        tally = counted(tally, line, &text[..laid]);
+        laid = text::carried(line, laid);
         pos = end + 1;
     }
     tally

@@ -101,10 +101,7 @@ fn call_agrees(call: Call, text: &[u8], told: &[u8]) -> bool {
 }
 
 fn is_written(call: Call) -> bool {
-    match call {
-        Call::Recaption => true,
-        _ => false,
-    }
+    matches!(call, Call::Recaption)
 }
 
 // Do these libraries answer what the line says?
@@ -112,11 +109,11 @@ pub fn agrees(line: &[u8], text: &[u8]) -> bool {
     let mut given = [0u8; 512];
     let mut told = [0u8; 512];
     let fields = replaying::read_line(line, &mut given, &mut told);
-    let kind = fields.kind;
-    match kind {
-        b'p' | b'P' => call_agrees(Call::Parse, text, &told[..fields.told]),
-        b'c' | b'C' => call_agrees(Call::Cue, text, &told[..fields.told]),
-        b'w' | b'W' => call_agrees(Call::Recaption, text, &told[..fields.told]),
-        _ => false,
-    }
+    let call = match fields.kind {
+        b'p' | b'P' => Call::Parse,
+        b'c' | b'C' => Call::Cue,
+        b'w' | b'W' => Call::Recaption,
+        _ => return false,
+    };
+    call_agrees(call, text, &told[..fields.told])
 }

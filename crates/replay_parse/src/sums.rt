@@ -1,6 +1,5 @@
 // The sum over all cells: 1 at first, and with each number that is added it is multiplied before. Of a table each cell that
 // is not 0 adds its index and its value; after the last cell 0 is added.
-ghost use Rattle.std.specs.Prelude.{◌^◌, ◌<◌};
 
 // a prime below 2^32
 const MODULUS: u64 = 4294967291;
@@ -18,56 +17,23 @@ fn add_cell(sum: u32, at: usize, value: u64) -> u32 {
     add(add(sum, at as u64), value)
 }
 
-// A time, or what a negative one is below -1.
-fn magnitude(time: i64) -> u64
-    ensures { result < 2 ^ 63 }
-{
-    if time < 0 {
-        return (-1 - time) as u64;
-    }
-    time as u64
-}
-
-// Even for a time, odd for a negative one.
+// Twice a time; of a negative one twice what it is below -1, and 1.
 fn unsigned(time: i64) -> u64 {
-    let half = magnitude(time);
-    if time < 0 { 2 * half + 1 } else { 2 * half }
+    ((time << 1) ^ (time >> 63)).cast_unsigned()
 }
 
-fn wide(cell: u32) -> u64 {
-    cell as u64
-}
-
-fn wide_byte(byte: u8) -> u64 {
-    byte as u64
-}
-
-fn add_cells(sum: u32, cells: &[u32]) -> u32 {
+fn add_cells<T: Copy + Into<u64>>(sum: u32, cells: &[T]) -> u32 {
     let mut all = sum;
-    let mut i = 0;
-    while i < cells.len() {
-        all = add_cell(all, i, wide(cells[i]));
-        i += 1;
+    for (i, &cell) in cells.iter().enumerate() {
+        all = add_cell(all, i, cell.into());
     }
     add(all, 0)
 }
 
 fn add_times(sum: u32, times: &[i64]) -> u32 {
     let mut all = sum;
-    let mut i = 0;
-    while i < times.len() {
-        all = add_cell(all, i, unsigned(times[i]));
-        i += 1;
-    }
-    add(all, 0)
-}
-
-fn add_bytes(sum: u32, bytes: &[u8]) -> u32 {
-    let mut all = sum;
-    let mut i = 0;
-    while i < bytes.len() {
-        all = add_cell(all, i, wide_byte(bytes[i]));
-        i += 1;
+    for (i, &time) in times.iter().enumerate() {
+        all = add_cell(all, i, unsigned(time));
     }
     add(all, 0)
 }
@@ -90,7 +56,7 @@ pub fn of_answer(
     out: &[u8; 65536],
 ) -> u32 {
     if written {
-        return add_bytes(1, out);
+        return add_cells(1, out);
     }
     let mut sum = add_cells(1, nodes);
     sum = add_cells(sum, attrs);
@@ -102,6 +68,6 @@ pub fn of_answer(
     sum = add_times(sum, times);
     sum = add_cells(sum, segments);
     sum = add_cells(sum, extras);
-    sum = add_bytes(sum, strings);
-    add_bytes(sum, texts)
+    sum = add_cells(sum, strings);
+    add_cells(sum, texts)
 }

@@ -3,10 +3,7 @@ ghost use Rattle.std.specs.Prelude.{◌≤◌, length};
 
 // Do further pieces of the same text follow?
 pub fn is_part(line: &[u8]) -> bool {
-    if line.len() == 0 {
-        return false;
-    }
-    line[0] == b'+'
+    matches!(line, [b'+', ..])
 }
 
 // How many bytes of the text the next line goes on with.
@@ -48,37 +45,25 @@ fn lay_pieces(pieces: &[u8], text: &mut [u8], at: usize) -> usize
     ensures { result ≤ length text.old }
 {
     let mut next = at;
-    let mut i = 0;
-    while 3 < pieces.len() - i {
-        let count = number(pieces[i], pieces[i + 1]);
-        let start = i + 3;
-        let len = wide(pieces[i + 2]);
-        if pieces.len() - start < len {
+    let mut rest = pieces;
+    while let [high, low, len, behind @ ..] = rest {
+        let Some((piece, others)) = behind.split_at_checked(usize::from(*len)) else {
             return next;
-        }
-        next = lay_often(&pieces[start..start + len], count, text, next);
-        i = start + len;
+        };
+        let count = u16::from_be_bytes([*high, *low]);
+        next = lay_often(piece, count, text, next);
+        rest = others;
     }
     next
 }
 
-fn lay_often(piece: &[u8], count: usize, text: &mut [u8], at: usize) -> usize
+fn lay_often(piece: &[u8], count: u16, text: &mut [u8], at: usize) -> usize
     requires { at ≤ length text.old }
     ensures { result ≤ length text.old }
 {
     let mut next = at;
-    let mut left = count;
-    while 0 < left {
+    for _ in 0..count {
         next = lay(piece, text, next);
-        left -= 1;
     }
     next
-}
-
-fn number(high: u8, low: u8) -> usize {
-    high as usize * 256 + low as usize
-}
-
-fn wide(b: u8) -> usize {
-    b as usize
 }

@@ -1,37 +1,23 @@
 // The fields of a line.
 ghost use Rattle.std.specs.Prelude.{◌≡◌, ◌≤◌, length};
 
-use numerals::Numeral;
 use replaying::Line;
 
 // The byte at a place, or 0 past the end.
 pub fn byte(bytes: &[u8], at: usize) -> u8 {
-    if at < bytes.len() {
-        return bytes[at];
-    }
-    0
+    bytes.get(at).map_or(0, |b| *b)
 }
 
 // The number that a word spells, or 0.
 pub fn number(word: &[u8]) -> u32 {
-    match numerals::read_numeral(word, 10, 4294967295, false) {
-        Numeral::Is(w) => small(w.magnitude),
-        Numeral::Nothing => 0,
-    }
-}
-
-fn small(n: u64) -> u32 {
-    if 4294967295 < n {
-        return 0;
-    }
-    n as u32
+    numerals::read_numeral(word, 10, 4294967295, false).map_or(
+        0,
+        |w| u32::try_from(w.magnitude).unwrap_or(0),
+    )
 }
 
 pub fn is_question(line: &[u8]) -> bool {
-    match byte(line, 0) {
-        b'V' | b'R' | b'C' => true,
-        _ => false,
-    }
+    matches!(byte(line, 0), b'V' | b'R' | b'C')
 }
 
 // How many cells the table of ids is lent: the first byte of a question says it.
@@ -57,10 +43,7 @@ fn no_question() -> Line
 pub fn question(line: &[u8], given: &mut [u8], told: &mut [u8]) -> Line
     ensures { (result.given ≤ length given.old) × (result.told ≤ length told.old) }
 {
-    if line.len() < 4 {
-        return no_question();
-    }
-    if 4096 < line.len() {
+    if line.len() < 4 || 4096 < line.len() {
         return no_question();
     }
     let gap = scan::find_byte(line, 4, b' ');

@@ -1,27 +1,19 @@
 // A line that has a table's cells.
 ghost use Rattle.std.specs.Prelude.{◌≤◌, ◌<◌, length};
 
+use crate::cells::Cells;
+
 // A question or a remark fills nothing.
-pub fn fill(
-    line: &[u8],
-    head: &mut [u32; 10],
-    params: &mut [u32; 256],
-    styles: &mut [u32; 6912],
-    regions: &mut [u32; 1024],
-    cues: &mut [u32; 22528],
-    sizes: &mut [f32; 256],
-    extras: &mut [u32; 24576],
-    strings: &mut [u8; 65536],
-) {
+pub fn fill(line: &[u8], cells: &mut Cells) {
     match crate::fields::byte(line, 0) {
-        b'h' => put_numbers(line, head),
-        b'p' => put_numbers(line, params),
-        b's' => put_numbers(line, styles),
-        b'r' => put_numbers(line, regions),
-        b'c' => put_numbers(line, cues),
-        b'e' => put_numbers(line, extras),
-        b'f' => put_size(line, sizes),
-        b'z' => put_bytes(line, strings),
+        b'h' => put_numbers(line, &mut cells.head),
+        b'p' => put_numbers(line, &mut cells.params),
+        b's' => put_numbers(line, &mut cells.styles),
+        b'r' => put_numbers(line, &mut cells.regions),
+        b'c' => put_numbers(line, &mut cells.cues),
+        b'e' => put_numbers(line, &mut cells.extras),
+        b'f' => put_size(line, &mut cells.sizes),
+        b'z' => put_bytes(line, &mut cells.strings),
         _ => {}
     }
 }
@@ -29,14 +21,12 @@ pub fn fill(
 // The numbers of a line, which single blanks divide.
 fn put_numbers(line: &[u8], cells: &mut [u32]) {
     let mut pos = 2;
-    let mut at = 0;
-    while pos < line.len() {
-        if cells.len() <= at {
+    for cell in cells {
+        if line.len() <= pos {
             return;
         }
         let end = scan::find_byte(line, pos, b' ');
-        cells[at] = crate::fields::number(&line[pos..end]);
-        at += 1;
+        *cell = crate::fields::number(&line[pos..end]);
         pos = end + 1;
     }
 }
@@ -52,8 +42,8 @@ fn put_size(line: &[u8], sizes: &mut [f32]) {
     }
     let cell = crate::fields::number(&line[2..gap]) as usize;
     let bits = crate::fields::number(&line[gap + 1..]);
-    if cell < sizes.len() {
-        sizes[cell] = float(bits);
+    if let Some(size) = sizes.get_mut(cell) {
+        *size = float(bits);
     }
 }
 
@@ -66,7 +56,7 @@ fn float(bits: u32) -> f32 {
 }
 
 fn put_bytes(line: &[u8], bytes: &mut [u8]) {
-    if 2 <= line.len() {
-        replaying::unhex(&line[2..], bytes);
+    if let [_, _, hex @ ..] = line {
+        replaying::unhex(hex, bytes);
     }
 }

@@ -16,12 +16,14 @@
 // Rust's answer, in the bytes that `answer` lists.
 mod answer;
 mod ask;
+mod cells;
 mod fields;
 mod fill;
 
 ghost use Rattle.std.specs.Prelude.{◌+◌, ◌^◌, ◌≤◌, ◌<◌};
 
 use replaying::Tally;
+use track::Tables;
 
 // standard input
 const STDIN_FILENO: i32 = 0;
@@ -34,83 +36,31 @@ fn main() {
 
 // Every line of the list.
 fn replay(list: &[u8]) -> Tally {
-    let mut head = [0u32; 10];
-    let mut params = [0u32; 256];
-    let mut styles = [0u32; 6912];
-    let mut regions = [0u32; 1024];
-    let mut cues = [0u32; 22528];
-    let mut sizes = [0f32; 256];
-    let mut extras = [0u32; 24576];
-    let mut strings = [0u8; 65536];
+    let mut cells = cells::Cells::zero();
     let mut tally = replaying::no_lines();
     let mut pos = 0;
     while pos < list.len() {
         let end = scan::find_byte(list, pos, b'\n');
-        fill::fill(
-            &list[pos..end],
-            &mut head,
-            &mut params,
-            &mut styles,
-            &mut regions,
-            &mut cues,
-            &mut sizes,
-            &mut extras,
-            &mut strings,
-        );
-        tally = counted(
-            tally,
-            &list[pos..end],
-            &head,
-            &params,
-            &styles,
-            &regions,
-            &cues,
-            &sizes,
-            &extras,
-            &strings,
-        );
+        fill::fill(&list[pos..end], &mut cells);
+        tally = counted(tally, &list[pos..end], &cells.tables());
         pos = end + 1;
     }
     tally
 }
 
 // A question counted; no other line counts.
-fn counted(
-    tally: Tally,
-    line: &[u8],
-    head: &[u32; 10],
-    params: &[u32; 256],
-    styles: &[u32; 6912],
-    regions: &[u32; 1024],
-    cues: &[u32; 22528],
-    sizes: &[f32; 256],
-    extras: &[u32; 24576],
-    strings: &[u8; 65536],
-) -> Tally
+fn counted(tally: Tally, line: &[u8], t: &Tables<'_>) -> Tally
     requires { tally.agree + tally.differ < 2 ^ 63 }
     ensures { result.agree + result.differ ≤ tally.agree + tally.differ + 1 }
 {
     if !fields::is_question(line) {
         return tally;
     }
-    let agrees = agrees(
-        line, head, params, styles, regions, cues, sizes, extras, strings,
-    );
-    replaying::counted(tally, line, agrees)
+    replaying::counted(tally, line, agrees(line, t))
 }
 
 // Do these libraries answer what the line says? The table of ids is filled before it is lent.
-fn agrees(
-    line: &[u8],
-    head: &[u32; 10],
-    params: &[u32; 256],
-    styles: &[u32; 6912],
-    regions: &[u32; 1024],
-    cues: &[u32; 22528],
-    sizes: &[f32; 256],
-    extras: &[u32; 24576],
-    strings: &[u8; 65536],
-) -> bool {
+fn agrees(line: &[u8], t: &Tables<'_>) -> bool {
     let mut text = [0u8; 2048];
     let mut told = [0u8; 2048];
     let mut ids = [7u32; 128];
@@ -118,18 +68,5 @@ fn agrees(
     let n = read.given;
     let m = read.told;
     let lent = fields::lent(line);
-    ask::is_answer(
-        read.kind,
-        &text[..n],
-        &told[..m],
-        &mut ids[..lent],
-        head,
-        params,
-        styles,
-        regions,
-        cues,
-        sizes,
-        extras,
-        strings,
-    )
+    ask::is_answer(read.kind, &text[..n], &told[..m], t, &mut ids[..lent])
 }

@@ -1,22 +1,12 @@
 // `check_track` asked.
 ghost use Rattle.std.specs.Prelude.{◌+◌, ◌≤◌, ◌<◌, ◌^◌};
 
-use track::Check;
+use crate::tables::Lent;
+use track::Tables;
+use tree::Refusal;
 
 // What `check_track` answers where the table with the letter `short` is lent one cell short.
-pub fn ask(short: u8, cells: &[u32], times: &[i64], sizes: &[f32], bytes: &[u8]) -> u32 {
-    if cells.len() < 153610 {
-        return 1;
-    }
-    if times.len() < 4096 {
-        return 1;
-    }
-    if sizes.len() < 256 {
-        return 1;
-    }
-    if bytes.len() < 131072 {
-        return 1;
-    }
+pub fn ask(short: u8, lent: &Lent) -> u32 {
     let h = end(short, b'h', 10);
     let p = end(short, b'p', 266);
     let s = end(short, b's', 7178);
@@ -28,19 +18,19 @@ pub fn ask(short: u8, cells: &[u32], times: &[i64], sizes: &[f32], bytes: &[u8])
     let e = end(short, b'e', 153610);
     let z = end(short, b'z', 65536);
     let y = end(short, b'y', 131072);
-    number_of(track::check_track(
-        &cells[..h],
-        &cells[10..p],
-        &cells[266..s],
-        &cells[7178..r],
-        &cells[8202..c],
-        &times[..t],
-        &cells[30730..g],
-        &sizes[..f],
-        &cells[129034..e],
-        &bytes[..z],
-        &bytes[65536..y],
-    ))
+    number_of(track::check_track(&Tables {
+        head: &lent.cells[..h],
+        params: &lent.cells[10..p],
+        styles: &lent.cells[266..s],
+        regions: &lent.cells[7178..r],
+        cues: &lent.cells[8202..c],
+        times: &lent.times[..t],
+        segments: &lent.cells[30730..g],
+        sizes: &lent.sizes[..f],
+        extras: &lent.cells[129034..e],
+        strings: &lent.bytes[..z],
+        texts: &lent.bytes[65536..y],
+    }))
 }
 
 // Where the table with the letter `own`, whose last cell is before n, ends as it is lent.
@@ -48,15 +38,12 @@ fn end(short: u8, own: u8, n: usize) -> usize
     requires { 0 < n }
     ensures { (n ≤ result + 1) × (result ≤ n) }
 {
-    if short == own {
-        return n - 1;
-    }
-    n
+    if short == own { n - 1 } else { n }
 }
 
-fn number_of(c: Check) -> u32 {
+fn number_of(c: Result<(), Refusal>) -> u32 {
     match c {
-        Check::Track => 0,
-        Check::Refused(r) => r.number,
+        Ok(()) => 0,
+        Err(r) => r.number,
     }
 }

@@ -2,8 +2,7 @@
 // of every kind.
 use crate::floats::float;
 use crate::tables::{
-    Bytes, CUES, Cells, EXTRAS, PARAMS, REGIONS, SEGMENTS, STYLES, Sizes, TEXTS, Times, put,
-    put_byte, put_size, put_time,
+    Bytes, CUES, Cells, EXTRAS, Lent, PARAMS, REGIONS, SEGMENTS, STYLES, Sizes, TEXTS, Times, put,
 };
 
 // Counts, xml:lang `en`, used bytes.
@@ -43,20 +42,18 @@ const SEGMENT_ROWS: [u32; 90] = [
 ];
 
 // A row written from the start of a table.
-fn fill(cells: &mut [u32], start: usize, row: &[u32]) {
-    let mut i = 0;
-    while i < row.len() {
-        put(cells, start, i, row[i]);
-        i += 1;
+fn fill<T: Copy>(cells: &mut [T], start: usize, row: &[T]) {
+    for (i, &v) in row.iter().enumerate() {
+        put(cells, start, i, v);
     }
 }
 
-fn fill_bytes(cells: &mut [u8], start: usize, row: &[u8]) {
-    let mut i = 0;
-    while i < row.len() {
-        put_byte(cells, start, i, row[i]);
-        i += 1;
-    }
+// In tables that are zero.
+pub fn build(lent: &mut Lent) {
+    build_cells(&mut lent.cells);
+    build_times(&mut lent.times);
+    build_sizes(&mut lent.sizes);
+    build_bytes(&mut lent.bytes);
 }
 
 pub fn build_cells(cells: &mut Cells) {
@@ -70,27 +67,27 @@ pub fn build_cells(cells: &mut Cells) {
 }
 
 // Times of the cues.
-pub fn build_times(times: &mut Times) {
-    put_time(times, 1, 1500000);
-    put_time(times, 2, 1500000);
-    put_time(times, 3, 4000000);
-    put_time(times, 4, -1);
-    put_time(times, 5, 9223372036854775807);
+fn build_times(times: &mut Times) {
+    times[1] = 1500000;
+    times[2] = 1500000;
+    times[3] = 4000000;
+    times[4] = -1;
+    times[5] = i64::MAX;
 }
 
 // Sizes of the styles.
-pub fn build_sizes(sizes: &mut Sizes) {
-    put_size(sizes, 0, float(2));
-    put_size(sizes, 1, float(5));
+fn build_sizes(sizes: &mut Sizes) {
+    sizes[0] = float(2);
+    sizes[1] = float(5);
 }
 
-pub fn build_bytes(bytes: &mut Bytes) {
-    fill_bytes(
+fn build_bytes(bytes: &mut Bytes) {
+    fill(
         bytes,
         0,
         b"enttp:frameRate25s0t\xC3\xAFtles0 s9Noto \xE5\xAD\x97serifr110% 80%0.5\xF0\x9F\x98\x80",
     );
-    fill_bytes(
+    fill(
         bytes,
         TEXTS,
         b"Hello w\xC3\xB6rld\xE5\xAD\x97\xE5\xB9\x95x\xF0\x9F\x98\x80",
@@ -132,20 +129,16 @@ fn put_segment(cells: &mut [u32], row: u32, i: usize, v: u32) {
 
 // Rows 0 to n - 1 are wrappers, each inside the one before.
 fn nest(cells: &mut Cells, n: u32) {
-    let mut i = 0;
-    while i < n {
+    for i in 0..n {
         put_segment(cells, i, 0, 4 + i % 4);
         put_segment(cells, i, 1, n - i);
-        i += 1;
     }
 }
 
 // Rows 3 to n - 1 are cues without segments.
 fn add_cues(cells: &mut Cells, n: u32) {
-    let mut i = 3;
-    while i < n {
+    for i in 3..n {
         put_cue(cells, i, 7, 15);
-        i += 1;
     }
 }
 
@@ -157,10 +150,8 @@ fn put_cue(cells: &mut [u32], row: u32, i: usize, v: u32) {
 
 // Rows 15 to n - 1 are breaks.
 fn add_breaks(cells: &mut Cells, n: u32) {
-    let mut i = 15;
-    while i < n {
+    for i in 15..n {
         put_segment(cells, i, 0, 2);
         put_segment(cells, i, 1, 1);
-        i += 1;
     }
 }

@@ -1,6 +1,6 @@
 // Cells picked by chance: a xorshift generator with a fixed seed.
 use crate::single::value_of;
-use crate::tables::{Bytes, Cells, Sizes, Times};
+use crate::tables::Lent;
 
 // standard output
 const STDOUT_FILENO: i32 = 1;
@@ -49,47 +49,26 @@ fn used_cell(table: u8, n: u32) -> u32 {
 // Small values more often than large ones; sizes and bytes have few.
 fn pick(table: u8, n: u32) -> u32 {
     let m = n / 4;
-    if table == b'f' {
-        return m % 18;
-    }
-    if table == b'z' {
-        return m % 256;
-    }
-    if table == b'y' {
-        return m % 256;
-    }
-    match n % 4 {
-        0 => m % 3,
-        1 => m % 20,
-        2 => m % 300,
+    match (table, n % 4) {
+        (b'f', _) => m % 18,
+        (b'z' | b'y', _) => m % 256,
+        (_, 0) => m % 3,
+        (_, 1) => m % 20,
+        (_, 2) => m % 300,
         _ => m,
     }
 }
 
 // `count` cells, one after the other.
-pub fn by_chance(
-    count: u32,
-    cells: &mut Cells,
-    times: &Times,
-    sizes: &mut Sizes,
-    bytes: &mut Bytes,
-) {
+pub fn by_chance(count: u32, lent: &mut Lent) {
     let mut state = SEED;
-    let mut left = count;
-    while 0 < left {
-        state = one_by_chance(state, cells, times, sizes, bytes);
-        left -= 1;
+    for _ in 0..count {
+        state = one_by_chance(state, lent);
     }
 }
 
 // A cell set, printed with the answer, and set back: the generator's state.
-fn one_by_chance(
-    state: u32,
-    cells: &mut Cells,
-    times: &Times,
-    sizes: &mut Sizes,
-    bytes: &mut Bytes,
-) -> u32 {
+fn one_by_chance(state: u32, lent: &mut Lent) -> u32 {
     let a = next(state);
     let b = next(a);
     let c = next(b);
@@ -97,7 +76,7 @@ fn one_by_chance(
     let cell = used_cell(table, b);
     let v = pick(table, c);
     print_change(table, cell, v);
-    let number = crate::single::one_changed(table, cell, value_of(v), cells, times, sizes, bytes);
+    let number = crate::single::one_changed(table, cell, value_of(v), lent);
     crate::words::print_answer(number);
     c
 }

@@ -22,7 +22,7 @@ mod single;
 mod tables;
 mod words;
 
-use tables::{Bytes, Cells, Sizes, Times};
+use tables::Lent;
 
 // standard input
 const STDIN_FILENO: i32 = 0;
@@ -32,29 +32,28 @@ const STDOUT_FILENO: i32 = 1;
 fn main() {
     let mut space = [0u8; 65536];
     let got = io::read_full(STDIN_FILENO, &mut space);
-    let mut cells = [0u32; 153610];
-    let mut times = [0i64; 4096];
-    let mut sizes = [0f32; 256];
-    let mut bytes = [0u8; 131072];
-    base::build_cells(&mut cells);
-    base::build_times(&mut times);
-    base::build_sizes(&mut sizes);
-    base::build_bytes(&mut bytes);
-    replay(&space[..got], &mut cells, &times, &mut sizes, &mut bytes);
+    let mut lent = Lent {
+        cells: [0; 153610],
+        times: [0; 4096],
+        sizes: [0.0; 256],
+        bytes: [0; 131072],
+    };
+    base::build(&mut lent);
+    replay(&space[..got], &mut lent);
 }
 
 // Every line of the list.
-fn replay(list: &[u8], cells: &mut Cells, times: &Times, sizes: &mut Sizes, bytes: &mut Bytes) {
+fn replay(list: &[u8], lent: &mut Lent) {
     let mut pos = 0;
     while pos < list.len() {
         let end = scan::find_byte(list, pos, b'\n');
-        told(&list[pos..end], cells, times, sizes, bytes);
+        told(&list[pos..end], lent);
         pos = end + 1;
     }
 }
 
 // One line printed with its answer; a remark has none, and a line of chance has one to a cell.
-fn told(line: &[u8], cells: &mut Cells, times: &Times, sizes: &mut Sizes, bytes: &mut Bytes) {
+fn told(line: &[u8], lent: &mut Lent) {
     io::write_all(STDOUT_FILENO, line);
     match words::first(line) {
         b'#' => {
@@ -62,15 +61,19 @@ fn told(line: &[u8], cells: &mut Cells, times: &Times, sizes: &mut Sizes, bytes:
         }
         b'x' => {
             io::write_all(STDOUT_FILENO, b"\n");
-            chance::by_chance(words::number_at(line, 2), cells, times, sizes, bytes);
+            chance::by_chance(words::number_at(line, 2), lent);
         }
-        b'l' => words::print_answer(ask::ask(words::third(line), cells, times, sizes, bytes)),
+        b'l' => words::print_answer(ask::ask(words::third(line), lent)),
         b'n' | b'q' | b'k' => {
-            base::grow(words::first(line), words::number_at(line, 2), cells);
-            words::print_answer(ask::ask(0, cells, times, sizes, bytes));
-            scan::clear(cells);
-            base::build_cells(cells);
+            base::grow(
+                words::first(line),
+                words::number_at(line, 2),
+                &mut lent.cells,
+            );
+            words::print_answer(ask::ask(0, lent));
+            scan::clear(&mut lent.cells);
+            base::build_cells(&mut lent.cells);
         }
-        _ => words::print_answer(single::changed(line, cells, times, sizes, bytes)),
+        _ => words::print_answer(single::changed(line, lent)),
     }
 }

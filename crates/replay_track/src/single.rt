@@ -1,6 +1,6 @@
 // Single cells changed, and set back.
 use crate::ask::ask;
-use crate::tables::{Bytes, Cells, Sizes, Times, place};
+use crate::tables::{Lent, place};
 
 // What a cell holds: `size` in the table of sizes, `cell` in any other.
 #[derive(Clone, Copy)]
@@ -38,13 +38,9 @@ fn exchange_byte(cells: &mut [u8], at: usize, v: Value) -> Value {
     let old = cells[at];
     cells[at] = (v.cell % 256) as u8;
     Value {
-        cell: wide(old),
+        cell: u32::from(old),
         size: 0.0,
     }
-}
-
-fn wide(b: u8) -> u32 {
-    b as u32
 }
 
 fn exchange_size(cells: &mut [f32], at: usize, v: Value) -> Value {
@@ -57,55 +53,34 @@ fn exchange_size(cells: &mut [f32], at: usize, v: Value) -> Value {
 }
 
 // A cell of the table with this letter set: what it was.
-fn exchange(
-    table: u8,
-    cell: u32,
-    v: Value,
-    cells: &mut Cells,
-    sizes: &mut Sizes,
-    bytes: &mut Bytes,
-) -> Value {
+fn exchange(table: u8, cell: u32, v: Value, lent: &mut Lent) -> Value {
     let at = place(table, cell);
     match table {
-        b'f' => exchange_size(sizes, at, v),
-        b'z' | b'y' => exchange_byte(bytes, at, v),
-        _ => exchange_cell(cells, at, v),
+        b'f' => exchange_size(&mut lent.sizes, at, v),
+        b'z' | b'y' => exchange_byte(&mut lent.bytes, at, v),
+        _ => exchange_cell(&mut lent.cells, at, v),
     }
 }
 
 // The answer where one cell is set. It is set back.
-pub fn one_changed(
-    table: u8,
-    cell: u32,
-    v: Value,
-    cells: &mut Cells,
-    times: &Times,
-    sizes: &mut Sizes,
-    bytes: &mut Bytes,
-) -> u32 {
-    let old = exchange(table, cell, v, cells, sizes, bytes);
-    let number = ask(0, cells, times, sizes, bytes);
-    exchange(table, cell, old, cells, sizes, bytes);
+pub fn one_changed(table: u8, cell: u32, v: Value, lent: &mut Lent) -> u32 {
+    let old = exchange(table, cell, v, lent);
+    let number = ask(0, lent);
+    exchange(table, cell, old, lent);
     number
 }
 
 // The answer where the cells that the line names are set, one after the other. They are set back.
-pub fn changed(
-    line: &[u8],
-    cells: &mut Cells,
-    times: &Times,
-    sizes: &mut Sizes,
-    bytes: &mut Bytes,
-) -> u32 {
+pub fn changed(line: &[u8], lent: &mut Lent) -> u32 {
     if line.len() < 5 {
-        return ask(0, cells, times, sizes, bytes);
+        return ask(0, lent);
     }
     let table = line[0];
     let cell = crate::words::number_at(line, 2);
     let v = value_of(crate::words::second_number(line));
     let rest = crate::words::after_second(line);
-    let old = exchange(table, cell, v, cells, sizes, bytes);
-    let number = changed(&line[rest..], cells, times, sizes, bytes);
-    exchange(table, cell, old, cells, sizes, bytes);
+    let old = exchange(table, cell, v, lent);
+    let number = changed(&line[rest..], lent);
+    exchange(table, cell, old, lent);
     number
 }

@@ -1,4 +1,4 @@
-// The eleven tables, in four: all cells of 32 bits, the times, the sizes, all bytes.
+// The eleven tables, in four.
 ghost use Rattle.std.specs.Prelude.{◌+◌, ◌≤◌, ◌<◌, ◌^◌};
 
 pub type Cells = [u32; 153610];
@@ -9,6 +9,15 @@ pub type Sizes = [f32; 256];
 
 // strings, texts
 pub type Bytes = [u8; 131072];
+
+// All cells of 32 bits, the times, the sizes, all bytes: what is lent to `check_track`.
+#[derive(Drop)]
+pub struct Lent {
+    pub cells: Cells,
+    pub times: Times,
+    pub sizes: Sizes,
+    pub bytes: Bytes,
+}
 
 pub const PARAMS: usize = 10;
 
@@ -44,30 +53,9 @@ pub fn place(table: u8, cell: u32) -> usize {
     start(table) + cell as usize
 }
 
-pub fn put(cells: &mut [u32], start: usize, i: usize, v: u32) {
-    if start < cells.len() {
-        if i < cells.len() - start {
-            cells[start + i] = v;
-        }
-    }
-}
-
-pub fn put_byte(cells: &mut [u8], start: usize, i: usize, v: u8) {
-    if start < cells.len() {
-        if i < cells.len() - start {
-            cells[start + i] = v;
-        }
-    }
-}
-
-pub fn put_time(cells: &mut [i64], at: usize, v: i64) {
-    if at < cells.len() {
-        cells[at] = v;
-    }
-}
-
-pub fn put_size(cells: &mut [f32], at: usize, v: f32) {
-    if at < cells.len() {
-        cells[at] = v;
+// A cell set, if there is such a cell.
+pub fn put<T: Copy>(cells: &mut [T], start: usize, i: usize, v: T) {
+    if start < cells.len() && i < cells.len() - start {
+        cells[start + i] = v;
     }
 }

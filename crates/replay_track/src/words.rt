@@ -1,24 +1,24 @@
 // The words of a line, which single blanks divide.
 ghost use Rattle.std.specs.Prelude.{◌≤◌, ◌<◌, length};
 
-use numerals::Numeral;
+use numerals::Whole;
 
 // standard output
 const STDOUT_FILENO: i32 = 1;
 
 // The line's first byte and its third, or 0.
 pub fn first(line: &[u8]) -> u8 {
-    if line.len() < 1 {
-        return 0;
+    match line {
+        [b, ..] => *b,
+        [] => 0,
     }
-    line[0]
 }
 
 pub fn third(line: &[u8]) -> u8 {
-    if line.len() < 3 {
-        return 0;
+    match line {
+        [_, _, b, ..] => *b,
+        _ => 0,
     }
-    line[2]
 }
 
 // Where the word that begins at a place ends.
@@ -37,33 +37,21 @@ pub fn number_at(line: &[u8], from: usize) -> u32 {
     if end < from {
         return 0;
     }
-    if line.len() < end {
-        return 0;
-    }
     number_of(numerals::read_numeral(&line[from..end], 10, 4294967295, false))
 }
 
-fn number_of(n: Numeral) -> u32 {
-    match n {
-        Numeral::Is(w) => small(w.magnitude),
-        Numeral::Nothing => 0,
-    }
-}
-
-fn small(n: u64) -> u32 {
-    if 4294967295 < n {
-        return 0;
-    }
-    n as u32
+fn number_of(n: Option<Whole>) -> u32 {
+    n.map_or(0, |w| u32::try_from(w.magnitude).unwrap_or(0))
 }
 
 // The second number of words `T CELL VALUE`.
 pub fn second_number(line: &[u8]) -> u32 {
     let end = word_end(line, 2);
     if end < line.len() {
-        return number_at(line, end + 1);
+        number_at(line, end + 1)
+    } else {
+        0
     }
-    0
 }
 
 // Where the words after these begin, or the line's end.

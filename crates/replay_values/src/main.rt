@@ -16,11 +16,10 @@
 // that number as one byte.
 ghost use Rattle.std.specs.Prelude.{◌+◌, ◌^◌, ◌<◌};
 
-use colors::{Color, Rgba};
-use decimals::{Decimal, Size};
+use colors::{ColorError, Rgba};
+use decimals::{DecimalError, Size};
 use replaying::Tally;
-use scan::Written;
-use times::{Time, TimingCtx};
+use times::{TimeError, TimingCtx};
 
 // standard input
 const STDIN_FILENO: i32 = 0;
@@ -48,10 +47,7 @@ fn agrees(line: &[u8]) -> bool {
     let mut given = [0u8; 512];
     let mut told = [0u8; 512];
     let fields = replaying::read_line(line, &mut given, &mut told);
-    if fields.whole {
-        return tells(fields.kind, &given[..fields.given], &told[..fields.told]);
-    }
-    false
+    fields.whole && tells(fields.kind, &given[..fields.given], &told[..fields.told])
 }
 
 // Is what was told what the libraries answer?
@@ -68,117 +64,85 @@ fn tells(kind: u8, given: &[u8], told: &[u8]) -> bool {
 
 // Is it this one byte?
 fn is_one(told: &[u8], b: u8) -> bool {
-    if told.len() == 1 {
-        return told[0] == b;
-    }
-    false
+    told == [b].as_slice()
 }
 
 // Is it the 8 bytes of this number?
 fn is_eight(told: &[u8], n: u64) -> bool {
-    if told.len() == 8 {
-        return number(told, 0) == n;
-    }
-    false
+    told == n.to_be_bytes().as_slice()
 }
 
 // Is it what was written at the start of a table?
-fn is_written(told: &[u8], out: &[u8], w: Written) -> bool {
+fn is_written(told: &[u8], out: &[u8], w: Option<usize>) -> bool {
     match w {
-        Written::At(n) => is_start(told, out, n),
-        Written::Full => false,
+        Some(n) => n <= out.len() && told == &out[..n],
+        None => false,
     }
-}
-
-fn is_start(told: &[u8], out: &[u8], n: usize) -> bool {
-    if out.len() < n {
-        return false;
-    }
-    scan::same(told, &out[..n])
 }
 
 // The byte at a place, or 0 past the end.
 fn byte(bytes: &[u8], at: usize) -> u8 {
-    if at < bytes.len() {
-        return bytes[at];
-    }
-    0
+    if at < bytes.len() { bytes[at] } else { 0 }
 }
 
-// The number of 2 bytes, of 4 and of 8.
-fn quarter(bytes: &[u8], at: usize) -> u64
-    requires { at + 2 < 2 ^ 63 }
-    ensures { result < 2 ^ 16 }
-{
-    let high = byte(bytes, at);
-    let low = byte(bytes, at + 1);
-    high as u64 * 256 + low as u64
+// The number of the first 4 bytes, and of 8.
+fn half(bytes: &[u8]) -> u32 {
+    u32::from_be_bytes([
+        byte(bytes, 0),
+        byte(bytes, 1),
+        byte(bytes, 2),
+        byte(bytes, 3),
+    ])
 }
 
-fn half(bytes: &[u8], at: usize) -> u64
-    requires { at + 4 < 2 ^ 63 }
-    ensures { result < 2 ^ 32 }
-{
-    let high = quarter(bytes, at);
-    let low = quarter(bytes, at + 2);
-    high * 65536 + low
-}
-
-fn number(bytes: &[u8], at: usize) -> u64
+fn eight(bytes: &[u8], at: usize) -> [u8; 8]
     requires { at + 8 < 2 ^ 63 }
 {
-    let high = half(bytes, at);
-    let low = half(bytes, at + 4);
-    high * 0x1_0000_0000 + low
-}
-
-// The i64 of a pattern of bits.
-fn signed(bits: u64) -> i64 {
-    if bits < 0x8000_0000_0000_0000 {
-        return bits as i64;
-    }
-    -1 - ((0xFFFF_FFFF_FFFF_FFFF - bits) as i64)
+    [
+        byte(bytes, at),
+        byte(bytes, at + 1),
+        byte(bytes, at + 2),
+        byte(bytes, at + 3),
+        byte(bytes, at + 4),
+        byte(bytes, at + 5),
+        byte(bytes, at + 6),
+        byte(bytes, at + 7),
+    ]
 }
 
 fn tells_float(text: &[u8], told: &[u8]) -> bool {
     match decimals::read_decimal(text, 15, 22) {
-        Decimal::Is(d) => is_eight(told, f64::to_bits(decimals::to_f64(d))),
-        Decimal::Nothing => told.len() == 0,
-        Decimal::Beyond => is_one(told, 14),
+        Ok(d) => is_eight(told, f64::to_bits(decimals::to_f64(d))),
+        Err(DecimalError::Invalid) => told.is_empty(),
+        Err(DecimalError::Beyond) => is_one(told, 14),
     }
 }
 
 fn tells_size(text: &[u8], told: &[u8]) -> bool {
     match decimals::read_decimal(text, 6, 10) {
-        Decimal::Is(d) => is_size(told, decimals::size_of(d)),
-        Decimal::Nothing => told.len() == 0,
-        Decimal::Beyond => is_one(told, 14),
+        Ok(d) => is_size(told, decimals::size_of(d)),
+        Err(DecimalError::Invalid) => told.is_empty(),
+        Err(DecimalError::Beyond) => is_one(told, 14),
     }
 }
 
 // What `is_size` of the library does not take as a size answers no bytes.
 fn is_size(told: &[u8], size: Size) -> bool {
     if decimals::is_size(size) {
-        return is_value(told, size.value) && is_spelling(told, size);
+        is_value(told, size.value) && is_spelling(told, size)
+    } else {
+        told.is_empty()
     }
-    told.len() == 0
 }
 
 // Are the first 4 bytes those of this float?
 fn is_value(told: &[u8], value: f32) -> bool {
-    if value != value {
-        return false;
-    }
-    let bits = half(told, 0) as u32;
-    f32::to_bits(value) == bits
+    !value.is_nan() && value.to_bits() == half(told)
 }
 
 // Are the bytes behind those 4 the spelling?
 fn is_spelling(told: &[u8], size: Size) -> bool {
-    if told.len() < 4 {
-        return false;
-    }
-    if 10 < size.scale {
+    if told.len() < 4 || 10 < size.scale {
         return false;
     }
     let mut out = [0u8; 64];
@@ -190,7 +154,7 @@ fn is_spelling(told: &[u8], size: Size) -> bool {
 fn rate(given: &[u8], at: usize) -> f64
     requires { at + 8 < 2 ^ 63 }
 {
-    let bits = number(given, at);
+    let bits = u64::from_be_bytes(eight(given, at));
     if 0x7FF0_0000_0000_0000 < bits % 0x8000_0000_0000_0000 {
         return 0.0;
     }
@@ -220,26 +184,23 @@ fn frame_rate(frames: f64) -> TimingCtx {
     TimingCtx {
         frame_rate: frames,
         has_frame_rate: true,
-        tick_rate: 0.0,
-        has_tick_rate: false,
+        ..no_rates()
     }
 }
 
 fn tick_rate(ticks: f64) -> TimingCtx {
     TimingCtx {
-        frame_rate: 0.0,
-        has_frame_rate: false,
         tick_rate: ticks,
         has_tick_rate: true,
+        ..no_rates()
     }
 }
 
 fn both_rates(frames: f64, ticks: f64) -> TimingCtx {
     TimingCtx {
-        frame_rate: frames,
-        has_frame_rate: true,
         tick_rate: ticks,
         has_tick_rate: true,
+        ..frame_rate(frames)
     }
 }
 
@@ -248,40 +209,36 @@ fn tells_timed(given: &[u8], start: usize, ctx: TimingCtx, told: &[u8]) -> bool 
         return false;
     }
     match times::parse_ttml_time(&given[start..], ctx) {
-        Time::Is(us) => is_time(told, us),
-        Time::Nothing => told.len() == 0,
-        Time::Beyond => is_one(told, 14),
-        Time::LongFraction => is_one(told, 15),
-        Time::Overflow => is_one(told, 16),
+        Ok(us) => is_time(told, us),
+        Err(TimeError::Invalid) => told.is_empty(),
+        Err(TimeError::Beyond) => is_one(told, 14),
+        Err(TimeError::LongFraction) => is_one(told, 15),
+        Err(TimeError::Overflow) => is_one(told, 16),
     }
 }
 
 // Is it the 8 bytes of this time?
 fn is_time(told: &[u8], us: i64) -> bool {
-    if told.len() == 8 {
-        return signed(number(told, 0)) == us;
-    }
-    false
+    told == us.to_be_bytes().as_slice()
 }
 
 fn tells_clock(given: &[u8], told: &[u8]) -> bool {
     let mut out = [0u8; 64];
-    let w = times::format_ts(&mut out, 0, signed(number(given, 0)));
+    let w = times::format_ts(&mut out, 0, i64::from_be_bytes(eight(given, 0)));
     is_written(told, &out, w)
 }
 
 fn tells_color(text: &[u8], told: &[u8]) -> bool {
     match colors::parse_ttml_color_rgba(text) {
-        Color::Is(c) => is_color(told, c),
-        Color::Nothing => told.len() == 0,
-        Color::Cut => is_one(told, 15),
+        Ok(c) => is_color(told, c),
+        Err(ColorError::Invalid) => told.is_empty(),
+        Err(ColorError::Cut) => is_one(told, 15),
     }
 }
 
 // Is it the 4 bytes of this colour?
 fn is_color(told: &[u8], c: Rgba) -> bool {
-    let bytes = [c.r, c.g, c.b, c.a];
-    scan::same(told, &bytes)
+    told == [c.r, c.g, c.b, c.a].as_slice()
 }
 
 fn tells_color_text(given: &[u8], told: &[u8]) -> bool {
@@ -291,20 +248,11 @@ fn tells_color_text(given: &[u8], told: &[u8]) -> bool {
         b: byte(given, 2),
         a: byte(given, 3),
     };
-    if given.len() == 4 {
-        return tells_rgba(told, c);
-    }
-    tells_rgb(told, c)
-}
-
-fn tells_rgba(told: &[u8], c: Rgba) -> bool {
     let mut out = [0u8; 64];
-    let w = colors::append_rgba(&mut out, 0, c);
-    is_written(told, &out, w)
-}
-
-fn tells_rgb(told: &[u8], c: Rgba) -> bool {
-    let mut out = [0u8; 64];
-    let w = colors::append_rgb(&mut out, 0, c);
+    let w = if given.len() == 4 {
+        colors::append_rgba(&mut out, 0, c)
+    } else {
+        colors::append_rgb(&mut out, 0, c)
+    };
     is_written(told, &out, w)
 }

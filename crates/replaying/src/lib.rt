@@ -2,7 +2,7 @@
 // What the programs that replay recorded answers of the Rust have in common: a line read, and lines
 // counted. A line is a kind, the bytes that were given and the bytes that the Rust answered, in
 // hexadecimal, `-` for none.
-ghost use Rattle.std.specs.Prelude.{◌≡◌, ◌+◌, ◌^◌, ◌≤◌, ◌<◌, length};
+ghost use Rattle.std.specs.Prelude.{IfSome, ◌≡◌, ◌+◌, ◌^◌, ◌≤◌, ◌<◌, length};
 
 // standard output
 const STDOUT_FILENO: i32 = 1;
@@ -37,23 +37,20 @@ pub fn counted(tally: Tally, line: &[u8], agrees: bool) -> Tally
     requires { tally.agree + tally.differ < 2 ^ 63 }
     ensures { result.agree + result.differ ≤ tally.agree + tally.differ + 1 }
 {
-    if line.len() == 0 {
-        return tally;
-    }
-    if line[0] == b'#' {
+    if matches!(line, [] | [b'#', ..]) {
         return tally;
     }
     if agrees {
         return Tally {
             agree: tally.agree + 1,
-            differ: tally.differ,
+            ..tally
         };
     }
     io::write_all(STDOUT_FILENO, line);
     io::write_all(STDOUT_FILENO, b"\n");
     Tally {
-        agree: tally.agree,
         differ: tally.differ + 1,
+        ..tally
     }
 }
 
@@ -68,10 +65,7 @@ pub fn print_tally(tally: Tally) {
 pub fn read_line(line: &[u8], given: &mut [u8], told: &mut [u8]) -> Line
     ensures { (result.given ≤ length given.old) × (result.told ≤ length told.old) }
 {
-    if line.len() < 4 {
-        return no_line();
-    }
-    if 1024 < line.len() {
+    if !(4..=1024).contains(&line.len()) {
         return no_line();
     }
     let gap = scan::find_byte(line, 2, b' ');
@@ -103,33 +97,26 @@ fn no_line() -> Line
 pub fn unhex(field: &[u8], out: &mut [u8]) -> usize
     ensures { result ≤ length out.old }
 {
-    let mut n = 0;
-    while n < out.len() {
-        let i = 2 * n;
-        if field.len() <= i + 1 {
+    let most = out.len().min(field.len() / 2);
+    for n in 0..most {
+        let Some(high) = nibble(field[2 * n]) else {
             return n;
-        }
-        let high = nibble(field[i]);
-        let low = nibble(field[i + 1]);
-        if 15 < high {
+        };
+        let Some(low) = nibble(field[2 * n + 1]) else {
             return n;
-        }
-        if 15 < low {
-            return n;
-        }
+        };
         out[n] = high * 16 + low;
-        n += 1;
     }
-    n
+    most
 }
 
-// A hexadecimal digit's value, or 16.
-fn nibble(b: u8) -> u8
-    ensures { result ≤ 16 }
+// A hexadecimal digit's value; `char::to_digit` takes capitals too.
+fn nibble(b: u8) -> Option<u8>
+    ensures { IfSome result (λ x. x < 16) }
 {
     match b {
-        b'0'..=b'9' => b - 48,
-        b'a'..=b'f' => b - 87,
-        _ => 16,
+        b'0'..=b'9' => Some(b - b'0'),
+        b'a'..=b'f' => Some(b - b'a' + 10),
+        _ => None,
     }
 }

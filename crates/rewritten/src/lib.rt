@@ -1,41 +1,22 @@
 #![tactic(auto)]
 // A text read and written anew.
-ghost use Rattle.track.specs.Tables as track;
+ghost use Rattle.track.specs.Handed.{lists};
 ghost use Rattle.promised.specs.Promise.{tables};
 ghost use Rattle.rewritten.specs.Recaption.{ThenWritten, Recaptioned};
 
-use writer::Answer;
+use track::Tables;
+use tree::Refusal;
 
 // After the text was read: its track written to `out`; or the reader's number and place, and nothing is written.
-fn write_read(
-    read: promised::Answer,
-    head: &[u32],
-    params: &[u32],
-    styles: &[u32],
-    regions: &[u32],
-    cues: &[u32],
-    times: &[i64],
-    segments: &[u32],
-    sizes: &[f32],
-    extras: &[u32],
-    strings: &[u8],
-    texts: &[u8],
-    out: &mut [u8],
-) -> Answer
-    ensures { ThenWritten read
-        (track.tables head.now params.now styles.now regions.now cues.now times.now
-        segments.now sizes.now extras.now strings.now texts.now)
-        out.old result out.new }
+fn write_read(read: Result<(), Refusal>, t: &Tables<'_>, out: &mut [u8]) -> Result<usize, Refusal>
+    ensures { ThenWritten read (lists t.now) out.old result out.new }
 {
     match read {
-        promised::Answer::Refused(r) => {
+        Err(r) => {
             scan::clear_bytes(out);
-            Answer::Refused(r)
+            Err(r)
         }
-        promised::Answer::Track => document::write(
-            head, params, styles, regions, cues, times, segments, sizes, extras, strings, texts,
-            out,
-        ),
+        Ok(()) => document::write(t, out),
     }
 }
 
@@ -56,7 +37,7 @@ pub fn recaption(
     strings: &mut [u8],
     texts: &mut [u8],
     out: &mut [u8],
-) -> Answer
+) -> Result<usize, Refusal>
     ensures { Recaptioned text.now
         (tables nodes.old attrs.old head.old params.old styles.old regions.old
         cues.old times.old segments.old sizes.old extras.old strings.old
@@ -71,8 +52,18 @@ pub fn recaption(
         text, nodes, attrs, head, params, styles, regions, cues, times, segments, sizes, extras,
         strings, texts,
     );
-    write_read(
-        read, head, params, styles, regions, cues, times, segments, sizes, extras, strings, texts,
-        out,
-    )
+    let t = Tables {
+        head,
+        params,
+        styles,
+        regions,
+        cues,
+        times,
+        segments,
+        sizes,
+        extras,
+        strings,
+        texts,
+    };
+    write_read(read, &t, out)
 }

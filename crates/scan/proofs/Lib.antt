@@ -7,3 +7,4 @@ pub mod Naming
 pub mod Stores
 pub mod Rows
 pub mod Splits
+pub mod Handed

@@ -1,20 +1,28 @@
 -- Laws of names. Assumes nothing.
 --     agree                   two strings agree once f is applied to each byte: same_bytes_of and same_folded are two cases of it
---     agree_off, agree_on, agree_out, agree_lengths   how they agree from their i-th byte on
+--     agree_lengths           two of unlike lengths do not
+--     same_pointwise          what std's test of two strings tells
 --     same_eq, same_refl, folded_map, map_folded, same_folded-refl, same_folded-sym
 --     lower-capital, lower-below, lower-above   the fold of one byte
---     last_here, last_on, last_none   the search for the last colon, from the right
+--     folded_told             what std's test of two folded strings tells
+--     after_last, after_first   the part after the last colon, and after the first, by a search
 --     first-colon                     the part after the first
-use Prim.Native.Nat.{ℕ, zero, suc, ◌+◌, ◌-◌, ◌≤◌, ◌<◌}
+use Prim.Native.Nat.{ℕ, zero, suc, ◌+◌, ◌≤◌, ◌<◌}
 use mathlib.Core.Path.{◌≡◌, refl, sym, ap, ◌∙◌}
 use mathlib.Core.Bool.{Bool, true, false, cond, ◌&&◌, and-false, false≢true, true≢false}
 use mathlib.Core.List.{List, [], ◌∷◌, map, map-id}
+use mathlib.Core.Logic.{◌↔◌}
 use native.Mathlib.Omega.{arith}
 use native.Mathlib.Numerals.{add-one}
-use lib.ListN.{length, get_or, drop, drop_of_length-le}
-use lib.Seq.{drop-cons}
+use lib.ListN.{length, get_or, drop, length-drop, drop_of_length-le}
+use lib.Seq.{drop-cons, get_or-drop}
 use lib.Dec.{eqb}
+use lib.Pointwise.{pointwise}
 use borrow.Author.Tests.{eq-eqb, ne_eqb, eqb-true, le-leb, lt-leb, not-true, not-false}
+use Rattle.std.specs.Prelude.{Option, Some, None, nat_eq, IsTrue, MatchOption}
+use Rattle.std.specs.Char.{to_ascii_lowercase}
+use Rattle.std.proofs.lemmas.Bool.Decides.{nat_tests, same_from_decides}
+use Rattle.std.proofs.lemmas.Str.Ascii.{lowercase_is}
 use Rattle.scan.specs.Bytes.{other, run_end_of}
 use Rattle.scan.specs.Names.{lower, same_bytes_of, same_folded, has_colon, after_last_colon, past_colon, after_first_colon, PartFrom}
 use Rattle.scan.proofs.Runs.{run-ind}
@@ -50,21 +58,6 @@ module _ (f : ℕ → ℕ) where
   agree_lengths (x ∷ a) [] h = refl
   agree_lengths (x ∷ a) (y ∷ b) h = rw (agree_lengths a b (λ e. h (ap suc e)), and-false)
 
-  -- the bytes of both from a place on
-  module _ (a b : List ℕ) (i : ℕ) where
-    pub agree_out : length a ≤ i → length b ≤ i → agree f (drop i a) (drop i b) ≡ true
-    unfolding agree
-    agree_out h g = rw (drop_of_length-le a h, drop_of_length-le b g)
-
-    pub agree_off : i < length a → i < length b → (f (get_or a i 0) ≡ f (get_or b i 0) → ⊥) → agree f (drop i a) (drop i b) ≡ false
-    unfolding agree
-    agree_off h g e = rw (drop-cons a i 0 h, drop-cons b i 0 g, ne_eqb (f (get_or a i 0)) (f (get_or b i 0)) e)
-
-    pub agree_on : i < length a → i < length b → f (get_or a i 0) ≡ f (get_or b i 0)
-        → agree f (drop i a) (drop i b) ≡ agree f (drop (i + 1) a) (drop (i + 1) b)
-    unfolding agree
-    agree_on h g e = rw (add-one i, drop-cons a i 0 h, drop-cons b i 0 g, eq-eqb (f (get_or a i 0)) (f (get_or b i 0)) e)
-
   pub agree_map : (a b : List ℕ) → agree f a b ≡ true → map f a ≡ map f b
   unfolding agree
   agree_map [] [] h = refl
@@ -85,6 +78,21 @@ module _ (f : ℕ → ℕ) where
       let e : f x ≡ f y = cc in
       let g : map f a ≡ map f b = cc in
       rw (eq-eqb (f x) (f y) e) (map_agree a b g)
+
+  -- the bytes of both from a place on
+  module _ (a b : List ℕ) (i : ℕ) where
+    pub agree_out : length a ≤ i → length b ≤ i → agree f (drop i a) (drop i b) ≡ true
+    unfolding agree
+    agree_out h g = rw (drop_of_length-le a h, drop_of_length-le b g)
+
+    pub agree_off : i < length a → i < length b → (f (get_or a i 0) ≡ f (get_or b i 0) → ⊥) → agree f (drop i a) (drop i b) ≡ false
+    unfolding agree
+    agree_off h g e = rw (drop-cons a i 0 h, drop-cons b i 0 g, ne_eqb (f (get_or a i 0)) (f (get_or b i 0)) e)
+
+    pub agree_on : i < length a → i < length b → f (get_or a i 0) ≡ f (get_or b i 0)
+        → agree f (drop i a) (drop i b) ≡ agree f (drop (i + 1) a) (drop (i + 1) b)
+    unfolding agree
+    agree_on h g e = rw (add-one i, drop-cons a i 0 h, drop-cons b i 0 g, eq-eqb (f (get_or a i 0)) (f (get_or b i 0)) e)
 
 pub same_eq : (a b : List ℕ) → same_bytes_of a b ≡ true → a ≡ b
 same_eq a b h = sym (map-id a) ∙ agree_map itself a b (sym (same_agree a b) ∙ h) ∙ map-id b
@@ -119,14 +127,10 @@ module _ (b : ℕ) where
   lower-above h = rw (lt-leb b 90 h, and-false)
 
 -- ---- colons
-module _ (s : List ℕ) (i : ℕ) where
-  pub colon_out : length s ≤ i → has_colon (drop i s) ≡ false
-  unfolding has_colon
-  colon_out h = rw (drop_of_length-le s h)
-
-  pub colon_on : i < length s → (get_or s i 0 ≡ 58 → ⊥) → has_colon (drop i s) ≡ has_colon (drop (suc i) s)
-  unfolding has_colon
-  colon_on h e = rw (drop-cons s i 0 h, ne_eqb (get_or s i 0) 58 e)
+has-none : (s : List ℕ) → ((k : ℕ) → k < length s → get_or s k 0 ≡ 58 → ⊥) → has_colon s ≡ false
+unfolding has_colon
+has-none [] n = refl
+has-none (b ∷ s) n = rw (ne_eqb b 58 (n 0 (omega arith))) (has-none s (λ k h. n (suc k) (omega arith)))
 
 colon_at : (s : List ℕ) (i : ℕ) → i < length s → get_or s i 0 ≡ 58 → has_colon s ≡ true
 unfolding has_colon
@@ -154,22 +158,33 @@ no_colon (b ∷ s) n = by (eqb b 58) refl
     by true e = absurd (true≢false (rw e at n))
     by false e = let m : has_colon s ≡ false = rw e at n in rw (m, e)
 
-module _ (s : List ℕ) (i : ℕ) where
-  pub last_here : 0 < i → i ≤ length s → get_or s (i - 1) 0 ≡ 58 → has_colon (drop i s) ≡ false → PartFrom s i (after_last_colon s)
-  last_here h l e n =
-      let z : suc (i - 1) ≡ i = omega arith in
-      let m : has_colon (drop (suc (i - 1)) s) ≡ false = rw z n in
-      record { within = l; is = sym (after-colon s (i - 1) (omega arith) e m ∙ rw z) }
+-- what stands after the last colon: after the place that a search from the right finds, if it finds one
+pub after_last : (s : List ℕ) (found : Option ℕ) → (found ≡ None → (k : ℕ) → k < length s → get_or s k 0 ≡ 58 → ⊥)
+    → ((i : ℕ) → found ≡ Some i → (i < length s) × (get_or s i 0 ≡ 58) × ((k : ℕ) → i < k → k < length s → get_or s k 0 ≡ 58 → ⊥))
+    → MatchOption found (PartFrom s 0 (after_last_colon s)) (λ i. PartFrom s (i + 1) (after_last_colon s))
+after_last s None n h = record { within = omega arith; is = sym (no_colon s (has-none s (n refl))) }
+after_last s (Some i) n h =
+    let here = h i refl in
+    let none : has_colon (drop (suc i) s) ≡ false =
+    has-none (drop (suc i) s)
+    (λ k l w. here.2 (suc i + k) (omega arith) (omega (arith, length-drop (suc i) s)) (sym (get_or-drop (suc i) s k 0) ∙ w)) in
+    record { within = omega (arith, here.0); is = rw (add-one i) (sym (after-colon s i here.0 here.1 none)) }
 
-  pub last_on : 0 < i → i ≤ length s → (get_or s (i - 1) 0 ≡ 58 → ⊥) → has_colon (drop i s) ≡ false → has_colon (drop (i - 1) s) ≡ false
-  last_on h l e n =
-      let z : suc (i - 1) ≡ i = omega arith in
-      colon_on s (i - 1) (omega arith) e ∙ rw z n
-
-  pub last_none : i ≤ 0 → has_colon (drop i s) ≡ false → PartFrom s 0 (after_last_colon s)
-  last_none h n =
-      let z : i ≡ 0 = omega arith in
-      record { within = omega arith; is = sym (no_colon s (rw z at n)) }
+-- and after the first: the same by a search from the left
+pub after_first : (s : List ℕ) (found : Option ℕ) → (found ≡ None → (k : ℕ) → k < length s → get_or s k 0 ≡ 58 → ⊥)
+    → ((i : ℕ) → found ≡ Some i → (i < length s) × (get_or s i 0 ≡ 58) × ((k : ℕ) → k < i → get_or s k 0 ≡ 58 → ⊥))
+    → MatchOption found (PartFrom s 0 (after_first_colon s)) (λ i. PartFrom s (i + 1) (after_first_colon s))
+unfolding after_first_colon past_colon
+after_first s None n h = record { within = omega arith; is = rw (has-none s (n refl)) }
+after_first s (Some i) n h =
+    let here = h i refl in
+    let past : past_colon s ≡ drop (suc i) s = past-first s i here.0 here.1 here.2 in
+    record { within = omega (arith, here.0); is = rw (colon_at s i here.0 here.1, add-one i) (sym past) }
+  where
+    past-first : (s : List ℕ) (i : ℕ) → i < length s → get_or s i 0 ≡ 58 → ((k : ℕ) → k < i → get_or s k 0 ≡ 58 → ⊥) → past_colon s ≡ drop (suc i) s
+    past-first [] i l e n = absurd (omega arith)
+    past-first (b ∷ s) zero l e n = rw (eq-eqb b 58 e)
+    past-first (b ∷ s) (suc i) l e n = rw (ne_eqb b 58 (n 0 (omega arith))) (past-first s i (omega arith) e (λ k h. n (suc k) (omega arith)))
 
 -- where the bytes other than a colon end, and the first colon stands
 pub record FirstColon (s : List ℕ) (r : ℕ) : Type 0 where

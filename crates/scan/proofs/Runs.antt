@@ -7,9 +7,9 @@
 --     run-ind                        what each byte that passes keeps holds where the run ends
 --     run_turn, run-loop              a run as a loop
 --     run-low, run-high, run-stops, run-all   what follows for every run
---     passes-as, passes-more, run-over, skips_one, skips_more   bytes that all pass are passed over at once
+--     passes-as, passes_more, run-over, skips_one, skips_more   bytes that all pass are passed over at once
 --     run_length                     a run as the length of a beginning
---     ends-here, ends-out, ends-skipped, ends_on   what a loop over bytes ensures where it ends
+--     ends-here, ends-out, ends-skipped, ends_whole, ends_on   what a loop over bytes ensures where it ends
 use Prim.Native.Nat.{ℕ, zero, suc, ◌+◌, ◌-◌, ◌≤◌, ◌<◌}
 use mathlib.Core.Path.{◌≡◌, refl, sym, subst⁻¹, ◌∙◌}
 use mathlib.Core.Bool.{Bool, true, false, cond, ◌&&◌, true≢false}
@@ -24,6 +24,7 @@ use borrow.Author.Tests.{eqb-true, eqb-false, ne_eqb, le-leb, lt-leb, leb-true, 
 use Rattle.scan.specs.Loop.{Next, halt, more, loop}
 use Rattle.scan.specs.Bytes.{blank, text_byte, name_byte, attr_name_byte, digit_byte, run_end_of, run_length_of}
 use Rattle.scan.specs.Posts.{Ends, Passes, Skips}
+use Rattle.scan.proofs.Every.{by-test}
 use Rattle.scan.proofs.Loop.{loop-out, loop-halt, loop-more}
 
 -- ---- a byte's class
@@ -211,8 +212,8 @@ run_length t s p l = refl
 pub passes-as : (t u : ℕ → Bool) (s : List ℕ) (p e : ℕ) → ((b : ℕ) → t b ≡ true → u b ≡ true) → Passes t s p e → Passes u s p e
 passes-as t u s p e f w k l h = f (get_or s k 0) (w k l h)
 
-pub passes-more : (t : ℕ → Bool) (s : List ℕ) (p e e' : ℕ) → e' ≡ e + 1 → Passes t s p e → t (get_or s e 0) ≡ true → Passes t s p e'
-passes-more t s p e e' w b g k l h = by (eqb k e) refl
+pub passes_more : (t : ℕ → Bool) (s : List ℕ) (p e e' : ℕ) → e' ≡ e + 1 → Passes t s p e → t (get_or s e 0) ≡ true → Passes t s p e'
+passes_more t s p e e' w b g k l h = by (eqb k e) refl
   where
     by : (x : Bool) → eqb k e ≡ x → t (get_or s k 0) ≡ true
     by true z = rw (eqb-true k e z) g
@@ -240,6 +241,10 @@ module _ (t : ℕ → Bool) (s : List ℕ) (p i : ℕ) (l : p ≤ i) (w : run_en
 module _ (t : ℕ → Bool) (s : List ℕ) (p i : ℕ) (k : Skips t s p i) where
   pub ends-skipped : i < length s → t (get_or s i 0) ≡ false → Ends t s p i
   ends-skipped = ends-here t s p i k.after k.same
+
+  pub ends_whole : (i < length s → Ends t s p i) → Ends t s p i
+  ends_whole e =
+      by-test (ltb i (length s)) (λ l. e (ltb-true i (length s) l)) (λ l. ends-out t s p i k.after k.same k.within (ltb-false i (length s) l))
 
   pub ends_on : (r : ℕ) → Ends t s i r → Ends t s p r
   ends_on r e = record { is = e.is ∙ sym k.same; after = omega (arith, k.after, e.after); within = e.within; stops = e.stops }

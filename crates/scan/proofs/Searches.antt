@@ -5,13 +5,16 @@ use mathlib.Core.Bool.{Bool, true, false, false≢true}
 use mathlib.Core.List.{List, [], ◌∷◌}
 use native.Mathlib.Omega.{arith}
 use native.Mathlib.Numerals.{add-one}
-use lib.ListN.{length, get_or, drop, length-drop, drop_of_length-le}
+use lib.ListN.{length, get_or, take, drop, length-drop, drop_of_length-le}
 use lib.Seq.{drop-cons, get_or-drop}
 use lib.Dec.{eqb, ltb}
+use lib.Pointwise.{pointwise}
 use borrow.Author.Tests.{lt-ltb, le-ltb, ltb-true, ltb-false, eq-eqb, ne_eqb, eqb-true, eqb-false, not-true}
+use Rattle.std.specs.Prelude.{nat_eq}
 use Rattle.scan.specs.Bytes.{other, run_end_of}
 use Rattle.scan.specs.Marks.{starts_at, seek, past}
-use Rattle.scan.specs.Posts.{Ends, Found, Passed}
+use Rattle.scan.specs.Posts.{Ends, Marked, Found, Passed}
+use Rattle.scan.proofs.Every.{by-test}
 use Rattle.scan.proofs.Runs.{upward, run-all}
 
 -- ---- a mark at i, from its j-th byte on
@@ -131,6 +134,26 @@ module _ (s m : List ℕ) (j n : ℕ) (h : n < length m) where
       by : (x : Bool) → starts_at s j m ≡ x → starts_at s j m ≡ false
       by true e = let f = (stands e).0 in absurd (omega arith)
       by false e = e
+
+-- a mark at p, as the bytes there compare with it
+begins : (s m : List ℕ) (p : ℕ) → pointwise nat_eq (take (length m) (drop p s)) m ≡ starts_at s p m
+unfolding starts_at
+begins s [] p = refl
+begins s (b ∷ m) p =
+    by-test (ltb p (length s))
+    (λ t.
+    let l = ltb-true p (length s) t in
+    rw (lt-ltb p (length s) l, drop-cons s p 0 l, begins s m (suc p), add-one p) (by-test (eqb (get_or s p 0) b) (λ e. rw e) (λ e. rw e)))
+    (λ t. let l = ltb-false p (length s) t in rw (le-ltb p (length s) l, drop_of_length-le s l))
+
+pub marked : (s m : List ℕ) (p : ℕ) (r : Bool) → p ≤ length s → length m ≤ length s - p → r ≡ pointwise nat_eq (take (p + length m - p) (drop p s)) m
+    → Marked m s p r
+marked s m p r h l e =
+    let long : p + length m - p ≡ length m = omega arith in
+    record { is = rw long at e ∙ begins s m p; whole = λ t. omega arith }
+
+pub unmarked : (s m : List ℕ) (p : ℕ) → p ≤ length s → length s - p < length m → Marked m s p false
+unmarked s m p h l = record { is = sym (mark_beyond s m p (length s - p) l (omega arith)); whole = λ t. absurd (false≢true t) }
 
 -- places where it does not stand are passed over at once
 seek-pass : (m s : List ℕ) (k i e : ℕ) → e ≡ i + k → e ≤ length s → ((j : ℕ) → i ≤ j → j < e → starts_at s j m ≡ false) → seek m s i ≡ seek m s e

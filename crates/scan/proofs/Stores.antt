@@ -1,5 +1,6 @@
 -- Laws of lent tables. Assumes nothing.
 --     sets_append, set_sets, sets_before, sets_on      runs of stores, one after the other and one before the other
+--     sets_range                                       a run over as long a part
 --     sets_over, sets_halves                           runs that overlap
 --     sets_none, sets_one, sets_two, sets_three        runs of up to three cells
 --     sets_part, sets_other                            a run read back
@@ -8,6 +9,7 @@
 --     appended_kept, appended_on                       pieces written one after the other
 --     wrote_number   the number and the values of the answer
 --     begun_kept, begun_on, begun_first, begun_none, in_part, wrote_on, wrote_full   the same where there was no room for all
+use Rattle.std.specs.Prelude.{Option, Some, None}
 use Prim.Native.Nat.{ℕ, zero, suc, ◌+◌, ◌-◌, ◌≤◌, ◌<◌}
 use mathlib.Core.Path.{◌≡◌, refl, sym, ap, ◌∙◌}
 use mathlib.Core.List.{List, [], ◌∷◌, ◌++◌, append-nil, append_assoc}
@@ -16,10 +18,9 @@ use native.Mathlib.Omega.{arith}
 use native.Mathlib.Nat.{add-zero, add-suc, suc-add}
 use native.Mathlib.Numerals.{add-one, add-two}
 use lib.ListN.{length, get_or, set, take, drop, replicate, length-set, length-append, length-drop, take-append-drop, drop_of_length-le}
-use lib.Seq.{sets, set_comm, sets-eq, length-sets, length-take-le, take-suc, take-length, take-append_seam, take-append-le, take-append-add, drop_at}
+use borrow.Rule.Slice.PartMut.{put_mid}
+use lib.Seq.{drop-drop, sets, set_comm, sets-eq, length-sets, length-take-le, take-suc, take-length, take-append_seam, take-append-le, take-append-add, drop_at}
 use lib.Seq.{get_or-set_other, set-set}
-use Rattle.scan.specs.declared.table.Written.{Written}
-use Rattle.scan.specs.declared.table.Written.TheVariants.{At, Full}
 use Rattle.scan.specs.Posts.{written_number, written_values, Appended, Wrote, Begun, WroteInPart}
 
 -- what is stored after a run
@@ -42,6 +43,12 @@ sets_before (x ∷ a) b t i =
 -- the same, of lists that are known by equations
 pub sets_on : (a b t t' t'' : List ℕ) (i j : ℕ) → t' ≡ sets t i a → t'' ≡ sets t' j b → j ≡ i + length a → t'' ≡ sets t i (a ++ b)
 sets_on a b t t' t'' i j e f w = f ∙ rw (w, e) (sets_append a b t i)
+
+-- a run over as long a part
+pub sets_range : (w t : List ℕ) (a : ℕ) → a + length w ≤ length t → put_mid a (a + length w - a) t w ≡ sets t a w
+sets_range w t a h =
+    let k : a + length w - a ≡ length w = omega arith in
+    rw (k, drop-drop (length w) a t, sets-eq w t a h, append_assoc)
 
 -- a run over a shorter one
 pub sets_over : (a b t : List ℕ) (i : ℕ) → length a ≤ length b → sets (sets t i a) i b ≡ sets t i b
@@ -209,26 +216,26 @@ begun_none w a t t' h e = record { many = 0; some = omega arith; room = omega ar
 
 -- what is written at once, as what is written part by part
 -- it is refused with 18 exactly if there is no room, and else answers the place behind it
-pub wrote_number : (w : List ℕ) (a : ℕ) (t t' : List ℕ) (r : Written) → WroteInPart w a t t' r
+pub wrote_number : (w : List ℕ) (a : ℕ) (t t' : List ℕ) (r : Option ℕ) → WroteInPart w a t t' r
     → ((written_number r ≡ 18) ↔ (length t < a + length w)) × ((written_values r ≡ (a + length w) ∷ []) ↔ (a + length w ≤ length t))
-wrote_number w a t t' (At n) v = (
+wrote_number w a t t' (Some n) v = (
   (λ e. absurd (omega arith), λ h. absurd (omega (arith, v.next, v.within))),
   (λ e. omega (arith, v.next, v.within), λ h. ap (λ (k : ℕ). k ∷ []) v.next),
 )
-wrote_number w a t t' Full v = (
+wrote_number w a t t' None v = (
   (λ e. v.0, λ h. refl),
   (λ e. let z : ◌≡◌ {A = ℕ} 0 1 = ap length e in absurd (omega arith), λ h. absurd (omega (arith, v.0))),
 )
 
-pub in_part : (w : List ℕ) (a : ℕ) (t t' : List ℕ) (r : Written) → a ≤ length t → Wrote w a t t' r → WroteInPart w a t t' r
-in_part w a t t' (At n) h v = v
-in_part w a t t' Full h v = (v.0, begun_none w a t t' h v.1)
+pub in_part : (w : List ℕ) (a : ℕ) (t t' : List ℕ) (r : Option ℕ) → a ≤ length t → Wrote w a t t' r → WroteInPart w a t t' r
+in_part w a t t' (Some n) h v = v
+in_part w a t t' None h v = (v.0, begun_none w a t t' h v.1)
 
 module _ (w x : List ℕ) (a : ℕ) (t t' : List ℕ) where
-  pub wrote_on : (n : ℕ) (t'' : List ℕ) (r : Written) → Appended w a t t' n → WroteInPart x n t' t'' r → WroteInPart (w ++ x) a t t'' r
-  wrote_on n t'' (At m) p v = appended_on p v
-  wrote_on n t'' Full p v = (simp length-append (omega (arith, v.0, p.next, appended_kept p)), begun_on p v.1)
+  pub wrote_on : (n : ℕ) (t'' : List ℕ) (r : Option ℕ) → Appended w a t t' n → WroteInPart x n t' t'' r → WroteInPart (w ++ x) a t t'' r
+  wrote_on n t'' (Some m) p v = appended_on p v
+  wrote_on n t'' None p v = (simp length-append (omega (arith, v.0, p.next, appended_kept p)), begun_on p v.1)
 
   -- where a piece does not fit, no more does
-  pub wrote_full : WroteInPart w a t t' Full → WroteInPart (w ++ x) a t t' Full
+  pub wrote_full : WroteInPart w a t t' None → WroteInPart (w ++ x) a t t' None
   wrote_full v = (simp length-append (omega (arith, v.0)), begun_first x v.1)

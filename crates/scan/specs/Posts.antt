@@ -1,8 +1,6 @@
 -- What the scans and the tables ensure.
-use Rattle.std.specs.Prelude.{ℕ, ◌+◌, ◌≤◌, ◌<◌, ◌≡◌, Bool, true, false, List, [], ◌∷◌, length, get_or, take}
+use Rattle.std.specs.Prelude.{Option, Some, None, ℕ, ◌+◌, ◌≤◌, ◌<◌, ◌≡◌, Bool, true, false, List, [], ◌∷◌, length, get_or, take}
 use Rattle.std.proofs.lemmas.List.Edits.{sets}
-use Rattle.scan.specs.declared.table.Written.{Written}
-use Rattle.scan.specs.declared.table.Written.TheVariants.{At, Full}
 use Rattle.scan.specs.Bytes.{run_end_of}
 use Rattle.scan.specs.Marks.{starts_at, seek, past}
 
@@ -44,13 +42,13 @@ pub record Passed (m s : List ℕ) (p r : ℕ) : Type 0 where
 
 -- ---- what is written
 -- document 01's number of an answer, 0 where none is met ("18. Output exceeds the lent length"), and its values
-abbrev pub written_number : Written → ℕ
-written_number (At n) = 0
-written_number Full = 18
+abbrev pub written_number : Option ℕ → ℕ
+written_number (Some n) = 0
+written_number None = 18
 
-abbrev pub written_values : Written → List ℕ
-written_values (At n) = n ∷ []
-written_values Full = []
+abbrev pub written_values : Option ℕ → List ℕ
+written_values (Some n) = n ∷ []
+written_values None = []
 
 -- the piece w stands in the table t' from a place on, up to n, and all other cells are as in t
 pub record Appended (w : List ℕ) (at : ℕ) (t t' : List ℕ) (n : ℕ) : Type 0 where
@@ -59,9 +57,9 @@ pub record Appended (w : List ℕ) (at : ℕ) (t t' : List ℕ) (n : ℕ) : Type
   pub laid : t' ≡ sets t at w
 
 -- the piece w is written at a place of the table t; or it does not fit, and the table is as it was
-abbrev pub Wrote : List ℕ → ℕ → List ℕ → List ℕ → Written → Type 0
-Wrote w at t t' (At n) = Appended w at t t' n
-Wrote w at t t' Full = (length t < at + length w) × (t' ≡ t)
+abbrev pub Wrote : List ℕ → ℕ → List ℕ → List ℕ → Option ℕ → Type 0
+Wrote w at t t' (Some n) = Appended w at t t' n
+Wrote w at t t' None = (length t < at + length w) × (t' ≡ t)
 
 -- a beginning of the piece w stands in the table t' from a place on, and all other cells are as in t
 pub record Begun (w : List ℕ) (at : ℕ) (t t' : List ℕ) : Type 0 where
@@ -71,6 +69,6 @@ pub record Begun (w : List ℕ) (at : ℕ) (t t' : List ℕ) : Type 0 where
   pub laid : t' ≡ sets t at (take many w)
 
 -- the same of a piece that is written part by part: where it does not fit, a beginning of it stands there, as long as the program left it
-abbrev pub WroteInPart : List ℕ → ℕ → List ℕ → List ℕ → Written → Type 0
-WroteInPart w at t t' (At n) = Appended w at t t' n
-WroteInPart w at t t' Full = (length t < at + length w) × Begun w at t t'
+abbrev pub WroteInPart : List ℕ → ℕ → List ℕ → List ℕ → Option ℕ → Type 0
+WroteInPart w at t t' (Some n) = Appended w at t t' n
+WroteInPart w at t t' None = (length t < at + length w) × Begun w at t t'

@@ -19,40 +19,32 @@ pub enum Class {
     Digit,
 }
 
+#[tactic(auto, unfolding(crate::specs::Bytes::blank))]
 fn is_blank(b: u8) -> bool
     ensures { result ≡ blank b }
 {
-    match b {
-        b'\t' | b'\n' | b'\r' | b' ' => true,
-        _ => false,
-    }
+    matches!(b, b'\t' | b'\n' | b'\r' | b' ')
 }
 
+#[tactic(auto, unfolding(crate::specs::Bytes::blank, crate::specs::Bytes::name_byte))]
 fn is_name(b: u8) -> bool
     ensures { result ≡ name_byte b }
 {
-    match b {
-        b'\t' | b'\n' | b'\r' | b' ' | b'/' | b'>' => false,
-        _ => true,
-    }
+    !matches!(b, b'\t' | b'\n' | b'\r' | b' ' | b'/' | b'>')
 }
 
+#[tactic(auto, unfolding(crate::specs::Bytes::blank, crate::specs::Bytes::attr_name_byte))]
 fn is_attr_name(b: u8) -> bool
     ensures { result ≡ attr_name_byte b }
 {
-    match b {
-        b'\t' | b'\n' | b'\r' | b' ' | b'/' | b'=' | b'>' => false,
-        _ => true,
-    }
+    !matches!(b, b'\t' | b'\n' | b'\r' | b' ' | b'/' | b'=' | b'>')
 }
 
+#[tactic(auto, unfolding(crate::specs::Bytes::digit_byte))]
 fn is_digit(b: u8) -> bool
     ensures { result ≡ digit_byte b }
 {
-    match b {
-        b'0'..=b'9' => true,
-        _ => false,
-    }
+    matches!(b, b'0'..=b'9')
 }
 
 // Is the byte of the class?
@@ -84,14 +76,7 @@ fn over_each(src: &[u8], pos: usize, class: Class) -> usize
     requires { pos ≤ length src.now }
     ensures { Ends (member class) src.now pos result }
 {
-    let mut i = pos;
-    while i < src.len() {
-        if !is_of(class, src[i]) {
-            return i;
-        }
-        i += 1;
-    }
-    i
+    over_near(src, pos, src.len(), class)
 }
 
 // The same, by blocks first: for runs that are long as a rule.
@@ -102,7 +87,8 @@ pub fn over_far(src: &[u8], pos: usize, class: Class) -> usize
     over_each(src, skip_runs(src, pos, class), class)
 }
 
-// The same of the bytes before `end`.
+// The same of the bytes before `end`. Counted by hand, as `find_each` is: with a `for` over places the compiler steps a counter in each turn
+// for every number that the parser takes from the place afterwards.
 fn over_near(src: &[u8], pos: usize, end: usize, class: Class) -> usize
     requires { (pos ≤ end) × (end ≤ length src.now) }
     ensures { Skips (member class) src.now pos result × (result < end → Ends (member class) src.now pos result) }
@@ -122,11 +108,7 @@ fn near_end(src: &[u8], pos: usize) -> usize
     requires { pos ≤ length src.now }
     ensures { (pos ≤ result) × (result ≤ length src.now) }
 {
-    if src.len() - pos < 8 {
-        src.len()
-    } else {
-        pos + 8
-    }
+    pos + (src.len() - pos).min(8)
 }
 
 // Where the run ends: it is short as a rule, and may be long. Then the text is handed on as a part of its own, so that it
@@ -143,7 +125,8 @@ pub fn over_long(src: &[u8], pos: usize, class: Class) -> usize
     over_far(&src[0..], i, class)
 }
 
-// The first place of the byte, or the length. Four tests to a turn: a value ends within two or three turns as a rule.
+// The first place of the byte, or the length. Four tests to a turn, where a `for` makes one: a value ends within two or three turns
+// as a rule.
 pub fn find_byte(src: &[u8], pos: usize, b: u8) -> usize
     requires { pos ≤ length src.now }
     ensures { Ends (other b) src.now pos result }
@@ -184,42 +167,31 @@ fn find_each(src: &[u8], pos: usize, b: u8) -> usize
 
 // Is the byte among the 16 from the place on? Its loop has no early way out, so the compiler takes
 // the 16 at once.
+#[tactic(auto, using(crate::proofs::Runs::passes_more))]
 fn has_byte(src: &[u8], pos: usize, b: u8) -> bool
     requires { pos + 16 ≤ length src.now }
     ensures { result ≡ false → Passes (other b) src.now pos (pos + 16) }
 {
     let mut has = false;
-    let mut i = 0;
-    while i < 16 {
+    for i in 0..16 {
         if src[pos + i] == b {
             has = true;
         }
-        i += 1;
     }
     has
 }
 
-fn is_between(b: u8, low: u8, high: u8) -> bool
-    ensures { result ≡ leb low b && leb b high }
-{
-    if b < low {
-        return false;
-    }
-    b <= high
-}
-
 // Are the 16 bytes from the place on all between the two?
+#[tactic(auto, using(crate::proofs::Runs::passes_more))]
 fn all_between(src: &[u8], pos: usize, low: u8, high: u8) -> bool
     requires { pos + 16 ≤ length src.now }
     ensures { result ≡ true → Passes (λ b. leb low b && leb b high) src.now pos (pos + 16) }
 {
     let mut all = true;
-    let mut k = 0;
-    while k < 16 {
-        if !is_between(src[pos + k], low, high) {
+    for k in 0..16 {
+        if !(low..=high).contains(&src[pos + k]) {
             all = false;
         }
-        k += 1;
     }
     all
 }
@@ -231,9 +203,7 @@ fn is_run(src: &[u8], pos: usize, class: Class) -> bool
 {
     match class {
         Class::Blank => all_between(src, pos, b' ', b' '),
-        Class::Text => all_between(src, pos, b'?', 0xFF),
-        Class::Name => all_between(src, pos, b'?', 0xFF),
-        Class::AttrName => all_between(src, pos, b'?', 0xFF),
+        Class::Name | Class::AttrName | Class::Text => all_between(src, pos, b'?', 0xFF),
         Class::Digit => all_between(src, pos, b'0', b'9'),
     }
 }

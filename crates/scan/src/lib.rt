@@ -11,4 +11,4 @@ mod table;
 pub use bytes::{Class, find_byte, find_far, is_of, over, over_far, over_long};
 pub use marks::{find_past, find_seq, starts_with};
 pub use names::{eq_ignore_ascii_case, same, strip_ns, tag_local};
-pub use table::{Found, Written, append, clear, clear_bytes, clear_f32, clear_i64, copy, get, put};
+pub use table::{append, clear, clear_bytes, clear_f32, clear_i64, copy, get, put};

@@ -2,24 +2,12 @@
 ghost use Rattle.std.specs.Prelude.{◌≡◌, ◌≤◌, length};
 ghost use Rattle.scan.specs.Posts.{Marked, Found, Passed};
 
-// Does the mark stand at the place?
+// Does the mark stand at the place? By `==`, which tells unlike bytes without a call; std's `starts_with` takes longer.
 pub fn starts_with(src: &[u8], pos: usize, mark: &[u8]) -> bool
     requires { pos ≤ length src.now }
     ensures { Marked mark.now src.now pos result }
 {
-    let mut i = pos;
-    let mut j = 0;
-    while j < mark.len() {
-        if src.len() <= i {
-            return false;
-        }
-        if src[i] != mark[j] {
-            return false;
-        }
-        i += 1;
-        j += 1;
-    }
-    true
+    mark.len() <= src.len() - pos && &src[pos..pos + mark.len()] == mark
 }
 
 // The first place of the mark, or the length: where its last byte stands it is compared.
@@ -27,7 +15,7 @@ pub fn find_seq(src: &[u8], pos: usize, mark: &[u8]) -> usize
     requires { pos ≤ length src.now }
     ensures { Found mark.now src.now pos result }
 {
-    if mark.len() == 0 {
+    if mark.is_empty() {
         return pos;
     }
     let n = mark.len() - 1;

@@ -4,60 +4,30 @@ ghost use Rattle.std.proofs.lemmas.List.Edits.{sets};
 ghost use Rattle.std.specs.Float.{fin};
 ghost use Rattle.scan.specs.Posts.{Appended, Wrote};
 
-// A row, or there is none.
-#[derive(Clone, Copy)]
-pub enum Found {
-    Row(usize),
-    Nothing,
-}
-
-// Where the next byte goes, or there is no room.
-#[derive(Clone, Copy)]
-pub enum Written {
-    At(usize),
-    Full,
-}
-
 pub fn clear(cells: &mut [u32])
     ensures { cells.new ≡ replicate (length cells.old) 0 }
 {
-    let mut i = 0;
-    while i < cells.len() {
-        cells[i] = 0;
-        i += 1;
-    }
+    cells.fill(0);
 }
 
 pub fn clear_bytes(cells: &mut [u8])
     ensures { cells.new ≡ replicate (length cells.old) 0 }
 {
-    let mut i = 0;
-    while i < cells.len() {
-        cells[i] = b'\0';
-        i += 1;
-    }
+    cells.fill(b'\0');
 }
 
 // The same of times,
 pub fn clear_i64(cells: &mut [i64])
     ensures { cells.new ≡ replicate (length cells.old) (pos 0) }
 {
-    let mut i = 0;
-    while i < cells.len() {
-        cells[i] = 0;
-        i += 1;
-    }
+    cells.fill(0);
 }
 
 // and of sizes.
 pub fn clear_f32(cells: &mut [f32])
     ensures { cells.new ≡ replicate (length cells.old) (fin false 0 (pos 0)) }
 {
-    let mut i = 0;
-    while i < cells.len() {
-        cells[i] = 0.0;
-        i += 1;
-    }
+    cells.fill(0.0);
 }
 
 // One cell set: places and lengths are kept as 32 bits.
@@ -81,11 +51,7 @@ fn copy_each(piece: &[u8], out: &mut [u8], at: usize)
     requires { at + length piece.now ≤ length out.old }
     ensures { out.new ≡ sets out.old at piece.now }
 {
-    let mut i = 0;
-    while i < piece.len() {
-        out[at + i] = piece[i];
-        i += 1;
-    }
+    out[at..at + piece.len()].copy_from_slice(piece);
 }
 
 // The same of up to three bytes.
@@ -124,20 +90,12 @@ fn store(piece: &[u8], out: &mut [u8], at: usize)
     requires { at + length piece.now ≤ length out.old }
     ensures { out.new ≡ sets out.old at piece.now }
 {
-    let n = piece.len();
-    if n < 4 {
-        copy_few(piece, out, at);
-        return;
+    match piece.len() {
+        0..=3 => copy_few(piece, out, at),
+        4..=8 => copy_halves(piece, 4, out, at),
+        9..=16 => copy_halves(piece, 8, out, at),
+        _ => copy_each(piece, out, at),
     }
-    if n <= 8 {
-        copy_halves(piece, 4, out, at);
-        return;
-    }
-    if n <= 16 {
-        copy_halves(piece, 8, out, at);
-        return;
-    }
-    copy_each(piece, out, at);
 }
 
 // The piece written at a place where it fits; the answer is the place after it.
@@ -150,13 +108,13 @@ pub fn copy(piece: &[u8], out: &mut [u8], at: usize) -> usize
 }
 
 // The same, if it fits. It is a fixed byte string as a rule, whose length is known where this is inlined.
-pub fn append(out: &mut [u8], at: usize, piece: &[u8]) -> Written
+pub fn append(out: &mut [u8], at: usize, piece: &[u8]) -> Option<usize>
     requires { at ≤ length out.old }
     ensures { Wrote piece.now at out.old out.new result }
 {
     if out.len() - at < piece.len() {
-        return Written::Full;
+        return None;
     }
     copy_each(piece, out, at);
-    Written::At(at + piece.len())
+    Some(at + piece.len())
 }

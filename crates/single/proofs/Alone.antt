@@ -4,6 +4,8 @@
 --     row-added, times_added           a row more where there is none
 --     content_asks, content_no         its content, as it is asked for; refused
 --     alone-asks, alone-laid           its row and the head
+use Rattle.std.specs.Prelude as rust
+use Rattle.std.specs.Prelude.{Some, None, Result, Ok, Err, ⊤}
 use Prim.Native.Nat.{ℕ, ◌+◌}
 use mathlib.Core.Path.{◌≡◌, refl, sym, ap, subst, ◌∙◌}
 use mathlib.Core.List.{List, [], ◌∷◌, ◌++◌}
@@ -20,11 +22,9 @@ use Rattle.track.specs.Layout.{each, preorder, filled, joined_cells, head_cells,
 use Rattle.track.specs.Layout as placing
 use Rattle.track.proofs.SegmentsLaid.{rows-many}
 use Rattle.records.specs.Siblings.{Stands}
-use Rattle.records.specs.declared.cells.Added.{Added}
 use Rattle.records.specs.Posts.{head_row, head_of, AddPost, TimesPost}
 use Rattle.records.proofs.RowLaws.{head_laid}
 use Rattle.xml.specs.declared.find.Element as found
-use Rattle.scan.specs.declared.table.Found.{Found}
 use Rattle.xml.specs.Find.{OfSiblings, element_row, find_row}
 use Rattle.xml.specs.Reading.{Placed}
 use Rattle.meaning.specs.Answers.{Answer, is, refused, ◌>>=◌}
@@ -42,17 +42,14 @@ use Rattle.styling.specs.Posts.{OfRows, space_in, turned}
 use Rattle.extras.specs.Kept.{placed_cells}
 use Rattle.inline.specs.Stood.{spans_in}
 use Rattle.content.specs.declared.collect.Run.{Run}
-use Rattle.content.specs.declared.collect.Collecting.{Collecting}
 use Rattle.content.specs.Steps.{Roomy, Frame, Content, AsksContent, Left, ContentPost}
 use Rattle.intervals.specs.declared.Interval.{Interval}
-use Rattle.intervals.specs.declared.Timed.{Timed}
 use Rattle.intervals.specs.Steps.{timed_said, single_from, single_of}
 use Rattle.cues.specs.Steps.{CueTables, five, Spacious, Base, Lined, no_line}
 use Rattle.cues.specs.Elements.{Tree, Elem, element_in}
 use Rattle.cues.proofs.Lined.{blank_from, before, next_frame, blank-later, lined_frame, Next, lined_more}
 use Rattle.cues.proofs.Blanks.{filled-from, Blank, lined_none}
-use Rattle.cues.proofs.Elements.{elem-cells, elem-owned, elem-rows, elem-none, elem-found, elem-inside, elem-order}
-use Rattle.promised.specs.declared.Answer as promise
+use Rattle.cues.proofs.Elements.{elem-cells, elem-owned, elem-none, elem-found, elem-inside, elem-order}
 use Rattle.single.specs.Steps.{cue_rest, CueReady, CueLaid, CueOutcome, cue_with, timed_cue, alone_row, alone_head, AloneAsks, Alone}
 
 -- ---- its times first
@@ -95,32 +92,32 @@ module _ (p : Element Placed) where
 module _ {t u z : List ℕ} {k : ℕ} (x : Elem t u z k) {e : found.Element} (row : e ≡ element_row t k) {ctx : TimingCtx}
     (no-rates : ctx ≡ timing none none) where
   -- when its times are asked for
-  interval_said : (r : Timed) → OfRows u z e.first e.many (λ l. timed_said r ≡ single_of ctx e.place l)
+  interval_said : (r : Result Interval Refusal) → OfRows u z e.first e.many (λ l. timed_said r ≡ single_of ctx e.place l)
       → timed_said r ≡ single_of (timing none none) x.place (attrs_in z x.attrs)
   interval_said r o =
       let p : e.place ≡ x.place = ap (λ (w : found.Element). w.place) (elem-cells x row) in
       o x.attrs (elem-owned x row) ∙ rw (no-rates, p)
 
-  pub times_no : (q : Refusal) → OfRows u z e.first e.many (λ l. timed_said (Timed.Refused q) ≡ single_of ctx e.place l)
+  pub times_no : (q : Refusal) → OfRows u z e.first e.many (λ l. timed_said (Err q) ≡ single_of ctx e.place l)
       → cue_in with_places (element_in x) ≡ turned q
-  times_no q o = cue_timed (element_in x) ∙ rw (← (interval_said (Timed.Refused q) o))
+  times_no q o = cue_timed (element_in x) ∙ rw (← (interval_said (Err q) o))
 
-  pub times_are : (when : Interval) → OfRows u z e.first e.many (λ l. timed_said (Timed.Is when) ≡ single_of ctx e.place l)
+  pub times_are : (when : Interval) → OfRows u z e.first e.many (λ l. timed_said (Ok when) ≡ single_of ctx e.place l)
       → cue_in with_places (element_in x) ≡ timed_cue when (element_in x)
-  times_are when o = cue_timed (element_in x) ∙ rw (← (interval_said (Timed.Is when) o))
+  times_are when o = cue_timed (element_in x) ∙ rw (← (interval_said (Ok when) o))
 
 -- the same outcome
-pub cue_as : {m n : Answer (Cue Placed)} (z : List ℕ) (T T' : Tables) (r : promise.Answer) → m ≡ n → CueOutcome n z T T' r → CueOutcome m z T T' r
+pub cue_as : {m n : Answer (Cue Placed)} (z : List ℕ) (T T' : Tables) (r : Result ⊤ Refusal) → m ≡ n → CueOutcome n z T T' r → CueOutcome m z T T' r
 cue_as z T T' r e o = subst (λ (v : Answer (Cue Placed)). CueOutcome v z T T' r) (sym e) o
 
 -- ---- the first p
 
-module _ {t u z : List ℕ} {n : ℕ} (x : Tree t u z n) {r : Found} (o : OfSiblings t 0 n (λ f. r ≡ find_row z (ascii "p") 0 f)) where
-  pub first-no : r ≡ Found.Nothing → cue_of with_places (nodes_in z x.forest) ≡ refused 12 0
+module _ {t u z : List ℕ} {n : ℕ} (x : Tree t u z n) {r : rust.Option ℕ} (o : OfSiblings t 0 n (λ f. r ≡ find_row z (ascii "p") 0 f)) where
+  pub first-no : r ≡ None → cue_of with_places (nodes_in z x.forest) ≡ refused 12 0
   unfolding cue_of
   first-no e = rw (elem-none x (ascii "p") o e)
 
-  pub first-is : {k : ℕ} (e : r ≡ Found.Row k)
+  pub first-is : {k : ℕ} (e : r ≡ Some k)
       → cue_of with_places (nodes_in z x.forest) ≡ cue_in with_places (element_in (elem-found x (ascii "p") o e).element)
   unfolding cue_of
   first-is e = rw (elem-found x (ascii "p") o e).is
@@ -140,13 +137,13 @@ module _ (when : Interval) (rows : ℕ) (l : List (Attr Placed)) (f : Segments P
 
 -- the first row of a table is added
 module _ (row c c' : List ℕ) where
-  pub row-added : (r : Added) → AddPost 2048 11 row c c' 0 r → c' ≡ sets c 0 row
-  row-added (Added.Next n) p = p.2
-  row-added Added.Full p = absurd (omega (arith, p.0))
+  pub row-added : (r : rust.Option ℕ) → AddPost 2048 11 row c c' 0 r → c' ≡ sets c 0 row
+  row-added (Some n) p = p.2
+  row-added None p = absurd (omega (arith, p.0))
 
-  pub times_added : (a b : ℤ) (m m' : List ℤ) (r : Added) → AddPost 2048 11 row c c' 0 r → TimesPost 0 a b m m' r → m' ≡ sets m 0 (a ∷ b ∷ [])
-  times_added a b m m' (Added.Next n) p q = q
-  times_added a b m m' Added.Full p q = absurd (omega (arith, p.0))
+  pub times_added : (a b : ℤ) (m m' : List ℤ) (r : rust.Option ℕ) → AddPost 2048 11 row c c' 0 r → TimesPost 0 a b m m' r → m' ≡ sets m 0 (a ∷ b ∷ [])
+  times_added a b m m' (Some n) p q = q
+  times_added a b m m' None p q = absurd (omega (arith, p.0))
 
 -- ---- the tables
 
@@ -216,11 +213,11 @@ module _ (h c : List ℕ) (m : List ℤ) (g y : List ℕ) {z : List ℕ} (ready 
       as_read = rw (no-rates, mode)
 
       module _ (s' y' : List ℕ) where
-        abbrev Post : Collecting → Type 0
+        abbrev Post : Result Run Refusal → Type 0
         Post r = ContentPost t u z (k + 1) e.end 0 (pos 0) ctx ws g y s' y' r
 
-        pub content_no : (q : Refusal) → Post (Collecting.Refused q) → (when : Interval) {s'' y'' : List ℕ} → s'' ≡ replicate (length g) 0
-            → y'' ≡ replicate (length y) 0 → CueOutcome (timed_cue when (element_in x)) z T (cue_rest h c m s'' y'') (promise.Answer.Refused q)
+        pub content_no : (q : Refusal) → Post (Err q) → (when : Interval) {s'' y'' : List ℕ} → s'' ≡ replicate (length g) 0
+            → y'' ≡ replicate (length y) 0 → CueOutcome (timed_cue when (element_in x)) z T (cue_rest h c m s'' y'') (Err q)
         content_no q p when a b =
             let w = sym as_read ∙ p frame content in
             let zero = ready.zero in (
@@ -239,9 +236,8 @@ module _ (h c : List ℕ) (m : List ℤ) (g y : List ℕ) {z : List ℕ} (ready 
               },
             )
 
-        pub alone-asks : (run : Run) → Post (Collecting.Is run) → AloneAsks u z e run.rows h c m
+        pub alone-asks : (run : Run) → Post (Ok run) → AloneAsks z run.rows h c m
         alone-asks run p = record {
-          attrs = elem-rows x row;
           short = ready.short;
           few = (p frame content).few;
           in_head = ready.head;
@@ -249,7 +245,7 @@ module _ (h c : List ℕ) (m : List ℤ) (g y : List ℕ) {z : List ℕ} (ready 
           in_times = ready.times;
         }
 
-        module _ (run : Run) (p : Post (Collecting.Is run)) (when : Interval) where
+        module _ (run : Run) (p : Post (Ok run)) (when : Interval) where
           left : Left frame 0 s' y' (content_of with_places ctx (pos 0) (space_in ws) 0 (nodes_in z x.content)) run
           left = p frame content
 

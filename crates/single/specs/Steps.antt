@@ -1,6 +1,6 @@
 -- What the reader of a single cue asks and ensures. This file need not be believed: `bytes_to_cue` promises what is left in the end.
 --     t, u are the tables of nodes and attributes; z are the strings, as many bytes as the text has
-use Rattle.std.specs.Prelude.{ℕ, ◌≤◌, ◌≡◌, false, List, [], ◌∷◌, ℤ, pos, length}
+use Rattle.std.specs.Prelude.{Result, Ok, Err, ⊤, ℕ, ◌≤◌, ◌≡◌, false, List, [], ◌∷◌, ℤ, pos, length}
 use Rattle.std.proofs.Math.Option.{none}
 use Rattle.std.proofs.lemmas.List.Edits.{sets}
 use Rattle.track.specs.declared.strings.Span.{Span}
@@ -10,7 +10,6 @@ use Rattle.track.specs.Tables.{Tables, tables, lengths}
 use Rattle.track.specs.Layout.{is_some, span_or, cue_cells}
 use Rattle.records.specs.declared.head.Head.{Head}
 use Rattle.records.specs.Posts.{head_row}
-use Rattle.xml.specs.declared.find.Element as found
 use Rattle.xml.specs.Reading.{Placed}
 use Rattle.meaning.specs.Words.{ascii}
 use Rattle.meaning.specs.Answers.{is, ◌>>=◌}
@@ -22,12 +21,12 @@ use Rattle.meaning.specs.Tracks.{option_by}
 use Rattle.meaning.specs.Inline.{content_of}
 use Rattle.meaning.specs.Meaning.{timing, cue_of}
 use Rattle.laid.specs.Laid.{alone}
-use Rattle.styling.specs.Posts.{HasRows, turned}
+use Rattle.styling.specs.Posts.{turned}
 use Rattle.inline.specs.Stood.{span_in}
 use Rattle.intervals.specs.declared.Interval.{Interval}
 use Rattle.cues.specs.Elements.{Tree, Elem, element_in}
-use Rattle.promised.specs.declared.Answer.{Answer}
 use Rattle.promised.proofs.Promises.{RestZero, RestLaid}
+use Rattle.tree.specs.declared.answers.Refusal.{Refusal}
 
 -- ---- the tables
 
@@ -53,9 +52,9 @@ module _ (m : meaning.Answer (Cue Placed)) (z : List ℕ) (T T' : Tables) where
     pub plain : cue.extras ≡ []
     pub laid : RestLaid (lengths T) (length z) (alone cue) T'
 
-  abbrev pub CueOutcome : Answer → Type 0
-  CueOutcome Answer.Track = CueLaid
-  CueOutcome (Answer.Refused q) = (m ≡ turned q) × RestZero (lengths T) T'
+  abbrev pub CueOutcome : Result ⊤ Refusal → Type 0
+  CueOutcome (Ok tt) = CueLaid
+  CueOutcome (Err q) = (m ≡ turned q) × RestZero (lengths T) T'
 
 -- ---- a tree
 
@@ -63,7 +62,7 @@ pub record CueAsks (t u z : List ℕ) (n : ℕ) (T : Tables) : Type 0 where
   pub ready : CueReady z T
   pub tree : Tree t u z n
 
-abbrev pub CuePost : (t u z : List ℕ) (n : ℕ) (T T' : Tables) → Answer → Type 0
+abbrev pub CuePost : (t u z : List ℕ) (n : ℕ) (T T' : Tables) → Result ⊤ Refusal → Type 0
 CuePost t u z n T T' r = (x : Tree t u z n) → CueOutcome (cue_of with_places (nodes_in z x.forest)) z T T' r
 
 -- ---- a p that is a single cue
@@ -72,7 +71,7 @@ pub record ElementAsks (t u z : List ℕ) (k : ℕ) (T : Tables) : Type 0 where
   pub ready : CueReady z T
   pub element : Elem t u z k
 
-abbrev pub ElementPost : (Element Placed → meaning.Answer (Cue Placed)) → (t u z : List ℕ) (k : ℕ) (T T' : Tables) → Answer → Type 0
+abbrev pub ElementPost : (Element Placed → meaning.Answer (Cue Placed)) → (t u z : List ℕ) (k : ℕ) (T T' : Tables) → Result ⊤ Refusal → Type 0
 ElementPost meant t u z k T T' r = (x : Elem t u z k) → CueOutcome (meant (element_in x)) z T T' r
 
 -- `cue_in` when its times are known, and its segments
@@ -121,8 +120,7 @@ alone_head rows used = record {
   texts = used;
 }
 
-pub record AloneAsks (u z : List ℕ) (e : found.Element) (rows : ℕ) (head cues : List ℕ) (times : List ℤ) : Type 0 where
-  pub attrs : HasRows u z e.first e.many
+pub record AloneAsks (z : List ℕ) (rows : ℕ) (head cues : List ℕ) (times : List ℤ) : Type 0 where
   pub short : length z ≤ 65536
   pub few : rows ≤ 16384
   pub in_head : 10 ≤ length head

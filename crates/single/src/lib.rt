@@ -4,18 +4,16 @@ ghost use Rattle.std.specs.Prelude.{◌≡◌};
 ghost use Rattle.std.proofs.Math.Option.{none};
 ghost use Rattle.meaning.specs.Kinds.{with_places};
 ghost use Rattle.meaning.specs.Meaning.{timing, cue_in};
-ghost use Rattle.styling.specs.Posts.{OfRows};
+ghost use Rattle.styling.specs.Posts.{Of};
 ghost use Rattle.single.specs.Steps.{cue_rest, CueAsks, CuePost, ElementAsks, ElementPost, timed_cue, AloneAsks, Alone};
 
-use content::Collecting;
-use intervals::{Interval, Timed};
-use promised::Answer;
+use intervals::Interval;
 use records::Head;
 use styling::WsMode;
 use times::TimingCtx;
 use track::{Cue, Rows, Span};
 use tree::Refusal;
-use xml::Found;
+use xml::{Attributes, Tree};
 
 fn no_rates() -> TimingCtx
     ensures { result ≡ timing none none }
@@ -30,30 +28,27 @@ fn no_rates() -> TimingCtx
 
 // The cue in the first row, its segments being the first `rows`, and the head of a track of it alone.
 fn put_alone(
-    attrs: &[u32],
-    strings: &[u8],
+    attrs: &Attributes<'_>,
     head: &mut [u32],
     cues: &mut [u32],
     times: &mut [i64],
-    e: xml::Element,
     when: Interval,
     rows: usize,
 )
-    requires { AloneAsks attrs.now strings.now e rows head.old cues.old times.old }
-    ensures { OfRows attrs.now strings.now e.first e.many (λ l.
-        Alone strings.now when rows l head.old head.new cues.old cues.new
+    requires { AloneAsks attrs.now.strings.now rows head.old cues.old times.old }
+    ensures { Of attrs.now (λ l.
+        Alone attrs.now.strings.now when rows l head.old head.new cues.old cues.new
         times.old times.new) }
 {
-    let style = cues::value_of(attrs, strings, e, b"style");
-    let span = style.span;
-    let none = Span { place: 0, len: 0 };
+    let style = cues::value_of(attrs, b"style");
+    let nowhere = Span { place: 0, len: 0 };
     let row = Cue {
         start: when.start,
         end: when.end,
-        has_style: style.has,
-        style: span,
+        has_style: style.is_some(),
+        style: style.unwrap_or(nowhere),
         has_region: false,
-        region: none,
+        region: nowhere,
         preserve: false,
         segments: Rows {
             first: 0,
@@ -62,7 +57,7 @@ fn put_alone(
         extras: Rows { first: 0, count: 0 },
     };
     records::add_cue(cues, times, 0, row);
-    let used = strings.len();
+    let used = attrs.strings.len();
     records::put_head(
         head,
         Head {
@@ -72,7 +67,7 @@ fn put_alone(
             cues: 1,
             segments: rows,
             has_lang: false,
-            lang: none,
+            lang: nowhere,
             strings: used,
             texts: used,
         },
@@ -81,9 +76,7 @@ fn put_alone(
 
 // The p in row k, when its times are known.
 fn read_timed(
-    nodes: &[u32],
-    attrs: &[u32],
-    strings: &[u8],
+    tree: &Tree<'_>,
     head: &mut [u32],
     cues: &mut [u32],
     times: &mut [i64],
@@ -91,18 +84,18 @@ fn read_timed(
     texts: &mut [u8],
     k: usize,
     when: Interval,
-) -> Answer
-    requires { ElementAsks nodes.now attrs.now strings.now k (cue_rest head.old cues.old times.old segments.old texts.old) }
-    ensures { ElementPost (timed_cue when) nodes.now attrs.now strings.now k
+) -> Result<(), Refusal>
+    requires { ElementAsks tree.now.nodes.now tree.now.attrs.now tree.now.strings.now k
+        (cue_rest head.old cues.old times.old segments.old texts.old) }
+    ensures { ElementPost (timed_cue when) tree.now.nodes.now tree.now.attrs.now tree.now.strings.now k
         (cue_rest head.old cues.old times.old segments.old texts.old)
         (cue_rest head.new cues.new times.new segments.new texts.new) result }
 {
-    let e = xml::element_at(nodes, k);
-    let ws = styling::resolve_ws(attrs, strings, e.first, e.many, WsMode::Collapse);
-    match content::collect_segments_timed(
-        nodes,
-        attrs,
-        strings,
+    let e = xml::element_at(tree.nodes, k);
+    let attrs = tree.attributes(e);
+    let ws = styling::resolve_ws(&attrs, WsMode::Collapse);
+    let run = match content::collect_segments_timed(
+        tree,
         segments,
         texts,
         k + 1,
@@ -112,65 +105,59 @@ fn read_timed(
         ws,
         0,
     ) {
-        Collecting::Refused(r) => {
+        Ok(run) => run,
+        Err(r) => {
             scan::clear(segments);
             scan::clear_bytes(texts);
-            Answer::Refused(r)
+            return Err(r);
         }
-        Collecting::Is(run) => {
-            put_alone(attrs, strings, head, cues, times, e, when, run.rows);
-            Answer::Track
-        }
-    }
+    };
+    put_alone(&attrs, head, cues, times, when, run.rows);
+    Ok(())
 }
 
 // The p in row k.
 fn read_p(
-    nodes: &[u32],
-    attrs: &[u32],
-    strings: &[u8],
+    tree: &Tree<'_>,
     head: &mut [u32],
     cues: &mut [u32],
     times: &mut [i64],
     segments: &mut [u32],
     texts: &mut [u8],
     k: usize,
-) -> Answer
-    requires { ElementAsks nodes.now attrs.now strings.now k (cue_rest head.old cues.old times.old segments.old texts.old) }
-    ensures { ElementPost (cue_in with_places) nodes.now attrs.now strings.now k
+) -> Result<(), Refusal>
+    requires { ElementAsks tree.now.nodes.now tree.now.attrs.now tree.now.strings.now k
+        (cue_rest head.old cues.old times.old segments.old texts.old) }
+    ensures { ElementPost (cue_in with_places) tree.now.nodes.now tree.now.attrs.now tree.now.strings.now k
         (cue_rest head.old cues.old times.old segments.old texts.old)
         (cue_rest head.new cues.new times.new segments.new texts.new) result }
 {
-    match intervals::single_interval(attrs, strings, xml::element_at(nodes, k), no_rates()) {
-        Timed::Refused(r) => Answer::Refused(r),
-        Timed::Is(when) => read_timed(
-            nodes, attrs, strings, head, cues, times, segments, texts, k, when,
-        ),
-    }
+    let e = xml::element_at(tree.nodes, k);
+    let attrs = tree.attributes(e);
+    let when = intervals::single_interval(&attrs, e.place, no_rates())?;
+    read_timed(tree, head, cues, times, segments, texts, k, when)
 }
 
 // The cue of the first p among the n rows of the tree.
 pub fn read_cue(
-    nodes: &[u32],
-    attrs: &[u32],
-    strings: &[u8],
+    tree: &Tree<'_>,
     head: &mut [u32],
     cues: &mut [u32],
     times: &mut [i64],
     segments: &mut [u32],
     texts: &mut [u8],
     n: usize,
-) -> Answer
-    requires { CueAsks nodes.now attrs.now strings.now n (cue_rest head.old cues.old times.old segments.old texts.old) }
-    ensures { CuePost nodes.now attrs.now strings.now n
+) -> Result<(), Refusal>
+    requires { CueAsks tree.now.nodes.now tree.now.attrs.now tree.now.strings.now n (cue_rest head.old cues.old times.old segments.old texts.old) }
+    ensures { CuePost tree.now.nodes.now tree.now.attrs.now tree.now.strings.now n
         (cue_rest head.old cues.old times.old segments.old texts.old)
         (cue_rest head.new cues.new times.new segments.new texts.new) result }
 {
-    match xml::find_element(nodes, strings, 0, n, b"p") {
-        Found::Nothing => Answer::Refused(Refusal {
+    let Some(k) = xml::find_element(tree.nodes, tree.strings, 0, n, b"p") else {
+        return Err(Refusal {
             number: 12,
             place: 0,
-        }),
-        Found::Row(k) => read_p(nodes, attrs, strings, head, cues, times, segments, texts, k),
-    }
+        });
+    };
+    read_p(tree, head, cues, times, segments, texts, k)
 }

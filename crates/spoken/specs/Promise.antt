@@ -1,13 +1,13 @@
 -- What the call for a cue's text promises: of the tables, the cue's number and the bytes that are lent, what is left in these, and the answer.
 -- It holds of any tables; of a track that passes the check the text is that of the cue (`proofs/Theorem`). Definitions alone.
-use Rattle.std.specs.Prelude.{ℕ, ◌+◌, ◌≤◌, ◌<◌, ◌≡◌, true, List, length}
+use Rattle.std.specs.Prelude.{Result, ℕ, ◌+◌, ◌≤◌, ◌<◌, ◌≡◌, true, List, length}
 use Rattle.track.specs.Track.{Bytes}
 use Rattle.track.specs.Tables.{cell, cue_count}
 use Rattle.track.specs.Tables as track
 use Rattle.track.specs.Meaning.{all_rows}
 use Rattle.walk.specs.Text.{rows_text, row_within_of}
-use Rattle.writer.specs.declared.calls.Answer.{Answer}
 use Rattle.writer.specs.Promise.{Outcome, gives, meets, within, Answers}
+use Rattle.tree.specs.declared.answers.Refusal.{Refusal}
 
 -- ---- the tables that it looks at
 pub record Tables : Type 0 where
@@ -58,5 +58,5 @@ pub data Comes (T : Tables) (i lent : ℕ) : Outcome → Type 0 where
   of_cue : LongEnough T → HasCue T i → Comes T i lent (within lent (gives (says T i)))
 
 -- ---- the promise
-abbrev pub PlainText : (T : Tables) (i : ℕ) (lent : List ℕ) → Answer → (left : List ℕ) → Type 0
+abbrev pub PlainText : (T : Tables) (i : ℕ) (lent : List ℕ) → Result ℕ Refusal → (left : List ℕ) → Type 0
 PlainText T i lent answer left = Answers (Comes T i (length lent)) lent answer left

@@ -1,76 +1,58 @@
 #![tactic(auto)]
 // What a cue says: the call. It looks at the one cue, so that a loop over a film's cues costs what their texts do.
-ghost use Rattle.std.specs.Prelude.{◌≡◌, true, List, ℕ, ◌+◌, ◌*◌, ◌≤◌, length, replicate};
-ghost use Rattle.track.specs.Meaning.{all_rows};
-ghost use Rattle.walk.specs.Text.{rows_text, row_within_of};
+mod handed;
+
+ghost use Rattle.std.specs.Prelude.{◌≡◌, length, replicate};
+ghost use Rattle.walk.specs.Text.{rows_text};
 ghost use Rattle.writer.specs.Calls.{Filled};
 ghost use Rattle.spoken.specs.Promise.{tables, LongEnough, HasCue, PlainText};
 ghost use Rattle.spoken.specs.Steps.{Decides};
 
-use scan::Written;
+pub use handed::Tables;
 use track::{CUE_CELLS, CUES, HEAD_CELLS, SEGMENT_CELLS, SEGMENTS};
-use tree::BYTES;
-use writer::Answer;
+use tree::{BYTES, Refusal};
+use walk::TextRows;
 
 const CUE_TABLE: usize = CUES * CUE_CELLS;
 
 const SEGMENT_TABLE: usize = SEGMENTS * SEGMENT_CELLS;
 
 // Are the tables as long as they must be?
-fn are_long(head: &[u32], cues: &[u32], segments: &[u32], texts: &[u8]) -> bool
-    ensures { Decides (LongEnough (tables head.now cues.now segments.now texts.now)) result }
+fn are_long(t: &Tables<'_>) -> bool
+    ensures { Decides (LongEnough (tables t.now.head.now t.now.cues.now t.now.segments.now t.now.texts.now)) result }
 {
-    if head.len() < HEAD_CELLS {
-        return false;
-    }
-    if cues.len() < CUE_TABLE {
-        return false;
-    }
-    if segments.len() < SEGMENT_TABLE {
-        return false;
-    }
-    if texts.len() < BYTES {
-        return false;
-    }
-    true
+    HEAD_CELLS <= t.head.len()
+        && CUE_TABLE <= t.cues.len()
+        && SEGMENT_TABLE <= t.segments.len()
+        && BYTES <= t.texts.len()
 }
 
 // Is the cue there, with its rows and their texts?
-fn has_cue(head: &[u32], cues: &[u32], segments: &[u32], index: usize) -> bool
-    requires { (10 ≤ length head.now) × (22528 ≤ length cues.now) × (98304 ≤ length segments.now) }
-    ensures { (y : List ℕ) → Decides (HasCue (tables head.now cues.now segments.now y) index) result }
+fn has_cue(t: &Tables<'_>, index: usize) -> bool
+    requires { LongEnough (tables t.now.head.now t.now.cues.now t.now.segments.now t.now.texts.now) }
+    ensures { Decides (HasCue (tables t.now.head.now t.now.cues.now t.now.segments.now t.now.texts.now) index) result }
 {
-    if scan::get(head, 3) <= index {
-        return false;
-    }
-    if CUES <= index {
+    if scan::get(t.head, 3) <= index || CUES <= index {
         return false;
     }
     let row = index * CUE_CELLS;
-    let first = scan::get(cues, row + 7);
-    let n = scan::get(cues, row + 8);
-    if SEGMENTS < first {
+    let first = scan::get(t.cues, row + 7);
+    let n = scan::get(t.cues, row + 8);
+    if SEGMENTS < first || SEGMENTS - first < n {
         return false;
     }
-    if SEGMENTS - first < n {
-        return false;
-    }
-    if !walk::rows_within(segments, first, n) {
-        return false;
-    }
-    true
+    walk::rows_within(t.segments, first, n)
 }
 
-// The text of n rows, written into bytes that are clear.
-fn fill(segments: &[u32], texts: &[u8], first: usize, n: usize, out: &mut [u8]) -> Answer
-    requires { ((first + n) * 6 ≤ length segments.now) × (all_rows (row_within_of segments.now) n first ≡ true) × (65536 ≤ length texts.now)
-        × (out.old ≡ replicate (length out.old) 0) }
-    ensures { Filled (rows_text texts.now segments.now n first) (length out.old) result out.new }
+// The text of the rows, written into bytes that are clear.
+fn fill(rows: &TextRows<'_>, out: &mut [u8]) -> Result<usize, Refusal>
+    requires { out.old ≡ replicate (length out.old) 0 }
+    ensures { Filled (rows_text rows.now.texts.now rows.now.segments.now rows.now.many rows.now.first) (length out.old) result out.new }
 {
     let end = writer::limit(out.len());
-    match walk::plain_text(segments, texts, first, n, &mut out[..end], 0) {
-        Written::At(k) => Answer::Bytes(k),
-        Written::Full => {
+    match walk::plain_text(rows, &mut out[..end], 0) {
+        Some(k) => Ok(k),
+        None => {
             scan::clear_bytes(out);
             writer::refused(18)
         }
@@ -78,26 +60,22 @@ fn fill(segments: &[u32], texts: &[u8], first: usize, n: usize, out: &mut [u8]) 
 }
 
 // The text of the cue of this index, in `out`.
-pub fn plain_text(
-    head: &[u32],
-    cues: &[u32],
-    segments: &[u32],
-    texts: &[u8],
-    index: usize,
-    out: &mut [u8],
-) -> Answer
-    ensures { PlainText (tables head.now cues.now segments.now texts.now) index out.old result
-        out.new }
+pub fn plain_text(t: &Tables<'_>, index: usize, out: &mut [u8]) -> Result<usize, Refusal>
+    ensures { PlainText (tables t.now.head.now t.now.cues.now t.now.segments.now t.now.texts.now) index out.old result out.new }
 {
     scan::clear_bytes(out);
-    if !are_long(head, cues, segments, texts) {
+    if !are_long(t) {
         return writer::refused(1);
     }
-    if !has_cue(head, cues, segments, index) {
+    if !has_cue(t, index) {
         return writer::refused(17);
     }
     let row = index * CUE_CELLS;
-    let first = scan::get(cues, row + 7);
-    let n = scan::get(cues, row + 8);
-    fill(segments, texts, first, n, out)
+    let rows = TextRows {
+        segments: t.segments,
+        texts: t.texts,
+        first: scan::get(t.cues, row + 7),
+        many: scan::get(t.cues, row + 8),
+    };
+    fill(&rows, out)
 }

@@ -4,6 +4,7 @@
 --     Along, along_start, along_step, along_done, along_full      where the program is
 --     word_end, word-within, full-in               a word of a chain that is a part of some bytes
 --     chain_length, chain_here                     a chain where it stands
+use Rattle.std.specs.Prelude.{None}
 use Prim.Native.Nat.{ℕ, ◌+◌, ◌-◌, ◌≤◌, ◌<◌}
 use mathlib.Core.Path.{◌≡◌, refl, ap, ◌∙◌}
 use mathlib.Core.Logic.{inl, inr}
@@ -12,7 +13,6 @@ use native.Mathlib.Omega.{arith}
 use lib.ListN.{length, length-append, length-take, length-drop}
 use lib.Ieee.{Float}
 use Rattle.scan.specs.Part.{part, string_at}
-use Rattle.utf8.specs.declared.white.Word.TheVariants.{Nothing}
 use Rattle.utf8.specs.White.{words, words_from, WordAt, NextWord}
 use Rattle.utf8.proofs.WhiteLaws.{words_from-after}
 use Rattle.track.specs.Track.{Bytes, Style}
@@ -93,7 +93,7 @@ module _ (x s : List ℕ) (f : List Float) (z : List ℕ) (n : ℕ) (chain : Byt
   }
 
   module _ (p : ℕ) (t heads : List ℕ) (w : Walk) (here : Along p t heads w) where
-    pub along_done : bytes_of x z c ≡ chain → NextWord chain p Nothing → places.Walks x s f z n c 0 (state_at t₀ w₀) (state_at t w)
+    pub along_done : bytes_of x z c ≡ chain → NextWord chain p None → places.Walks x s f z n c 0 (state_at t₀ w₀) (state_at t w)
     along_done is h = here.placed (state_at t w) (places.none (rw is h) refl)
 
     module _ (a q : ℕ) (next : WordAt chain p a q) where

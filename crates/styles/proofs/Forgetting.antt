@@ -3,6 +3,7 @@
 --     word-part, part-is       a word of a part is a part of the whole
 --     meets, parents-at        an id visited, and its parents
 --     forgets, visit_is        the words of a string from a place on; one id
+use Rattle.std.specs.Prelude.{Option, Some, None}
 use Prim.Native.Nat.{ℕ, zero, suc, ◌+◌, ◌-◌, ◌≤◌}
 use mathlib.Core.Path.{◌≡◌, refl, sym, ap, ◌∙◌}
 use mathlib.Core.Bool.{true, false}
@@ -16,7 +17,6 @@ use Rattle.scan.specs.Part.{part, string_at}
 use Rattle.utf8.specs.White.{words, words_from, WordAt}
 use Rattle.track.specs.Track.{Bytes, Style}
 use Rattle.track.specs.Tables.{style_at}
-use Rattle.scan.specs.declared.table.Found.{Found}
 use Rattle.records.specs.Find.{first_row, first_with}
 use Rattle.records.proofs.FoundRows.{style_found}
 use Rattle.styles.specs.Reaches.{parents}
@@ -77,18 +77,18 @@ module _ (x s : List ℕ) (f : List Float) (e z : List ℕ) (n : ℕ) where
   unfolding chain_at
   parents-at name = go (first_with s z name 27 3 n 0) refl
     where
-      go : (o : Found) → first_with s z name 27 3 n 0 ≡ o → parents styles name ≡ words (bytes_of x z (chain_at s z n name))
-      go (Found.Row i) h = rw h (chain_row s f e z n name i h)
-      go Found.Nothing h = rw h (chain_none s f e z n name h)
+      go : (o : Option ℕ) → first_with s z name 27 3 n 0 ≡ o → parents styles name ≡ words (bytes_of x z (chain_at s z n name))
+      go (Some i) h = rw h (chain_row s f e z n name i h)
+      go None h = rw h (chain_none s f e z n name h)
 
   owns : (name : Bytes) (w : WalkedAt) → forget x z (own_at s f z n name w) ≡ own styles name (forget x z w)
   unfolding own_at own
   owns name w = go (first_row s z name 27 n 0) refl
     where
-      go : (o : Found) → first_row s z name 27 n 0 ≡ o → forget x z (own_at s f z n name w) ≡ own styles name (forget x z w)
-      go (Found.Row i) h =
+      go : (o : Option ℕ) → first_row s z name 27 n 0 ≡ o → forget x z (own_at s f z n name w) ≡ own styles name (forget x z w)
+      go (Some i) h =
           rw (style_found (bare s f e z) name n, h, row-look s f e z n name i, look-over z w.look (style_at s f i).look)
-      go Found.Nothing h = rw (style_found (bare s f e z) name n, h)
+      go None h = rw (style_found (bare s f e z) name n, h)
 
   -- one id
   module _ (a : Row) (w : WalkedAt) where

@@ -2,6 +2,7 @@
 --     look-over                    an overlay of what the program holds means the overlay
 --     chain_row, chain_none          the parents of an id, where a row with a chain is found, and where none is
 --     chain-at, no_chain_at, own-at, no_own_at      chain and own style with places
+use Rattle.std.specs.Prelude.{Some, None}
 use Prim.Native.Nat.{ℕ, ◌+◌, ◌*◌, ◌<◌}
 use mathlib.Core.Path.{◌≡◌, refl, sym}
 use mathlib.Core.Bool.{Bool, true, false, cond, ◌||◌}
@@ -20,7 +21,6 @@ use Rattle.track.specs.declared.strings.Span.{Span}
 use Rattle.track.specs.Track.{Bytes}
 use Rattle.track.specs.Tables.{Tables, cell, span, style_at}
 use Rattle.track.specs.Meaning.{bytes_at, given, look_in_of, style_in}
-use Rattle.scan.specs.declared.table.Found.{Found}
 use Rattle.records.specs.Find.{first_row, first_with}
 use Rattle.records.proofs.Finding.{named_with}
 use Rattle.records.proofs.FoundRows.{First, row_first, with_first, chain_found}
@@ -66,7 +66,7 @@ module _ (s : List ℕ) (f : List Float) (e z : List ℕ) (n : ℕ) (name : Byte
   unfolding style_in style_at cell
   some_chain i h = rw h
 
-  module _ (i : ℕ) (h : first_with s z name 27 3 n 0 ≡ Found.Row i) where
+  module _ (i : ℕ) (h : first_with s z name 27 3 n 0 ≡ Some i) where
     first-chain : First (named_with s z name 27 3) n 0 i
     first-chain = with_first s z name 27 n 3 i h
 
@@ -80,7 +80,7 @@ module _ (s : List ℕ) (f : List Float) (e z : List ℕ) (n : ℕ) (name : Byte
     unfolding parents
     chain_row = rw (chain_found tables name n, h, some_chain i has_chain)
 
-  pub chain_none : first_with s z name 27 3 n 0 ≡ Found.Nothing → parents (styles_in s f e z n) name ≡ words (string_at z 0 0)
+  pub chain_none : first_with s z name 27 3 n 0 ≡ None → parents (styles_in s f e z n) name ≡ words (string_at z 0 0)
   unfolding parents string_at
   chain_none h = rw (chain_found tables name n, h) (sym no_words)
 
@@ -89,26 +89,26 @@ module _ (s : List ℕ) (f : List Float) (e z : List ℕ) (n : ℕ) (name : Byte
   unfolding style_in style_at look_in_of
   row-look i = refl
 
-  module _ (i : ℕ) (h : first_row s z name 27 n 0 ≡ Found.Row i) where
+  module _ (i : ℕ) (h : first_row s z name 27 n 0 ≡ Some i) where
     pub own-row_within : i < n
     own-row_within = omega (arith, (row_first s z name 27 n i h).within)
 
 -- ---- with places
 module _ (s z : List ℕ) (n : ℕ) (name : Bytes) where
-  pub chain-at : (i : ℕ) → first_with s z name 27 3 n 0 ≡ Found.Row i → (r : Span) → r.place ≡ get_or s (i * 27 + 2) 0 → r.len ≡ get_or s (i * 27 + 3) 0
+  pub chain-at : (i : ℕ) → first_with s z name 27 3 n 0 ≡ Some i → (r : Span) → r.place ≡ get_or s (i * 27 + 2) 0 → r.len ≡ get_or s (i * 27 + 3) 0
       → row 1 r ≡ chain_at s z n name
   unfolding chain_at
   chain-at i h r p l = rw (h, p, l)
 
-  pub no_chain_at : first_with s z name 27 3 n 0 ≡ Found.Nothing → row 1 (span 0 0) ≡ chain_at s z n name
+  pub no_chain_at : first_with s z name 27 3 n 0 ≡ None → row 1 (span 0 0) ≡ chain_at s z n name
   unfolding chain_at
   no_chain_at h = rw h
 
-  pub own-at : (f : List Float) (i : ℕ) → first_row s z name 27 n 0 ≡ Found.Row i → (t : List ℕ) (w r : Walk) → r.count ≡ w.count → r.found ≡ true
+  pub own-at : (f : List Float) (i : ℕ) → first_row s z name 27 n 0 ≡ Some i → (t : List ℕ) (w r : Walk) → r.count ≡ w.count → r.found ≡ true
       → r.look ≡ overlaid w.look (style_at s f i).look → state_at t r ≡ own_at s f z n name (state_at t w)
   unfolding own_at
   own-at f i h t w r a b c = rw (h, a, b, c)
 
-  pub no_own_at : (f : List Float) → first_row s z name 27 n 0 ≡ Found.Nothing → (w : WalkedAt) → w ≡ own_at s f z n name w
+  pub no_own_at : (f : List Float) → first_row s z name 27 n 0 ≡ None → (w : WalkedAt) → w ≡ own_at s f z n name w
   unfolding own_at
   no_own_at f h w = rw h

@@ -2,6 +2,7 @@
 --     rows-count, ids_length, distinct_rows    how many rows; none twice
 --     visits_walks                 a word, then those after it
 --     walks_only, resolves_only    it has one outcome at most
+use Rattle.std.specs.Prelude.{None}
 use Prim.Native.Nat.{ℕ, zero, suc, ◌+◌}
 use mathlib.Core.Path.{◌≡◌, refl, sym, ap, ◌∙◌}
 use mathlib.Core.Bool.{true, false}
@@ -10,7 +11,6 @@ use mathlib.Core.List.{List, [], ◌∷◌}
 use native.Mathlib.Omega.{arith}
 use lib.ListN.{length}
 use lib.Ieee.{Float}
-use Rattle.utf8.specs.declared.white.Word.TheVariants.{Nothing}
 use Rattle.utf8.specs.White.{words_from, WordAt, NextWord}
 use Rattle.utf8.proofs.WhiteLaws.{words_from-after}
 use Rattle.decimals.proofs.Tests.{no}
@@ -62,7 +62,7 @@ module _ {y : Bytes} {p : ℕ} where
   pub words-next : {a e : ℕ} → WordAt y p a e → words_from y p [] ≡ part a e y ∷ words_from y e []
   words-next {a} {e} h = h.next [] ∙ words_from-after y e (part a e y ∷ [])
 
-  word_none : {A : Type 0} {a e : ℕ} → NextWord y p Nothing → WordAt y p a e → A
+  word_none : {A : Type 0} {a e : ℕ} → NextWord y p None → WordAt y p a e → A
   word_none h k = not_some (sym (h []) ∙ words-next k)
 
   module _ {a e b d : ℕ} (h : WordAt y p a e) (k : WordAt y p b d) where
@@ -80,7 +80,7 @@ module _ (x s : List ℕ) (f : List Float) (z : List ℕ) (n : ℕ) where
   visits_walks k (steps.first h c q) d = first k h c (rw q at d)
 
   module _ {r : Row} {p : ℕ} {w v u : WalkedAt} where
-    none_only : NextWord (bytes_of x z r) p Nothing → v ≡ w → Walks x s f z n r p w u → v ≡ u
+    none_only : NextWord (bytes_of x z r) p None → v ≡ w → Walks x s f z n r p w u → v ≡ u
     none_only h e (none k q) = e ∙ sym q
     none_only h e (again k i d) = word_none h k
     none_only h e (first k i c d) = word_none h k

@@ -1,6 +1,6 @@
 -- What a region says of itself by its kept attributes (the Rust's `apply_tts_attrs` on them). Definitions alone.
 -- textDecoration is not among them: `REGION_ATTR_ORDER` has it not.
-use Rattle.std.specs.Prelude.{ℕ, Bool, false, ◌||◌, List, take, eqb}
+use Rattle.std.specs.Prelude.{Result, Ok, Err, ℕ, Bool, false, ◌||◌, List, take, eqb}
 use Prim.Native.String.{String}
 use Rattle.std.proofs.Math.Option.{Option, none, some}
 use Rattle.scan.specs.Bytes.{digit_byte, run_length_of}
@@ -8,10 +8,8 @@ use Rattle.scan.specs.Names.{same_bytes_of, same_folded}
 pub use Rattle.scan.specs.Text.{ascii}
 use Rattle.utf8.specs.White.{trimmed}
 use Rattle.colors.specs.declared.read.Rgba.{Rgba}
-use Rattle.colors.specs.declared.read.Color.{Color}
 use Rattle.colors.specs.Colors.{color_in}
 use Rattle.colors.specs.Colors as colors
-use Rattle.decimals.specs.declared.read.Decimal.{Decimal}
 use Rattle.decimals.specs.declared.size.Size.{Size}
 use Rattle.decimals.specs.Decimal.{decimal_of}
 use Rattle.decimals.specs.Decimal as decimal
@@ -22,6 +20,9 @@ use Rattle.track.specs.declared.values.Align.{Align}
 use Rattle.track.specs.Alignment.{align_word}
 use Rattle.track.specs.Track.{Bytes, Look, Extra}
 use Rattle.records.specs.Find.{first_that}
+use Rattle.decimals.specs.declared.read.DecimalError.{DecimalError}
+use Rattle.colors.specs.declared.read.ColorError.{ColorError}
+use Rattle.decimals.specs.declared.read.Digits.{Digits}
 
 -- an answer, or document 01's number of what refuses it
 pub data Read (A : Type 0) : Type 0 where
@@ -45,19 +46,19 @@ unfolding first_that
 value_of name extras = value_from (first_that (is_named name) extras)
 
 -- ---- values
-abbrev pub color_read : Color → Read (Option Rgba)
-color_read (Color.Is c) = is (some c)
-color_read Color.Nothing = is none
-color_read Color.Cut = refused (colors.number_of Color.Cut)
+abbrev pub color_read : Result Rgba ColorError → Read (Option Rgba)
+color_read (Ok c) = is (some c)
+color_read (Err ColorError.Invalid) = is none
+color_read (Err ColorError.Cut) = refused (colors.number_of (Err ColorError.Cut))
 
 abbrev pub color_of : Option Bytes → Read (Option Rgba)
 color_of none = is none
 color_of (some v) = color_read (color_in v)
 
-abbrev pub size_read : Decimal → Read (Option Size)
-size_read (Decimal.Is d) = is (some (size_of d))
-size_read Decimal.Nothing = is none
-size_read Decimal.Beyond = refused (decimal.number_of Decimal.Beyond)
+abbrev pub size_read : Result Digits DecimalError → Read (Option Size)
+size_read (Ok d) = is (some (size_of d))
+size_read (Err DecimalError.Invalid) = is none
+size_read (Err DecimalError.Beyond) = refused (decimal.number_of (Err DecimalError.Beyond))
 
 -- the digits and points that the value begins with
 abbrev pub size_byte : ℕ → Bool

@@ -2,8 +2,7 @@
 -- of the table of ids, and a look the program's struct, in which a family is a part of the strings. Definitions alone. The walk has one outcome
 -- at most (`proofs/Places`); with its places forgotten it is the walk of `Resolve` (`proofs/Forgetting`).
 --     s is the styles' table, f the sizes, z the strings, n the number of styles
-use Rattle.std.specs.Prelude.{ℕ, ◌+◌, ◌-◌, ◌*◌, ◌≡◌, Bool, true, false, cond, not, List, [], ◌∷◌, ◌++◌, get_or, Float}
-use Rattle.utf8.specs.declared.white.Word.TheVariants.{Nothing}
+use Rattle.std.specs.Prelude.{Option, Some, None, ℕ, ◌+◌, ◌-◌, ◌*◌, ◌≡◌, Bool, true, false, cond, not, List, [], ◌∷◌, ◌++◌, get_or, Float}
 use Rattle.utf8.specs.White.{WordAt, NextWord}
 use Rattle.names.specs.Numbers.{is_in}
 use Rattle.track.specs.declared.strings.Span.{Span}
@@ -11,7 +10,6 @@ use Rattle.track.specs.declared.values.Look.{Look}
 use Rattle.track.specs.Track.{Bytes}
 use Rattle.track.specs.Tables.{span, style_at}
 use Rattle.track.specs.Meaning.{look_in_of}
-use Rattle.scan.specs.declared.table.Found.{Found}
 use Rattle.records.specs.Find.{first_row, first_with}
 use Rattle.styles.specs.Resolve.{Walked}
 use Rattle.styles.specs.Cells.{overlaid, blank_look, is_plain}
@@ -47,18 +45,18 @@ unfoldable pub meet_at : Row → WalkedAt → WalkedAt
 meet_at a w = record { visited = w.visited ++ (a ∷ []); found = w.found; look = w.look }
 
 -- the first chain of a style of this name; no bytes where there is none
-abbrev pub chain_of : List ℕ → Found → Span
-chain_of s (Found.Row i) = span (get_or s (i * 27 + 2) 0) (get_or s (i * 27 + 3) 0)
-chain_of s Found.Nothing = span 0 0
+abbrev pub chain_of : List ℕ → Option ℕ → Span
+chain_of s (Some i) = span (get_or s (i * 27 + 2) 0) (get_or s (i * 27 + 3) 0)
+chain_of s None = span 0 0
 
 unfoldable pub chain_at : (s z : List ℕ) → ℕ → Bytes → Row
 unfolding first_with
 chain_at s z n name = row 1 (chain_of s (first_with s z name 27 3 n 0))
 
 -- the style of this name itself, the first of equal names
-abbrev pub applied_at : List ℕ → List Float → WalkedAt → Found → WalkedAt
-applied_at s f w (Found.Row i) = record { visited = w.visited; found = true; look = overlaid w.look (style_at s f i).look }
-applied_at s f w Found.Nothing = w
+abbrev pub applied_at : List ℕ → List Float → WalkedAt → Option ℕ → WalkedAt
+applied_at s f w (Some i) = record { visited = w.visited; found = true; look = overlaid w.look (style_at s f i).look }
+applied_at s f w None = w
 
 unfoldable pub own_at : List ℕ → List Float → List ℕ → ℕ → Bytes → WalkedAt → WalkedAt
 unfolding first_row style_at overlaid
@@ -73,7 +71,7 @@ module _ (text s : List ℕ) (f : List Float) (z : List ℕ) (n : ℕ) where
   -- "In a chain each parent is applied before the style itself, and a visited id contributes nothing." The words of the string r, from its place p
   -- on, take what is known from w to v: there is none; or the next one, from a to e, was visited before; or it was not.
   pub data Walks : Row → ℕ → WalkedAt → WalkedAt → Type 0 where
-    none : {r : Row} {p : ℕ} {w v : WalkedAt} → NextWord (bytes_of text z r) p Nothing → v ≡ w → Walks r p w v
+    none : {r : Row} {p : ℕ} {w v : WalkedAt} → NextWord (bytes_of text z r) p None → v ≡ w → Walks r p w v
     again : {r : Row} {p a e : ℕ} {w v : WalkedAt} → WordAt (bytes_of text z r) p a e → is_visited text z (within r a e) w ≡ true
         → Walks r e w v → Walks r p w v
     first : {r : Row} {p a e : ℕ} {w m v : WalkedAt} → WordAt (bytes_of text z r) p a e → is_visited text z (within r a e) w ≡ false

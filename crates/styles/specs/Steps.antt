@@ -1,6 +1,7 @@
 -- What the inner functions of the resolution ask and ensure; no part of what a reader of the promise must believe.
 --     x is the query's text, s the styles' table, f the sizes, e the extras, z the strings, n the number of styles, t the rows of ids
-use Rattle.std.specs.Prelude.{ℕ, ◌+◌, ◌*◌, ◌≤◌, ◌<◌, ◌≡◌, Bool, true, false, cond, ◌⊎◌, List, [], ◌++◌, length, get_or, Float}
+use Rattle.std.specs.Prelude as rust
+use Rattle.std.specs.Prelude.{Some, None, ℕ, ◌+◌, ◌*◌, ◌≤◌, ◌<◌, ◌≡◌, Bool, true, false, cond, ◌⊎◌, List, [], ◌++◌, length, get_or, Float}
 use Rattle.std.proofs.Math.Option.{Option, none, some}
 use Rattle.track.specs.declared.strings.Span.{Span}
 use Rattle.track.specs.declared.values.Look as values
@@ -9,7 +10,6 @@ use Rattle.track.specs.Tables.{Tables, rows_from}
 use Rattle.track.specs.Meaning.{is_color, given, look_in_of, style_in}
 use Rattle.records.specs.Find.{Named}
 use Rattle.styles.specs.declared.apply.Walk.{Walk}
-use Rattle.styles.specs.declared.apply.Applied.{Applied}
 use Rattle.styles.specs.Values.{laid_over}
 use Rattle.styles.specs.Resolve.{Walked, Resolution, walk, resolve}
 use Rattle.styles.specs.Queries.{others, both, with_own}
@@ -115,9 +115,9 @@ module _ (x s : List ℕ) (f : List Float) (z : List ℕ) (n : ℕ) (ids : List 
     pub kept : length t' ≡ length t
     pub over : (e : List ℕ) → Over t (walk (styles_in s f e z n) ids (state_in x z t w)).visited
 
-  abbrev pub ApplyPost : (WalkedAt → WalkedAt → Type 0) → Applied → Type 0
-  ApplyPost does (Applied.Done r) = Applies does x z t t' heads w r
-  ApplyPost does Applied.Full = Overflows
+  abbrev pub ApplyPost : (WalkedAt → WalkedAt → Type 0) → rust.Option Walk → Type 0
+  ApplyPost does (Some r) = Applies does x z t t' heads w r
+  ApplyPost does None = Overflows
 
 -- ---- answers
 abbrev pub style_of : List ℕ → Walk → Option (Look Bytes)
@@ -159,9 +159,9 @@ module _ (x s : List ℕ) (f : List Float) (z : List ℕ) (n : ℕ) (first secon
       pub stood : Stood x z t' r.count
       pub behind : (k : ℕ) → r.count * 4 ≤ k → get_or t' k 0 ≡ get_or t k 0
 
-    abbrev pub PairPost : Applied → Type 0
-    PairPost (Applied.Done r) = Pairs r
-    PairPost Applied.Full = PairsOver
+    abbrev pub PairPost : rust.Option Walk → Type 0
+    PairPost (Some r) = Pairs r
+    PairPost None = PairsOver
 
   -- a value, over it a look, and over that the second value: it equals the definition, and every cell is known
   module _ (look : values.Look) where
@@ -182,6 +182,6 @@ module _ (x s : List ℕ) (f : List Float) (z : List ℕ) (n : ℕ) (first secon
         pub stood : Stood x z t' r.count
         pub behind : (k : ℕ) → r.count * 4 ≤ k → get_or t' k 0 ≡ 0
 
-      abbrev pub AnswerPost : Applied → Type 0
-      AnswerPost (Applied.Done r) = Answered r
-      AnswerPost Applied.Full = AnswerOver
+      abbrev pub AnswerPost : rust.Option Walk → Type 0
+      AnswerPost (Some r) = Answered r
+      AnswerPost None = AnswerOver

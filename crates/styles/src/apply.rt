@@ -6,11 +6,10 @@ ghost use Rattle.track.specs.Meaning.{bytes_at};
 ghost use Rattle.track.specs.Tables.{span};
 ghost use Rattle.styles.specs.Ids.{Held};
 ghost use Rattle.styles.specs.Places.{row, Walks};
-ghost use Rattle.styles.specs.Steps.{Chained, Ready, Stands, ChainOf, OwnStyle, Visits, ApplyPost, LaysOver, PairPost, AnswerPost};
+ghost use Rattle.styles.specs.Steps.{Stands, ChainOf, OwnStyle, Visits, ApplyPost, LaysOver, PairPost, AnswerPost};
 
-use records::Found;
+use crate::named::NamedStyles;
 use track::{Look, STYLE_CELLS, Span};
-use utf8::Word;
 
 // What is known on the way: how many ids were visited, whether a style was met, and the styles met, each
 // over those before it.
@@ -21,45 +20,33 @@ pub struct Walk {
     pub look: Look,
 }
 
-// More ids than there are rows for is Full (number 18).
-#[derive(Clone, Copy)]
-pub enum Applied {
-    Done(Walk),
-    Full,
-}
-
 // The chain of the first style of this name that has one; an empty part where none has.
-fn chain_of(styles: &[u32], strings: &[u8], n: usize, name: &[u8]) -> Span
-    requires { Chained styles.now strings.now n }
-    ensures { ChainOf styles.now strings.now n name.now result }
+fn chain_of(named: &NamedStyles<'_>, name: &[u8]) -> Span
+    ensures { ChainOf named.now.styles.now named.now.strings.now named.now.many name.now result }
 {
-    match records::find_chain(styles, strings, n, name) {
-        Found::Row(i) => Span {
-            place: scan::get(styles, i * STYLE_CELLS + 2),
-            len: scan::get(styles, i * STYLE_CELLS + 3),
+    match records::find_chain(named.styles, named.strings, named.many, name) {
+        Some(i) => Span {
+            place: scan::get(named.styles, i * STYLE_CELLS + 2),
+            len: scan::get(named.styles, i * STYLE_CELLS + 3),
         },
-        Found::Nothing => Span { place: 0, len: 0 },
+        None => Span { place: 0, len: 0 },
     }
 }
 
 // The style of this name itself, over what was met before.
-fn own_style(styles: &[u32], sizes: &[f32], strings: &[u8], n: usize, name: &[u8], w: Walk) -> Walk
-    requires { Ready styles.now sizes.now strings.now n }
-    ensures { OwnStyle styles.now sizes.now strings.now n name.now w result }
+fn own_style(named: &NamedStyles<'_>, name: &[u8], w: Walk) -> Walk
+    ensures { OwnStyle named.now.styles.now named.now.sizes.now named.now.strings.now named.now.many name.now w result }
 {
-    match records::find_style(styles, strings, n, name) {
-        Found::Row(i) => {
-            let style = records::style_at(styles, sizes, i);
-            let above = style.look;
-            let below = w.look;
-            let look = crate::values::overlay_style(below, above);
+    match records::find_style(named.styles, named.strings, named.many, name) {
+        Some(i) => {
+            let style = records::style_at(named.styles, named.sizes, i);
             Walk {
                 count: w.count,
                 found: true,
-                look,
+                look: crate::values::overlay_style(w.look, style.look),
             }
         }
-        Found::Nothing => w,
+        None => w,
     }
 }
 
@@ -67,10 +54,7 @@ fn own_style(styles: &[u32], sizes: &[f32], strings: &[u8], n: usize, name: &[u8
 // track's strings), its parents first.
 fn apply_style_ref(
     text: &[u8],
-    styles: &[u32],
-    sizes: &[f32],
-    strings: &[u8],
-    n: usize,
+    named: &NamedStyles<'_>,
     own: &[u8],
     source: u32,
     at: usize,
@@ -78,80 +62,59 @@ fn apply_style_ref(
     ids: &mut [u32],
     heads: &mut [u32],
     w: Walk,
-) -> Applied
-    requires { Ready styles.now sizes.now strings.now n × Stands text.now strings.now own.now source at len
-        × Held text.now strings.now ids.old heads.old w.count }
-    ensures { ApplyPost text.now styles.now sizes.now strings.now n
+) -> Option<Walk>
+    requires { Stands text.now named.now.strings.now own.now source at len
+        × Held text.now named.now.strings.now ids.old heads.old w.count }
+    ensures { ApplyPost text.now named.now.styles.now named.now.sizes.now named.now.strings.now named.now.many
         (string_at own.now at len ∷ []) ids.old ids.new heads.new w
-        (Visits text.now styles.now sizes.now strings.now n
+        (Visits text.now named.now.styles.now named.now.sizes.now named.now.strings.now named.now.many
         (row source (span at len))) result }
 {
     let end = at + len;
     let count = w.count;
     let h = crate::ids::hash(&own[at..end]);
-    if crate::ids::is_visited(text, strings, ids, heads, count, h, &own[at..end]) {
-        return Applied::Done(w);
+    if crate::ids::is_visited(text, named.strings, ids, heads, count, h, &own[at..end]) {
+        return Some(w);
     }
     if 65536 <= count {
-        return Applied::Full;
+        return None;
     }
     if ids.len() - count * 4 < 4 {
-        return Applied::Full;
+        return None;
     }
     crate::ids::add_id(ids, heads, count, h, source, at, len, &own[at..end]);
-    let look = w.look;
     let mut s = Walk {
         count: count + 1,
         found: w.found,
-        look,
+        look: w.look,
     };
-    let chain = chain_of(styles, strings, n, &own[at..end]);
+    let chain = chain_of(named, &own[at..end]);
     let from = chain.place;
     let to = from + chain.len;
     let mut p = 0;
-    loop {
-        match utf8::next_word(&strings[from..to], p) {
-            Word::Nothing => {
-                let r = own_style(styles, sizes, strings, n, &own[at..end], s);
-                return Applied::Done(r);
-            }
-            Word::At(x) => {
-                let start = x.start;
-                match apply_style_ref(
-                    text,
-                    styles,
-                    sizes,
-                    strings,
-                    n,
-                    strings,
-                    1,
-                    from + start,
-                    x.end - start,
-                    ids,
-                    heads,
-                    s,
-                ) {
-                    Applied::Full => {
-                        return Applied::Full;
-                    }
-                    Applied::Done(t) => {
-                        s = t;
-                    }
-                }
-                p = x.end;
-            }
-        }
+    while let Some(x) = utf8::next_word(&named.strings[from..to], p) {
+        let start = x.start;
+        s = apply_style_ref(
+            text,
+            named,
+            named.strings,
+            1,
+            from + start,
+            x.end - start,
+            ids,
+            heads,
+            s,
+        )?;
+        p = x.end;
     }
+    Some(own_style(named, &own[at..end], s))
 }
 
 // The ids of a value, one after the other: `len` bytes of `own` (as above) from a place on. What was
 // visited before stays visited.
 fn apply_refs(
     text: &[u8],
-    styles: &[u32],
-    sizes: &[f32],
-    strings: &[u8],
-    n: usize,
+    named: &NamedStyles<'_>,
     own: &[u8],
     source: u32,
     from: usize,
@@ -159,84 +122,61 @@ fn apply_refs(
     ids: &mut [u32],
     heads: &mut [u32],
     w: Walk,
-) -> Applied
-    requires { Ready styles.now sizes.now strings.now n × Stands text.now strings.now own.now source from len
-        × Held text.now strings.now ids.old heads.old w.count }
-    ensures { ApplyPost text.now styles.now sizes.now strings.now n
+) -> Option<Walk>
+    requires { Stands text.now named.now.strings.now own.now source from len
+        × Held text.now named.now.strings.now ids.old heads.old w.count }
+    ensures { ApplyPost text.now named.now.styles.now named.now.sizes.now named.now.strings.now named.now.many
         (words (string_at own.now from len)) ids.old ids.new heads.new w
-        (Walks text.now styles.now sizes.now strings.now n
+        (Walks text.now named.now.styles.now named.now.sizes.now named.now.strings.now named.now.many
         (row source (span from len)) 0) result }
 {
     let to = from + len;
     let mut s = w;
     let mut p = 0;
-    loop {
-        match utf8::next_word(&own[from..to], p) {
-            Word::Nothing => {
-                return Applied::Done(s);
-            }
-            Word::At(x) => {
-                let start = x.start;
-                match apply_style_ref(
-                    text,
-                    styles,
-                    sizes,
-                    strings,
-                    n,
-                    own,
-                    source,
-                    from + start,
-                    x.end - start,
-                    ids,
-                    heads,
-                    s,
-                ) {
-                    Applied::Full => {
-                        return Applied::Full;
-                    }
-                    Applied::Done(t) => {
-                        s = t;
-                    }
-                }
-                p = x.end;
-            }
-        }
+    while let Some(x) = utf8::next_word(&own[from..to], p) {
+        let start = x.start;
+        s = apply_style_ref(
+            text,
+            named,
+            own,
+            source,
+            from + start,
+            x.end - start,
+            ids,
+            heads,
+            s,
+        )?;
+        p = x.end;
     }
+    Some(s)
 }
 
 // Two values, the second from where the first ended: the style of the first, and the ids of both. The
 // first stands in `own` (as above), the second in the track's strings.
 fn resolve_pair(
     text: &[u8],
-    styles: &[u32],
-    sizes: &[f32],
-    strings: &[u8],
-    n: usize,
+    named: &NamedStyles<'_>,
     own: &[u8],
     source: u32,
     first: Span,
     second: Span,
     ids: &mut [u32],
-) -> Applied
-    requires { Ready styles.now sizes.now strings.now n × Stands text.now strings.now own.now source first.place first.len
-        × Stands text.now strings.now strings.now 1 second.place second.len }
-    ensures { PairPost text.now styles.now sizes.now strings.now n
-        (bytes_at own.now first) (bytes_at strings.now second) ids.old ids.new
+) -> Option<Walk>
+    requires { Stands text.now named.now.strings.now own.now source first.place first.len
+        × Stands text.now named.now.strings.now named.now.strings.now 1 second.place second.len }
+    ensures { PairPost text.now named.now.styles.now named.now.sizes.now named.now.strings.now named.now.many
+        (bytes_at own.now first) (bytes_at named.now.strings.now second) ids.old ids.new
         (row source first) (row 1 second) result }
 {
     let mut heads = [0u32; 4096];
-    let look = crate::values::blank();
     let w = Walk {
         count: 0,
         found: false,
-        look,
+        look: crate::values::blank(),
     };
-    match apply_refs(
+    let a = apply_refs(
         text,
-        styles,
-        sizes,
-        strings,
-        n,
+        named,
         own,
         source,
         first.place,
@@ -244,34 +184,24 @@ fn resolve_pair(
         ids,
         &mut heads,
         w,
-    ) {
-        Applied::Full => Applied::Full,
-        Applied::Done(a) => match apply_refs(
-            text,
-            styles,
-            sizes,
-            strings,
-            n,
-            strings,
-            1,
-            second.place,
-            second.len,
-            ids,
-            &mut heads,
-            a,
-        ) {
-            Applied::Full => Applied::Full,
-            Applied::Done(b) => {
-                crate::ids::clear_links(ids, b.count);
-                let look = a.look;
-                Applied::Done(Walk {
-                    count: b.count,
-                    found: a.found,
-                    look,
-                })
-            }
-        },
-    }
+    )?;
+    let b = apply_refs(
+        text,
+        named,
+        named.strings,
+        1,
+        second.place,
+        second.len,
+        ids,
+        &mut heads,
+        a,
+    )?;
+    crate::ids::clear_links(ids, b.count);
+    Some(Walk {
+        count: b.count,
+        found: a.found,
+        look: a.look,
+    })
 }
 
 // A look over an answer, where there is one.
@@ -281,18 +211,13 @@ fn lay_over(below: Walk, has: bool, above: Look) -> Walk
     if !has {
         return below;
     }
-    let count = below.count;
-    if !below.found {
-        return Walk {
-            count,
-            found: true,
-            look: above,
-        };
-    }
-    let lower = below.look;
-    let look = crate::values::overlay_style(lower, above);
+    let look = if below.found {
+        crate::values::overlay_style(below.look, above)
+    } else {
+        above
+    };
     Walk {
-        count,
+        count: below.count,
         found: true,
         look,
     }
@@ -302,41 +227,25 @@ fn lay_over(below: Walk, has: bool, above: Look) -> Walk
 // with ids of its own; the ids of both are given, each once.
 pub fn resolve_over(
     text: &[u8],
-    styles: &[u32],
-    sizes: &[f32],
-    strings: &[u8],
-    n: usize,
+    named: &NamedStyles<'_>,
     own: &[u8],
     source: u32,
     first: Span,
     look: Look,
     second: Span,
     ids: &mut [u32],
-) -> Applied
-    requires { Ready styles.now sizes.now strings.now n × Stands text.now strings.now own.now source first.place first.len
-        × Stands text.now strings.now strings.now 1 second.place second.len }
-    ensures { AnswerPost text.now styles.now sizes.now strings.now n
-        (bytes_at own.now first) (bytes_at strings.now second) ids.old ids.new look
+) -> Option<Walk>
+    requires { Stands text.now named.now.strings.now own.now source first.place first.len
+        × Stands text.now named.now.strings.now named.now.strings.now 1 second.place second.len }
+    ensures { AnswerPost text.now named.now.styles.now named.now.sizes.now named.now.strings.now named.now.many
+        (bytes_at own.now first) (bytes_at named.now.strings.now second) ids.old ids.new look
         (row source first) (row 1 second) result }
 {
     let none = Span { place: 0, len: 0 };
-    match resolve_pair(
-        text, styles, sizes, strings, n, strings, 1, second, none, ids,
-    ) {
-        Applied::Full => Applied::Full,
-        Applied::Done(b) => {
-            scan::clear(ids);
-            match resolve_pair(
-                text, styles, sizes, strings, n, own, source, first, second, ids,
-            ) {
-                Applied::Full => Applied::Full,
-                Applied::Done(a) => {
-                    let has = !crate::values::style_is_unstyled(look);
-                    let below = lay_over(a, has, look);
-                    let above = b.look;
-                    Applied::Done(lay_over(below, b.found, above))
-                }
-            }
-        }
-    }
+    let b = resolve_pair(text, named, named.strings, 1, second, none, ids)?;
+    scan::clear(ids);
+    let a = resolve_pair(text, named, own, source, first, second, ids)?;
+    let has = !crate::values::style_is_unstyled(look);
+    let below = lay_over(a, has, look);
+    Some(lay_over(below, b.found, b.look))
 }

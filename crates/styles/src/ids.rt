@@ -11,10 +11,8 @@ pub fn hash(name: &[u8]) -> usize
     ensures { (result ≡ hash_of name.now) × (result < 4096) }
 {
     let mut h = 0;
-    let mut i = 0;
-    while i < name.len() {
-        h = (h * 31 + name[i] as usize) % 4096;
-        i += 1;
+    for b in name {
+        h = (h * 31 + *b as usize) % 4096;
     }
     h
 }
@@ -166,9 +164,7 @@ pub fn clear_links(ids: &mut [u32], n: usize)
     requires { n * 4 ≤ length ids.old }
     ensures { Unlinked ids.old ids.new n }
 {
-    let mut i = 0;
-    while i < n {
+    for i in 0..n {
         ids[i * 4 + 3] = 0;
-        i += 1;
     }
 }

@@ -7,80 +7,56 @@ use colors::Rgba;
 use decimals::Size;
 use track::{Align, Look, Span};
 
-// One of the two holds.
+// One of the two holds: a call, since with eight `||` in one struct the proof of `overlay_style` did not close.
 fn either(a: bool, b: bool) -> bool
     ensures { result ≡ (a || b) }
 {
     a || b
 }
 
-fn color_over(below: Rgba, has: bool, above: Rgba) -> Rgba
+// A part of the upper style where it has one.
+fn over<T: Copy>(below: T, has: bool, above: T) -> T
     ensures { result ≡ cond has above below }
 {
     if has { above } else { below }
 }
 
-fn span_over(below: Span, has: bool, above: Span) -> Span
-    ensures { result ≡ cond has above below }
-{
-    if has { above } else { below }
-}
-
-fn size_over(below: Size, has: bool, above: Size) -> Size
-    ensures { result ≡ cond has above below }
-{
-    if has { above } else { below }
-}
-
+#[tactic(auto, unfolding(crate::specs::Values::align_over))]
 fn align_over(below: Align, above: Align) -> Align
     ensures { result ≡ align_over below above }
 {
     match above {
         Align::Start => below,
-        Align::Center => Align::Center,
-        Align::End => Align::End,
-        Align::Left => Align::Left,
-        Align::Right => Align::Right,
+        other => other,
     }
 }
 
+#[tactic(auto, unfolding(crate::specs::Values::is_start))]
 fn is_start(x: Align) -> bool
     ensures { result ≡ is_start x }
 {
-    match x {
-        Align::Start => true,
-        Align::Center => false,
-        Align::End => false,
-        Align::Left => false,
-        Align::Right => false,
-    }
+    matches!(x, Align::Start)
 }
 
 // The Rust's `overlay_style`.
+#[tactic(auto, unfolding(crate::specs::Cells::overlaid))]
 pub fn overlay_style(below: Look, above: Look) -> Look
     ensures { result ≡ overlaid below above }
 {
-    let color = color_over(below.color, above.has_color, above.color);
-    let back = color_over(below.back, above.has_back, above.back);
-    let family = span_over(below.family, above.has_family, above.family);
-    let size = size_over(below.size, above.has_size, above.size);
-    let lower = below.align;
-    let upper = above.align;
-    let align = align_over(lower, upper);
     Look {
         has_color: either(above.has_color, below.has_color),
-        color,
+        color: over(below.color, above.has_color, above.color),
         has_back: either(above.has_back, below.has_back),
-        back,
+        back: over(below.back, above.has_back, above.back),
         has_family: either(above.has_family, below.has_family),
-        family,
+        family: over(below.family, above.has_family, above.family),
         has_size: either(above.has_size, below.has_size),
-        size,
+        size: over(below.size, above.has_size, above.size),
         bold: either(above.bold, below.bold),
         italic: either(above.italic, below.italic),
         underline: either(above.underline, below.underline),
         strike: either(above.strike, below.strike),
-        align,
+        align: align_over(below.align, above.align),
     }
 }
 
@@ -119,33 +95,17 @@ pub fn blank() -> Look
 }
 
 // The Rust's `style_is_unstyled`.
+#[tactic(auto, unfolding(crate::specs::Cells::is_plain))]
 pub fn style_is_unstyled(x: Look) -> bool
     ensures { result ≡ is_plain x }
 {
-    let align = x.align;
-    if x.has_family {
-        return false;
-    }
-    if x.has_size {
-        return false;
-    }
-    if x.has_color {
-        return false;
-    }
-    if x.has_back {
-        return false;
-    }
-    if x.bold {
-        return false;
-    }
-    if x.italic {
-        return false;
-    }
-    if x.underline {
-        return false;
-    }
-    if x.strike {
-        return false;
-    }
-    is_start(align)
+    !x.has_family
+        && !x.has_size
+        && !x.has_color
+        && !x.has_back
+        && !x.bold
+        && !x.italic
+        && !x.underline
+        && !x.strike
+        && is_start(x.align)
 }

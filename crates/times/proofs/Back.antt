@@ -1,4 +1,5 @@
 -- A time that was written as a clock time is read back as its whole milliseconds. Assumes nothing.
+use Rattle.std.specs.Prelude.{Some, Ok}
 use Prim.Native.Nat.{ℕ, zero, suc, ◌+◌, ◌-◌, ◌*◌, ◌/◌, ◌%◌, ◌^◌, ◌≤◌, ◌<◌}
 use mathlib.Core.Path.{◌≡◌, refl, ap, ◌∙◌}
 use mathlib.Core.Bool.{true, false}
@@ -15,13 +16,11 @@ use Rattle.utf8.specs.White.{white_at, white_before, trimmed}
 use Rattle.utf8.specs.Utf8.{char_at}
 use Rattle.utf8.proofs.Utf8Laws.{sequence-ascii}
 use Rattle.utf8.proofs.WhiteLaws.{is_white-visible, white_at-other, ends_with_on, ends_with_out, trimmed-all}
-use Rattle.numerals.specs.declared.Numeral.{Numeral}
 use Rattle.numerals.specs.Numerals.{digit_of, digits_only, value_from}
 use Rattle.numerals.specs.Written.{padded, decimal_width}
 use Rattle.numerals.proofs.Numerals.{value-append, digits_append, numeral_plain}
 use Rattle.numerals.proofs.Writing.{padded-byte, padded-length, padded-digits, padded-value, width_fits}
 use Rattle.times.specs.declared.offset.TimingCtx.{TimingCtx}
-use Rattle.times.specs.declared.offset.Time.{Time}
 use Rattle.times.specs.Expressions.{◌>>=◌, tested, integer, chars_length, number_in, micros_of, seconds_of, clock_time, time_in}
 use Rattle.times.specs.Written.{millis, hours_width, clock_of_millis, clock_text}
 use Rattle.times.proofs.Summing.{checked-fits}
@@ -118,12 +117,12 @@ module _ (s : List ℕ) (some : 4 ≤ length s) (marks : Every Mark s) where
       (λ e. omega arith) (λ e. omega arith) (λ e. omega arith) (λ e. omega arith) (λ e. omega arith))
 
 -- ---- digits read back
-whole : (w n : ℕ) → 0 < w → n < 10 ^ w → n < 2 ^ 63 → integer (padded 10 w n) ≡ Numeral.Is (record { negative = false; magnitude = n })
+whole : (w n : ℕ) → 0 < w → n < 10 ^ w → n < 2 ^ 63 → integer (padded 10 w n) ≡ Some (record { negative = false; magnitude = n })
 whole w n h l f =
     let v : value_from 10 0 (padded 10 w n) ≡ n = padded-value 10 (omega arith) (omega arith) w n l in
     numeral_plain 10 (2 ^ 63 - 1) (padded 10 w n) true (omega arith) (omega (arith, padded-length 10 w n))
     (padded-digits 10 (omega arith) (omega arith) w n) (omega arith)
-    ∙ ap (λ (m : ℕ). Numeral.Is (record { negative = false; magnitude = m })) v
+    ∙ ap (λ (m : ℕ). Some (record { negative = false; magnitude = m })) v
 
 chars_ascii : (s : List ℕ) (n : ℕ) → length s ≤ n → Every Digit s → chars_length n s ≡ length s
 unfolding chars_length
@@ -153,21 +152,21 @@ module _ (f : ℕ) (few : f < 1000) where
       ap (λ (k : ℕ). take k (padded 10 3 f ++ replicate 6 48)) six ∙ take-append-add (padded 10 3 f) (replicate 6 48) 3 in
       let d : digits_only 10 (padded 10 3 f ++ zeros) ≡ true = digits_append 10 (padded 10 3 f) zeros
       ∙ rw (padded-digits 10 (omega arith) (omega arith) 3 f) in
-      let i : integer (padded 10 3 f ++ zeros) ≡ Numeral.Is (record { negative = false; magnitude = f * 1000 }) =
+      let i : integer (padded 10 3 f ++ zeros) ≡ Some (record { negative = false; magnitude = f * 1000 }) =
       numeral_plain 10 (2 ^ 63 - 1) (padded 10 3 f ++ zeros) true (omega arith) (simp length-append (omega arith)) d
-      (omega (arith, thousand)) ∙ ap (λ (m : ℕ). Numeral.Is (record { negative = false; magnitude = m })) thousand in
+      (omega (arith, thousand)) ∙ ap (λ (m : ℕ). Some (record { negative = false; magnitude = m })) thousand in
       ap micros_of t ∙ (ap (λ (w : List ℕ). number_in (integer w)) u ∙ ap number_in i)
 
-sum_is : (a b k : ℕ) → a + b ≡ k → k < 2 ^ 63 → (tested (pos a) >>= λ x. tested (x +ℤ pos b)) ≡ Time.Is (pos k)
+sum_is : (a b k : ℕ) → a + b ≡ k → k < 2 ^ 63 → (tested (pos a) >>= λ x. tested (x +ℤ pos b)) ≡ Ok (pos k)
 sum_is a b k e h = rw (checked-fits (pos a) (omega arith), e, checked-fits (pos k) h)
 
 sums_are :
     (a b c k : ℕ) → a + b + c ≡ k → k < 2 ^ 63
-    → ((tested (pos a) >>= λ x. tested (pos b) >>= λ y. tested (x +ℤ y)) >>= λ z. tested (z +ℤ pos c)) ≡ Time.Is (pos k)
+    → ((tested (pos a) >>= λ x. tested (pos b) >>= λ y. tested (x +ℤ y)) >>= λ z. tested (z +ℤ pos c)) ≡ Ok (pos k)
 sums_are a b c k e h =
     rw (checked-fits (pos a) (omega arith), checked-fits (pos b) (omega arith), checked-fits (pos (a + b)) (omega arith), e, checked-fits (pos k) h)
 
-seconds_back : (n f : ℕ) → n < 60 → f < 1000 → seconds_of (padded 10 2 n ++ (46 ∷ padded 10 3 f)) ≡ Time.Is (pos (n * 1000000 + f * 1000))
+seconds_back : (n f : ℕ) → n < 60 → f < 1000 → seconds_of (padded 10 2 n ++ (46 ∷ padded 10 3 f)) ≡ Ok (pos (n * 1000000 + f * 1000))
 unfolding seconds_of
 seconds_back n f h l =
     let c : chars_length 6 (padded 10 3 f) ≡ length (padded 10 3 f) =
@@ -236,7 +235,7 @@ module _ (t : ℕ) (fits : t * 1000 < 2 ^ 63) where
   unfolding hours_width
   hours_some = le-max_left 2 (decimal_width hours)
 
-  pub back : (ctx : TimingCtx) → time_in (clock_of_millis t) ctx ≡ Time.Is (pos (t * 1000))
+  pub back : (ctx : TimingCtx) → time_in (clock_of_millis t) ctx ≡ Ok (pos (t * 1000))
   unfolding clock_time hours minutes seconds
   back ctx =
       let l : 4 ≤ length text = omega (arith, clock-length t, ap length laid_out) in
@@ -251,7 +250,7 @@ module _ (t : ℕ) (fits : t * 1000 < 2 ^ 63) where
       )
       (sums_are (t / 3600000 * 3600000000) (t / 60000 % 60 * 60000000) (t / 1000 % 60 * 1000000 + t % 1000 * 1000) (t * 1000) all fits)
 
-pub read_back : (z : ℤ) → mag z < 2 ^ 63 → (ctx : TimingCtx) → time_in (clock_text z) ctx ≡ Time.Is (pos (millis z * 1000))
+pub read_back : (z : ℤ) → mag z < 2 ^ 63 → (ctx : TimingCtx) → time_in (clock_text z) ctx ≡ Ok (pos (millis z * 1000))
 unfolding clock_text millis
 read_back (pos n) h ctx = back (n / 1000) (omega arith) ctx
 read_back (negsuc n) h ctx = back 0 (omega arith) ctx

@@ -1,28 +1,20 @@
 -- Laws of clock times as they are written: how long they are, and one field laid after another. Assumes nothing.
-use Prim.Native.Nat.{ℕ, ◌+◌, ◌/◌, ◌%◌, ◌≤◌, ◌<◌}
+use Prim.Native.Nat.{ℕ, ◌+◌, ◌/◌, ◌%◌, ◌≤◌}
 use mathlib.Core.Path.{◌≡◌, refl, sym}
 use mathlib.Core.List.{List}
 use native.Mathlib.Omega.{arith}
-use native.Mathlib.Nat.{max-le, max-eq_left, max-eq_right}
+use native.Mathlib.Nat.{max-le}
 use lib.IntN.{ℤ}
 use lib.ListN.{length, set, length-append}
 use Rattle.scan.specs.Posts.{Appended}
 use Rattle.scan.proofs.Stores.{appended_on}
-use Rattle.numerals.specs.Written.{padded, decimal_width}
+use Rattle.numerals.specs.Written.{padded}
 use Rattle.numerals.proofs.Writing.{padded-length, width_few}
 use Rattle.times.specs.Written.{millis, field, hours_width, clock_of_millis, clock_text}
 
 pub hours_few : (h : ℕ) → hours_width h ≤ 20
 unfolding hours_width
 hours_few h = max-le (omega arith) (width_few h)
-
-pub hours_short : (h : ℕ) → decimal_width h < 2 → hours_width h ≡ 2
-unfolding hours_width
-hours_short h l = max-eq_left (omega arith)
-
-pub hours_long : (h : ℕ) → 2 ≤ decimal_width h → hours_width h ≡ decimal_width h
-unfolding hours_width
-hours_long h l = max-eq_right l
 
 pub field-length : (w n mark : ℕ) → length (field w n mark) ≡ w + 1
 unfolding field

@@ -1,4 +1,5 @@
 -- What ends in m is no count, so that a time in ms is none in s. Assumes nothing.
+use Rattle.std.specs.Prelude.{Err}
 use Prim.Native.Nat.{ℕ, zero, suc, ◌-◌, ◌<◌}
 use mathlib.Core.Path.{◌≡◌, refl, ap, ◌∙◌}
 use mathlib.Core.Bool.{Bool, true, false, not, ◌||◌, and-false}
@@ -15,11 +16,11 @@ use Rattle.scan.proofs.Every.{by-test, both}
 use Rattle.utf8.specs.White.{white_end, white_start, trimmed}
 use Rattle.utf8.proofs.WhiteLaws.{white_back-here}
 use Rattle.utf8.proofs.Trimming.{before-visible}
-use Rattle.decimals.specs.declared.read.Decimal.{Decimal}
 use Rattle.decimals.specs.Decimal.{is_sign, unsigned, after_digits, after_fraction, all_digits, rest_of, only_digits, is_exponent, is_word}
 use Rattle.decimals.specs.Decimal.{decimal_of}
 use Rattle.decimals.proofs.Reading.{decimal-none}
 use Rattle.times.specs.Expressions.{time_decimal}
+use Rattle.decimals.specs.declared.read.DecimalError.{DecimalError}
 
 data EndsInM : List ℕ → Type 0 where
   last : EndsInM (109 ∷ [])
@@ -91,7 +92,7 @@ not_word e = rw (
   not_folded e (110 ∷ 97 ∷ 110 ∷ []) refl,
 )
 
-not_decimal : {s : List ℕ} → EndsInM s → time_decimal s ≡ Decimal.Nothing
+not_decimal : {s : List ℕ} → EndsInM s → time_decimal s ≡ Err DecimalError.Invalid
 unfolding decimal_of
 not_decimal {s} e =
     let u : EndsInM (unsigned s) = behind-sign e in
@@ -101,7 +102,7 @@ not_decimal {s} e =
     (λ d. rw (d, some r, not_exponent r))
 
 -- ---- nor is it with white space around it
-pub no_count : (s : List ℕ) → 0 < length s → get_or s (length s - 1) 0 ≡ 109 → time_decimal (trimmed s) ≡ Decimal.Nothing
+pub no_count : (s : List ℕ) → 0 < length s → get_or s (length s - 1) 0 ≡ 109 → time_decimal (trimmed s) ≡ Err DecimalError.Invalid
 unfolding trimmed white_start
 no_count s h e =
     let w : white_start s ≡ length s = white_back-here s (length s) (before-visible s (length s) h (omega arith) (omega arith) (omega arith)) in

@@ -1,6 +1,7 @@
 -- Laws of the numbers in a clock time: whole numbers fit an i64, and a fraction's first six characters. Assumes nothing.
+use Rattle.std.specs.Prelude.{Option, Some, None}
 use Prim.Native.Nat.{ℕ, zero, suc, ◌+◌, ◌-◌, ◌*◌, ◌^◌, ◌≤◌, ◌<◌, min}
-use mathlib.Core.Path.{◌≡◌, refl, sym, ap, ◌∙◌, subst₂}
+use mathlib.Core.Path.{◌≡◌, refl, sym, ap, ◌∙◌}
 use mathlib.Core.Bool.{Bool, true, false, ◌&&◌}
 use mathlib.Core.List.{List, [], ◌∷◌, ◌++◌}
 use native.Mathlib.Omega.{arith}
@@ -8,31 +9,27 @@ use native.Mathlib.Numerals.{add-one}
 use lib.Dec.{eqb, leb}
 use lib.IntN.{pos, ◌*ℤ◌}
 use lib.Signed.{mag}
-use lib.ListN.{length, get_or, set, take, drop, replicate, length-take, drop_of_length-le}
-use lib.Seq.{drop-cons, take-append-add, length-take-le, get_or-take, sets, sets-eq}
+use lib.ListN.{length, get_or, take, drop, replicate, drop_of_length-le}
+use lib.Seq.{drop-cons, take-append-add, length-take-le}
 use borrow.Author.Tests.{le-leb, lt-leb}
-use Rattle.scan.proofs.Stores.{Copied, copied_more}
 use Rattle.utf8.specs.Utf8.{Utf8, FirstChars}
 use Rattle.utf8.proofs.Characters.{chars_count}
 use Rattle.numerals.specs.declared.Whole.{Whole}
-use Rattle.numerals.specs.declared.Numeral.{Numeral}
-use Rattle.numerals.specs.declared.Unsigned.{Unsigned}
 use Rattle.numerals.specs.Numerals.{unsigned_of, signed_by_of, numeral_of}
 use Rattle.numerals.proofs.Numerals.{unsigned-most}
-use Rattle.times.specs.declared.sums.Sum.{Sum}
 use Rattle.times.specs.Sums.{checked, signed}
 use Rattle.times.specs.Expressions.{integer, chars_length, number_in, micros_of}
 use Rattle.times.proofs.Summing.{checked-fits, negative_fits, signed-times}
 
 -- ---- a whole number is an i64
-signed_by : (t : Bool) (u : Unsigned) (w : Whole) → signed_by_of t u ≡ Numeral.Is w → ((m : ℕ) → u ≡ Unsigned.Is m → mag (signed t m) < 2 ^ 63)
+signed_by : (t : Bool) (u : Option ℕ) (w : Whole) → signed_by_of t u ≡ Some w → ((m : ℕ) → u ≡ Some m → mag (signed t m) < 2 ^ 63)
     → mag (signed w.negative w.magnitude) < 2 ^ 63
-signed_by t (Unsigned.Is m) w e f =
+signed_by t (Some m) w e f =
     let z : ◌≡◌ {A = Whole} (record { negative = t; magnitude = m }) w = cc in
     rw (sym z) (f m refl)
-signed_by t Unsigned.Nothing w e f = let z : ◌≡◌ {A = ℕ} 0 1 = cc in absurd (omega arith)
+signed_by t None w e f = let z : ◌≡◌ {A = ℕ} 0 1 = cc in absurd (omega arith)
 
-pub integer-fits : (s : List ℕ) (w : Whole) → integer s ≡ Numeral.Is w → mag (signed w.negative w.magnitude) < 2 ^ 63
+pub integer-fits : (s : List ℕ) (w : Whole) → integer s ≡ Some w → mag (signed w.negative w.magnitude) < 2 ^ 63
 unfolding numeral_of
 integer-fits [] w e = let z : ◌≡◌ {A = ℕ} 0 1 = cc in absurd (omega arith)
 integer-fits (b ∷ s) w e = by (eqb b 43) (eqb b 45) refl refl
@@ -115,13 +112,13 @@ module _ (s : List ℕ) where
     six_past e = (omega (arith, c.is), omega arith)
 
 -- ---- zeros added up to six bytes
-pub six_bytes : (w t : List ℕ) → length w ≤ 6 → t ≡ sets (replicate 6 48) 0 w → t ≡ take 6 (w ++ replicate 6 48)
+pub six_bytes : (w t : List ℕ) → length w ≤ 6 → t ≡ w ++ drop (length w) (replicate 6 48) → t ≡ take 6 (w ++ replicate 6 48)
 six_bytes w t h e =
     let z : 6 ≡ length w + (6 - length w) = omega arith in
-    e ∙ (sets-eq w (replicate 6 48) 0 (omega arith)
-    ∙ (tail_of w h ∙ sym (ap (λ (k : ℕ). take k (w ++ replicate 6 48)) z ∙ take-append-add w (replicate 6 48) (6 - length w))))
+    e ∙ (ap (λ (l : List ℕ). w ++ l) (zeros (length w) h)
+    ∙ sym (ap (λ (k : ℕ). take k (w ++ replicate 6 48)) z ∙ take-append-add w (replicate 6 48) (6 - length w)))
   where
-    zeros : (n : ℕ) → n ≤ 6 → drop (0 + n) (replicate {A = ℕ} 6 48) ≡ take (6 - n) (replicate 6 48)
+    zeros : (n : ℕ) → n ≤ 6 → drop n (replicate {A = ℕ} 6 48) ≡ take (6 - n) (replicate 6 48)
     zeros zero h = refl
     zeros (suc zero) h = refl
     zeros (suc (suc zero)) h = refl
@@ -131,34 +128,24 @@ six_bytes w t h e =
     zeros (suc (suc (suc (suc (suc (suc zero)))))) h = refl
     zeros (suc (suc (suc (suc (suc (suc (suc n))))))) h = absurd (omega arith)
 
-    tail_of : (v : List ℕ) → length v ≤ 6 → v ++ drop (0 + length v) (replicate 6 48) ≡ v ++ take (6 - length v) (replicate 6 48)
-    tail_of v g = ap (λ (l : List ℕ). v ++ l) (zeros (length v) g)
-
-pub six_micros : (s t : List ℕ) (len : ℕ) → len ≤ 6 → len ≤ length s → t ≡ sets (replicate 6 48) 0 (take len s)
+pub six_micros : (s t : List ℕ) (len : ℕ) → len ≤ 6 → len ≤ length s → t ≡ take len s ++ drop len (replicate 6 48)
     → number_in (integer t) ≡ micros_of (take len s)
 unfolding micros_of
-six_micros s t len h l e = ap (λ (u : List ℕ). number_in (integer u)) (six_bytes (take len s) t (simp length-take (omega arith)) e)
+six_micros s t len h l e =
+    let z : length (take len s) ≡ len = length-take-le len s l in
+    ap (λ (u : List ℕ). number_in (integer u)) (six_bytes (take len s) t (omega arith) (rw z e))
 
--- one byte more of the copy
-pub copying : (s t t' : List ℕ) (len i : ℕ) → len ≤ length s → i < len → Copied (take len s) 0 t i t'
-    → Copied (take len s) 0 t (i + 1) (set t' i (get_or s i 0))
-copying s t t' len i h l c =
-    let z : 0 + i ≡ i = omega arith in
-    let more : Copied (take len s) 0 t (i + 1) (set t' (0 + i) (get_or (take len s) i 0)) =
-    copied_more (take len s) t t' 0 i c (omega (arith, length-take-le len s h)) in
-    subst₂ (λ (k v : ℕ). Copied (take len s) 0 t (i + 1) (set t' k v)) z (get_or-take len s i 0 l) more
-
-module _ (s t : List ℕ) (len : ℕ) (h : len ≤ 6) (l : len ≤ length s) (e : t ≡ sets (replicate 6 48) 0 (take len s)) where
-  pub some_micros : (w : Whole) → integer t ≡ Numeral.Is w → checked (signed w.negative w.magnitude *ℤ pos 1) ≡ Sum.Is (micros_of (take len s))
+module _ (s t : List ℕ) (len : ℕ) (h : len ≤ 6) (l : len ≤ length s) (e : t ≡ take len s ++ drop len (replicate 6 48)) where
+  pub some_micros : (w : Whole) → integer t ≡ Some w → checked (signed w.negative w.magnitude *ℤ pos 1) ≡ Some (micros_of (take len s))
   some_micros w i =
       let m : w.magnitude * 1 ≡ w.magnitude = omega arith in
       let v : signed w.negative w.magnitude *ℤ pos 1 ≡ signed w.negative w.magnitude =
       signed-times w.negative w.magnitude 1 ∙ ap (signed w.negative) m in
       ap checked v ∙ (checked-fits (signed w.negative w.magnitude) (integer-fits t w i)
-      ∙ ap Sum.Is (sym (ap number_in i) ∙ six_micros s t len h l e))
+      ∙ ap Some (sym (ap number_in i) ∙ six_micros s t len h l e))
 
-  pub no_micros : integer t ≡ Numeral.Nothing → Sum.Is (pos 0) ≡ Sum.Is (micros_of (take len s))
-  no_micros i = ap Sum.Is (sym (ap number_in i) ∙ six_micros s t len h l e)
+  pub no_micros : integer t ≡ None → Some (pos 0) ≡ Some (micros_of (take len s))
+  no_micros i = ap Some (sym (ap number_in i) ∙ six_micros s t len h l e)
 
 -- the first six characters, or fewer bytes
 pub chars_within : (n : ℕ) (s : List ℕ) → chars_length n s ≤ length s

@@ -1,4 +1,5 @@
 -- Laws of time expressions, one for each way through the code: the parts between colons, the point, and the metric at the end. Assumes nothing.
+use Rattle.std.specs.Prelude.{Option, Some, None, Result, Ok, Err}
 use Prim.Native.Nat.{ℕ, ◌+◌, ◌-◌, ◌≤◌, ◌<◌}
 use mathlib.Core.Path.{◌≡◌, refl, sym, ◌∙◌}
 use mathlib.Core.Bool.{Bool, true, false, cond, ◌||◌, true≢false}
@@ -18,52 +19,55 @@ use Rattle.scan.proofs.Searches.{mark_not, mark_beyond}
 use Rattle.scan.proofs.Splits.{split_more, split_last, once_more, once-none}
 use Rattle.scan.specs.Part.{part}
 use Rattle.utf8.specs.White.{Trimmed, trimmed}
-use Rattle.numerals.specs.declared.Numeral.{Numeral}
-use Rattle.decimals.specs.declared.read.Decimal.{Decimal}
-use Rattle.times.specs.declared.sums.Sum.{Sum}
 use Rattle.times.specs.declared.offset.TimingCtx.{TimingCtx}
-use Rattle.times.specs.declared.offset.Time.{Time}
 use Rattle.times.specs.Expressions as spec
 use Rattle.times.specs.Expressions.{◌>>=◌, ◌else◌, time_of, time_decimal, frame_rate_of, tick_rate_of, float, offset_time, integer, whole_in, tested}
 use Rattle.times.specs.Expressions.{seconds_of, frames_in, clock_of, clock_time, time_in}
 use Rattle.times.proofs.Counts.{no_count}
 use Rattle.times.specs.Steps.{plus, ends_metric, each_time, rate_time, fractioned, summed, after_seconds, after_minutes, after_hours}
+use Rattle.decimals.specs.declared.read.DecimalError.{DecimalError}
+use Rattle.times.specs.declared.offset.TimeError.{TimeError}
+use Rattle.numerals.specs.declared.Whole.{Whole}
+use Rattle.decimals.specs.declared.read.Digits.{Digits}
 
 -- ---- going on
-then_is : (t : Time) → (t >>= λ z. Time.Is z) ≡ t
-then_is (Time.Is z) = refl
-then_is Time.Nothing = refl
-then_is Time.Beyond = refl
-then_is Time.LongFraction = refl
-then_is Time.Overflow = refl
+then_is : (t : Result ℤ TimeError) → (t >>= λ z. Ok z) ≡ t
+then_is (Ok z) = refl
+then_is (Err TimeError.Invalid) = refl
+then_is (Err TimeError.Beyond) = refl
+then_is (Err TimeError.LongFraction) = refl
+then_is (Err TimeError.Overflow) = refl
 
-then_then : (t : Time) (f g : ℤ → Time) → ((t >>= f) >>= g) ≡ (t >>= λ z. f z >>= g)
-then_then (Time.Is z) f g = refl
-then_then Time.Nothing f g = refl
-then_then Time.Beyond f g = refl
-then_then Time.LongFraction f g = refl
-then_then Time.Overflow f g = refl
+then_then : (t : Result ℤ TimeError) (f g : ℤ → Result ℤ TimeError) → ((t >>= f) >>= g) ≡ (t >>= λ z. f z >>= g)
+then_then (Ok z) f g = refl
+then_then (Err TimeError.Invalid) f g = refl
+then_then (Err TimeError.Beyond) f g = refl
+then_then (Err TimeError.LongFraction) f g = refl
+then_then (Err TimeError.Overflow) f g = refl
 
-pub else_nothing : (t : Time) → (t else Time.Nothing) ≡ t
-else_nothing (Time.Is z) = refl
-else_nothing Time.Nothing = refl
-else_nothing Time.Beyond = refl
-else_nothing Time.LongFraction = refl
-else_nothing Time.Overflow = refl
+pub else_nothing : (t : Result ℤ TimeError) → (t else (Err TimeError.Invalid)) ≡ t
+else_nothing (Ok z) = refl
+else_nothing (Err TimeError.Invalid) = refl
+else_nothing (Err TimeError.Beyond) = refl
+else_nothing (Err TimeError.LongFraction) = refl
+else_nothing (Err TimeError.Overflow) = refl
 
 -- an answer that has no value is kept
-pub then_other : (t : Time) (f : ℤ → Time) → ((z : ℤ) → t ≡ Time.Is z → ⊥) → t ≡ (t >>= f)
-then_other (Time.Is z) f n = absurd (n z refl)
-then_other Time.Nothing f n = refl
-then_other Time.Beyond f n = refl
-then_other Time.LongFraction f n = refl
-then_other Time.Overflow f n = refl
+then_err : (x : TimeError) (f : ℤ → Result ℤ TimeError) → (Err x >>= f) ≡ Err x
+then_err TimeError.Invalid f = refl
+then_err TimeError.Beyond f = refl
+then_err TimeError.LongFraction f = refl
+then_err TimeError.Overflow f = refl
+
+pub no_number : (n : Option Whole) → ((w : Whole) → n ≡ Some w → ⊥) → n ≡ None
+no_number (Some w) h = absurd (h w refl)
+no_number None h = refl
 
 -- the program's sums of sums
-pub plus-then : (a b : Sum) → time_of (plus a b) ≡ (time_of a >>= λ x. time_of b >>= λ y. tested (x +ℤ y))
-plus-then (Sum.Is x) (Sum.Is y) = refl
-plus-then (Sum.Is x) Sum.Overflow = refl
-plus-then Sum.Overflow b = refl
+pub plus-then : (a b : Option ℤ) → time_of (plus a b) ≡ (time_of a >>= λ x. time_of b >>= λ y. tested (x +ℤ y))
+plus-then (Some x) (Some y) = refl
+plus-then (Some x) None = refl
+plus-then None b = refl
 
 -- what follows a place, as the program's `&s[k..]` has it
 pub rest_of : (s : List ℕ) (k : ℕ) → take (length s - k) (drop k s) ≡ drop k s
@@ -84,11 +88,11 @@ module _ (b : ℕ) (s : List ℕ) (r : ℕ) (e : Ends (other b) s 0 r) where
   parts_last h = rw (first-whole h) (split_last b s (omega (arith, e.is)))
 
 -- ---- the parts of a clock time
-no_parts : (n : Numeral) → Time.Nothing ≡ (whole_in n >>= λ x. Time.Nothing)
-no_parts (Numeral.Is w) = refl
-no_parts Numeral.Nothing = refl
+no_parts : (n : Option Whole) → (Err TimeError.Invalid) ≡ (whole_in n >>= λ x. (Err TimeError.Invalid))
+no_parts (Some w) = refl
+no_parts None = refl
 
-summed-then : (x y : ℤ) (s : Time) (g : ℤ → Time) → (s >>= λ z. spec.hours_minutes x y >>= λ a. tested (a +ℤ z) >>= g) ≡ (summed x y s >>= g)
+summed-then : (x y : ℤ) (s : Result ℤ TimeError) (g : ℤ → Result ℤ TimeError) → (s >>= λ z. spec.hours_minutes x y >>= λ a. tested (a +ℤ z) >>= g) ≡ (summed x y s >>= g)
 summed-then x y s g =
     sym (then_then s (λ z. spec.hours_minutes x y >>= λ a. tested (a +ℤ z)) g
     ∙ (λ i. s >>= λ z. then_then (spec.hours_minutes x y) (λ a. tested (a +ℤ z)) g i))
@@ -118,6 +122,11 @@ module _ (s : List ℕ) (r : ℕ) (e : Ends (other 58) s 0 r) (ctx : TimingCtx) 
         (summed h m (seconds_of (take r s)) >>= λ t. after_seconds t (split_at 58 (drop (r + 1) s)) ctx)
     seconds_more l = rw (parts_more 58 s r e l)
 
+    pub seconds_err : (x : TimeError) → summed h m (seconds_of (take r s)) ≡ Err x → after_minutes h m (split_at 58 s) ctx ≡ Err x
+    seconds_err x f =
+        by-test (ltb r (length s)) (λ w. seconds_more (ltb-true r (length s) w) ∙ rw f (then_err x _))
+        (λ w. seconds_last (ltb-false r (length s) w) ∙ f)
+
   module _ (h : ℤ) where
     pub minutes_last : length s ≤ r → after_hours h (split_at 58 s) ctx ≡ (whole_in (integer (take r s)) >>= λ y. spec.hours_minutes h y)
     minutes_last l = rw (parts_last 58 s r e l)
@@ -126,7 +135,7 @@ module _ (s : List ℕ) (r : ℕ) (e : Ends (other 58) s 0 r) (ctx : TimingCtx) 
         r < length s → after_hours h (split_at 58 s) ctx ≡ (whole_in (integer (take r s)) >>= λ y. after_minutes h y (split_at 58 (drop (r + 1) s)) ctx)
     minutes_more l = rw (parts_more 58 s r e l)
 
-  pub hours_last : length s ≤ r → clock_time s ctx ≡ Time.Nothing
+  pub hours_last : length s ≤ r → clock_time s ctx ≡ Err TimeError.Invalid
   unfolding clock_time
   hours_last l = rw (parts_last 58 s r e l)
 
@@ -135,17 +144,17 @@ module _ (s : List ℕ) (r : ℕ) (e : Ends (other 58) s 0 r) (ctx : TimingCtx) 
   hours_more l = rw (parts_more 58 s r e l) (by_steps (take r s) (split_at 58 (drop (r + 1) s)) ctx)
 
 -- what is no number is no time
-module _ (s : List ℕ) (r : ℕ) (e : Ends (other 58) s 0 r) (ctx : TimingCtx) (i : Numeral) (d : i ≡ integer (take r s)) (n : i ≡ Numeral.Nothing) where
-  none : integer (take r s) ≡ Numeral.Nothing
+module _ (s : List ℕ) (r : ℕ) (e : Ends (other 58) s 0 r) (ctx : TimingCtx) (i : Option Whole) (d : i ≡ integer (take r s)) (n : i ≡ None) where
+  none : integer (take r s) ≡ None
   none = sym d ∙ n
 
-  pub minutes_none : (h : ℤ) → Time.Nothing ≡ after_hours h (split_at 58 s) ctx
+  pub minutes_none : (h : ℤ) → (Err TimeError.Invalid) ≡ after_hours h (split_at 58 s) ctx
   minutes_none h =
       by-test (ltb r (length s))
       (λ w. sym (minutes_more s r e ctx h (ltb-true r (length s) w) ∙ rw none))
       (λ w. sym (minutes_last s r e ctx h (ltb-false r (length s) w) ∙ rw none))
 
-  pub hours_none : r < length s → Time.Nothing ≡ clock_time s ctx
+  pub hours_none : r < length s → (Err TimeError.Invalid) ≡ clock_time s ctx
   hours_none l = sym (hours_more s r e ctx l ∙ rw none)
 
 -- ---- seconds, by the point
@@ -158,9 +167,9 @@ module _ (s : List ℕ) (r : ℕ) (e : Ends (other 46) s 0 r) where
   unfolding seconds_of
   point_here h = rw (once_more 46 s (omega (arith, e.is)), ← e.is)
 
-  pub point_nothing : (i : Numeral) → i ≡ integer (take r s) → i ≡ Numeral.Nothing → Time.Nothing ≡ seconds_of s
+  pub point_nothing : (i : Option Whole) → i ≡ integer (take r s) → i ≡ None → (Err TimeError.Invalid) ≡ seconds_of s
   point_nothing i d n =
-      let none : integer (take r s) ≡ Numeral.Nothing = sym d ∙ n in
+      let none : integer (take r s) ≡ None = sym d ∙ n in
       by-test (ltb r (length s))
       (λ w. sym (point_here (ltb-true r (length s) w) ∙ rw none))
       (λ w. sym (point_none (ltb-false r (length s) w) ∙ rw none))
@@ -200,21 +209,21 @@ module _ (s : List ℕ) (some : 0 < length s) where
       (λ u. mark_not s ms (length s - 2) 0 (omega arith) (λ e. eqb-false (get_or s (length s - 2) 0) 109 u (rw o at e))))
       (λ w. let h = ltb-false 1 (length s) w in mark_beyond s ms (length s - 2) 1 (omega arith) (omega arith))
 
-  abbrev count : ℕ → Decimal
+  abbrev count : ℕ → Result Digits DecimalError
   count n = time_decimal (trimmed (take n s))
 
   module _ (ctx : TimingCtx) where
     -- what the seven ways say, by the last byte, and by whether an m stands before it
-    abbrev by_last_lem : Bool → ℕ → Time
+    abbrev by_last_lem : Bool → ℕ → Result ℤ TimeError
     by_last_lem t b =
-        cond (eqb b 104 || (eqb b 109 || (eqb b 115 || (t || (eqb b 102 || (eqb b 116 || false)))))) Time.Nothing (clock_time s ctx)
-        else cond (eqb b 104) (offset_time (take (length s - 1) s) spec.`h` ctx) Time.Nothing
-        else cond (eqb b 109) (offset_time (take (length s - 1) s) spec.`m` ctx) Time.Nothing
-        else cond (eqb b 115) (offset_time (take (length s - 1) s) spec.`s` ctx) Time.Nothing
-        else cond t (offset_time (take (length s - 2) s) spec.`ms` ctx) Time.Nothing
-        else cond (eqb b 102) (offset_time (take (length s - 1) s) spec.`f` ctx) Time.Nothing
-        else cond (eqb b 116) (offset_time (take (length s - 1) s) spec.`t` ctx) Time.Nothing
-        else Time.Nothing
+        cond (eqb b 104 || (eqb b 109 || (eqb b 115 || (t || (eqb b 102 || (eqb b 116 || false)))))) (Err TimeError.Invalid) (clock_time s ctx)
+        else cond (eqb b 104) (offset_time (take (length s - 1) s) spec.`h` ctx) (Err TimeError.Invalid)
+        else cond (eqb b 109) (offset_time (take (length s - 1) s) spec.`m` ctx) (Err TimeError.Invalid)
+        else cond (eqb b 115) (offset_time (take (length s - 1) s) spec.`s` ctx) (Err TimeError.Invalid)
+        else cond t (offset_time (take (length s - 2) s) spec.`ms` ctx) (Err TimeError.Invalid)
+        else cond (eqb b 102) (offset_time (take (length s - 1) s) spec.`f` ctx) (Err TimeError.Invalid)
+        else cond (eqb b 116) (offset_time (take (length s - 1) s) spec.`t` ctx) (Err TimeError.Invalid)
+        else (Err TimeError.Invalid)
 
     by_last : spec.expression s ctx ≡ by_last_lem (starts_at s (length s - 2) ms) (get_or s (length s - 1) 0)
     unfolding spec.expression
@@ -276,7 +285,7 @@ module _ (s : List ℕ) (a e : ℕ) (w : Trimmed s a e) (ctx : TimingCtx) where
   trimmed-length : length (trimmed s) ≡ e - a
   trimmed-length = rw (sym w.is) (length-take-le (e - a) (drop a s) (simp length-drop (omega (arith, w.within_text))))
 
-  pub blank-time : e ≤ a → time_in s ctx ≡ Time.Nothing
+  pub blank-time : e ≤ a → time_in s ctx ≡ Err TimeError.Invalid
   unfolding time_in
   blank-time h = let z : length (trimmed s) ≡ 0 = omega (arith, trimmed-length) in rw (eq-eqb (length (trimmed s)) 0 z)
 
@@ -285,3 +294,5 @@ module _ (s : List ℕ) (a e : ℕ) (w : Trimmed s a e) (ctx : TimingCtx) where
   some_time h =
       let z : length (trimmed s) ≡ 0 → ⊥ = λ g. omega (arith, trimmed-length) in
       rw (w.is, ne_eqb (length (trimmed s)) 0 z)
+
+pub ruleset second_parts = (first-length, rest_of, seconds_last, seconds_more, seconds_err)

@@ -1,4 +1,5 @@
 -- A text of the usual form is what its milliseconds are written as. Assumes nothing.
+use Rattle.std.specs.Prelude.{Ok}
 use Prim.Native.Nat.{ℕ, zero, suc, ◌+◌, ◌*◌, ◌/◌, ◌%◌, ◌≤◌, ◌<◌}
 use mathlib.Core.Path.{◌≡◌, refl, sym, ap, ◌∙◌}
 use mathlib.Core.List.{List, [], ◌∷◌}
@@ -6,15 +7,14 @@ use native.Mathlib.Omega.{arith}
 use lib.ListN.{length, get_or}
 use lib.Dec.{eqb, ltb}
 use lib.IntN.{pos}
-use borrow.Author.Tests.{eqb-true, eq-eqb, ne_eqb, ltb-true, lt-ltb, le-ltb}
+use borrow.Author.Tests.{eqb-true, eq-eqb, ltb-true, lt-ltb}
 use Rattle.scan.specs.Bytes.{digit_byte}
 use Rattle.scan.proofs.Every.{by-test}
 use Rattle.numerals.specs.Written.{padded, width_from, decimal_width}
 use Rattle.numerals.proofs.Writing.{char_low}
 use Rattle.decimals.proofs.Counting.{digit_bounds}
-use Rattle.times.specs.Steps.{digit_or, two_at, three_at, other, in_millis, usual_millis}
+use Rattle.times.specs.Steps.{digit_or, two_at, three_at, in_millis, usual_millis}
 use Rattle.times.specs.declared.offset.TimingCtx.{TimingCtx}
-use Rattle.times.specs.declared.offset.Time.{Time}
 use Rattle.times.specs.Expressions.{time_in}
 use Rattle.times.specs.Written.{field, hours_width, clock_of_millis}
 use Rattle.times.proofs.Back.{back}
@@ -132,44 +132,13 @@ module _ (s : List ℕ) (twelve : length s ≡ 12) where
 
 -- ... and so it is that time
 pub usual_time : (s : List ℕ) (r : ℕ) → r ≡ usual_millis s → length s ≡ 12 → r < 360000000 → (ctx : TimingCtx)
-    → time_in s ctx ≡ Time.Is (pos (r * 1000))
+    → time_in s ctx ≡ Ok (pos (r * 1000))
 usual_time s r e twelve h ctx =
     ap (λ (w : List ℕ). time_in w ctx) (usual_written s twelve (rw (← e) h) ∙ ap clock_of_millis (sym e)) ∙ back r (omega arith) ctx
 
--- ---- sums: in every case as the definition says
-module _ (h m s ms : ℕ) where
-  pub past-hours : 100 ≤ h → other ≡ in_millis h m s ms
-  past-hours a = rw (le-ltb h 100 a)
-
-  module _ (a : h < 100) where
-    pub past-minutes : 60 ≤ m → other ≡ in_millis h m s ms
-    past-minutes b = rw (lt-ltb h 100 a, le-ltb m 60 b)
-
-    module _ (b : m < 60) where
-      pub past-seconds : 60 ≤ s → other ≡ in_millis h m s ms
-      past-seconds c = rw (lt-ltb h 100 a, lt-ltb m 60 b, le-ltb s 60 c)
-
-      module _ (c : s < 60) where
-        pub past-millis : 1000 ≤ ms → other ≡ in_millis h m s ms
-        past-millis d = rw (lt-ltb h 100 a, lt-ltb m 60 b, lt-ltb s 60 c, le-ltb ms 1000 d)
-
-        pub the_sum : ms < 1000 → ((h * 60 + m) * 60 + s) * 1000 + ms ≡ in_millis h m s ms
-        the_sum d = rw (lt-ltb h 100 a, lt-ltb m 60 b, lt-ltb s 60 c, lt-ltb ms 1000 d)
-
 -- ---- marks
-module _ (s : List ℕ) where
-  pub no_first : (get_or s 2 0 ≡ 58 → ⊥) → other ≡ usual_millis s
-  no_first c = rw (ne_eqb (get_or s 2 0) 58 c)
-
-  module _ (c : get_or s 2 0 ≡ 58) where
-    pub no_second : (get_or s 5 0 ≡ 58 → ⊥) → other ≡ usual_millis s
-    no_second d = rw (eq-eqb (get_or s 2 0) 58 c, ne_eqb (get_or s 5 0) 58 d)
-
-    module _ (d : get_or s 5 0 ≡ 58) where
-      pub no_point : (get_or s 8 0 ≡ 46 → ⊥) → other ≡ usual_millis s
-      no_point p = rw (eq-eqb (get_or s 2 0) 58 c, eq-eqb (get_or s 5 0) 58 d, ne_eqb (get_or s 8 0) 46 p)
-
-      pub all_marks : get_or s 8 0 ≡ 46 → (h m n ms r : ℕ) → h ≡ two_at s 0 → m ≡ two_at s 3 → n ≡ two_at s 6 → ms ≡ three_at s 9
-          → r ≡ in_millis h m n ms → r ≡ usual_millis s
-      all_marks p h m n ms r a b e g x =
-          rw (eq-eqb (get_or s 2 0) 58 c, eq-eqb (get_or s 5 0) 58 d, eq-eqb (get_or s 8 0) 46 p, ← a, ← b, ← e, ← g) x
+pub all_marks : (s : List ℕ) → get_or s 2 0 ≡ 58 → get_or s 5 0 ≡ 58 → get_or s 8 0 ≡ 46
+    → (h m n ms r : ℕ) → h ≡ two_at s 0 → m ≡ two_at s 3 → n ≡ two_at s 6 → ms ≡ three_at s 9
+    → r ≡ in_millis h m n ms → r ≡ usual_millis s
+all_marks s c d p h m n ms r a b e g x =
+    rw (eq-eqb (get_or s 2 0) 58 c, eq-eqb (get_or s 5 0) 58 d, eq-eqb (get_or s 8 0) 46 p, ← a, ← b, ← e, ← g) x

@@ -1,5 +1,6 @@
 -- The time of a text is the answer of the first way that gives one, in TTML's order; a text has an answer exactly if one way gives it; none has
 -- one in two ways; and the Rust's order of trial gives the same. Assumes nothing.
+use Rattle.std.specs.Prelude.{ℤ, Result, Ok, Err}
 use Prim.Native.Nat.{ℕ, ◌+◌, ◌-◌, ◌<◌}
 use mathlib.Core.Path.{◌≡◌, refl, sym, ap, ◌∙◌}
 use mathlib.Core.Bool.{Bool, true, false, cond, or-true}
@@ -16,27 +17,27 @@ use Rattle.scan.proofs.Every.{by-test}
 use Rattle.scan.proofs.Searches.{mark_here, mark_on}
 use Rattle.utf8.specs.White.{trimmed}
 use Rattle.times.specs.declared.offset.TimingCtx.{TimingCtx}
-use Rattle.times.specs.declared.offset.Time.{Time}
 use Rattle.times.specs.Expressions.{◌else◌, Metric, `h`, `m`, `s`, `ms`, `f`, `t`, metrics, letters, Way, clock, offset, ways}
 use Rattle.times.specs.Expressions.{ends_in, ends_in_one, time_by, first_of, offset_time, clock_time, expression, time_in, TimeBy, by_first_metric, in_rusts_order}
 use Rattle.times.proofs.Counts.{no_count}
+use Rattle.times.specs.declared.offset.TimeError.{TimeError}
 
-abbrev Met : Time → Type 0
-Met t = ¬ (t ≡ Time.Nothing)
+abbrev Met : Result ℤ TimeError → Type 0
+Met t = ¬ (t ≡ (Err TimeError.Invalid))
 
-decided : (t : Time) → (t ≡ Time.Nothing) ⊎ Met t
-decided (Time.Is z) = inr (λ e. let z : ◌≡◌ {A = ℕ} 0 1 = cc in omega arith)
-decided Time.Nothing = inl refl
-decided Time.Beyond = inr (λ e. let z : ◌≡◌ {A = ℕ} 0 1 = cc in omega arith)
-decided Time.LongFraction = inr (λ e. let z : ◌≡◌ {A = ℕ} 0 1 = cc in omega arith)
-decided Time.Overflow = inr (λ e. let z : ◌≡◌ {A = ℕ} 0 1 = cc in omega arith)
+decided : (t : Result ℤ TimeError) → (t ≡ (Err TimeError.Invalid)) ⊎ Met t
+decided (Ok z) = inr (λ e. let z : ◌≡◌ {A = ℕ} 0 1 = cc in omega arith)
+decided (Err TimeError.Invalid) = inl refl
+decided (Err TimeError.Beyond) = inr (λ e. let z : ◌≡◌ {A = ℕ} 0 1 = cc in omega arith)
+decided (Err TimeError.LongFraction) = inr (λ e. let z : ◌≡◌ {A = ℕ} 0 1 = cc in omega arith)
+decided (Err TimeError.Overflow) = inr (λ e. let z : ◌≡◌ {A = ℕ} 0 1 = cc in omega arith)
 
-else_first : (a b : Time) → Met a → (a else b) ≡ a
-else_first (Time.Is z) b n = refl
-else_first Time.Nothing b n = absurd (n refl)
-else_first Time.Beyond b n = refl
-else_first Time.LongFraction b n = refl
-else_first Time.Overflow b n = refl
+else_first : (a b : Result ℤ TimeError) → Met a → (a else b) ≡ a
+else_first (Ok z) b n = refl
+else_first (Err TimeError.Invalid) b n = absurd (n refl)
+else_first (Err TimeError.Beyond) b n = refl
+else_first (Err TimeError.LongFraction) b n = refl
+else_first (Err TimeError.Overflow) b n = refl
 
 -- one of these ways
 abbrev Among : Way → List Way → Type 0
@@ -88,7 +89,7 @@ module _ (s : List ℕ) (ctx : TimingCtx) where
     last_s : get_or s (length s - 1) 0 ≡ 115
     last_s = let z : length s - 2 + 1 ≡ length s - 1 = omega (arith, second.0) in rw z at second.1
 
-    not_in_s : time_by (offset `s`) s ctx ≡ Time.Nothing
+    not_in_s : time_by (offset `s`) s ctx ≡ Err TimeError.Invalid
     unfolding offset_time
     not_in_s =
         let l : length (take (length s - 1) s) ≡ length s - 1 = length-take-le (length s - 1) s (omega arith) in
@@ -116,7 +117,7 @@ module _ (s : List ℕ) (ctx : TimingCtx) where
   first-is way n [] i = absurd i
   first-is way n (w ∷ ws) i = by (decided (time_by w s ctx)) i (first-is way n ws)
     where
-      by : (time_by w s ctx ≡ Time.Nothing) ⊎ Met (time_by w s ctx) → Among way (w ∷ ws) → (Among way ws → first_of ws s ctx ≡ time_by way s ctx)
+      by : (time_by w s ctx ≡ (Err TimeError.Invalid)) ⊎ Met (time_by w s ctx) → Among way (w ∷ ws) → (Among way ws → first_of ws s ctx ≡ time_by way s ctx)
           → first_of (w ∷ ws) s ctx ≡ time_by way s ctx
       by (inl e) (inl q) r = absurd (n (rw (← q) e))
       by (inl e) (inr i) r = rw e (r i)
@@ -126,7 +127,7 @@ module _ (s : List ℕ) (ctx : TimingCtx) where
   first_some [] n = absurd (n refl)
   first_some (w ∷ ws) n = by (decided (time_by w s ctx)) (first_some ws)
     where
-      by : (time_by w s ctx ≡ Time.Nothing) ⊎ Met (time_by w s ctx)
+      by : (time_by w s ctx ≡ (Err TimeError.Invalid)) ⊎ Met (time_by w s ctx)
           → (Met (first_of ws s ctx) → (way : Way) × (time_by way s ctx ≡ first_of ws s ctx)) → (way : Way) × (time_by way s ctx ≡ first_of (w ∷ ws) s ctx)
       by (inl e) r = let k = r (λ z. n (rw e z)) in (k.0, rw e k.1)
       by (inr m) r = (w, sym (else_first (time_by w s ctx) (first_of ws s ctx) m))
@@ -135,7 +136,7 @@ module _ (s : List ℕ) (ctx : TimingCtx) where
   first_way : first_of ways s ctx ≡ time_by (way_of s) s ctx
   first_way = by (decided (time_by (way_of s) s ctx)) (decided (first_of ways s ctx))
     where
-      by : (time_by (way_of s) s ctx ≡ Time.Nothing) ⊎ Met (time_by (way_of s) s ctx) → (first_of ways s ctx ≡ Time.Nothing) ⊎ Met (first_of ways s ctx)
+      by : (time_by (way_of s) s ctx ≡ (Err TimeError.Invalid)) ⊎ Met (time_by (way_of s) s ctx) → (first_of ways s ctx ≡ (Err TimeError.Invalid)) ⊎ Met (first_of ways s ctx)
           → first_of ways s ctx ≡ time_by (way_of s) s ctx
       by (inr n) f = first-is (way_of s) n ways (listed (way_of s))
       by (inl e) (inl f) = f ∙ sym e
@@ -165,7 +166,7 @@ nil [] e = refl
 nil (b ∷ l) e = absurd (omega arith)
 
 -- nothing is no time
-empty : (ctx : TimingCtx) → first_of ways [] ctx ≡ Time.Nothing
+empty : (ctx : TimingCtx) → first_of ways [] ctx ≡ Err TimeError.Invalid
 unfolding starts_at clock_time split_at
 empty ctx = refl
 
@@ -175,7 +176,7 @@ in_order s ctx = by-test (eqb (length (trimmed s)) 0)
     (λ z. rw z (sym (ap (λ l. first_of ways l ctx) (nil (trimmed s) (eqb-true _ 0 z)) ∙ empty ctx)))
     (λ z. rw z)
 
-pub some_way : (s : List ℕ) (ctx : TimingCtx) (t : Time) → ((time_in s ctx ≡ t) × ¬ (t ≡ Time.Nothing)) ↔ ((way : Way) × TimeBy way s ctx t)
+pub some_way : (s : List ℕ) (ctx : TimingCtx) (t : Result ℤ TimeError) → ((time_in s ctx ≡ t) × ¬ (t ≡ (Err TimeError.Invalid))) ↔ ((way : Way) × TimeBy way s ctx t)
 some_way s ctx t = (to, from)
   where
     to : (time_in s ctx ≡ t) × Met t → (way : Way) × TimeBy way s ctx t
@@ -187,7 +188,7 @@ some_way s ctx t = (to, from)
     from : (way : Way) × TimeBy way s ctx t → (time_in s ctx ≡ t) × Met t
     from (way, (e, n)) = (in_order s ctx ∙ (first-is (trimmed s) ctx way (λ z. n (sym e ∙ z)) ways (listed way) ∙ e), n)
 
-pub one_way : (s : List ℕ) (ctx : TimingCtx) (v w : Way) (t u : Time) → TimeBy v s ctx t → TimeBy w s ctx u → v ≡ w
+pub one_way : (s : List ℕ) (ctx : TimingCtx) (v w : Way) (t u : Result ℤ TimeError) → TimeBy v s ctx t → TimeBy w s ctx u → v ≡ w
 one_way s ctx v w t u a b =
     only (trimmed s) ctx v (λ e. a.1 (sym a.0 ∙ e)) ∙ sym (only (trimmed s) ctx w (λ e. b.1 (sym b.0 ∙ e)))
 

@@ -4,64 +4,63 @@
 --     offset-time       : time-count fraction? metric
 --     metric            : "h" | "m" | "s" | "ms" | "f" | "t"
 -- and the Rust's reading of each, `parse_ttml_time`. docs/DIFFERENCES.md says where the two differ. Definitions alone.
-use Rattle.std.specs.Prelude.{ℕ, zero, suc, ◌-◌, ◌^◌, ◌≡◌, ◌↔◌, Bool, true, false, cond, ◌&&◌, ◌||◌}
+use Rattle.std.specs.Prelude.{Option, Some, None, Result, Ok, Err, ℕ, zero, suc, ◌-◌, ◌^◌, ◌≡◌, ◌↔◌, Bool, true, false, cond, ◌&&◌, ◌||◌}
 use Rattle.std.specs.Prelude.{List, [], ◌∷◌, ◌++◌, length, take, replicate, eqb, leb, ltb, ℤ, pos, ◌+ℤ◌, ◌*ℤ◌, Float}
 use Rattle.std.specs.Float.{binary64}
 use Rattle.std.specs.Float.Ieee.{mul, div, lt, le, of_int, to_signed}
 use Rattle.scan.specs.Marks.{starts_at}
 use Rattle.scan.specs.Split.{split_at, Halves, halves, no_half, split_once}
 use Rattle.utf8.specs.White.{trimmed}
-use Rattle.numerals.specs.declared.Numeral.{Numeral}
 use Rattle.numerals.specs.Numerals.{numeral_of}
-use Rattle.decimals.specs.declared.read.Decimal.{Decimal}
 use Rattle.decimals.specs.Decimal.{decimal_of}
 use Rattle.decimals.specs.Floats.{value_in_of}
-use Rattle.times.specs.declared.sums.Sum.{Sum}
 use Rattle.times.specs.declared.offset.TimingCtx.{TimingCtx}
-use Rattle.times.specs.declared.offset.Time.{Time}
-use Rattle.times.specs.declared.offset.Time.TheVariants.{Is, Nothing, Beyond, LongFraction, Overflow}
 use Rattle.scan.specs.Text.{ascii}
 use Rattle.times.specs.Sums.{checked, signed}
+use Rattle.decimals.specs.declared.read.DecimalError.{DecimalError}
+use Rattle.times.specs.declared.offset.TimeError.{TimeError}
+use Rattle.numerals.specs.declared.Whole.{Whole}
+use Rattle.decimals.specs.declared.read.Digits.{Digits}
 
 -- ---- the answer
 -- document 01's number, 0 where none is met, and the values of each case
-abbrev pub number_of : Time → ℕ
-number_of (Is z) = 0
-number_of Nothing = 0
-number_of Beyond = 14
-number_of LongFraction = 15
-number_of Overflow = 16
+abbrev pub number_of : Result ℤ TimeError → ℕ
+number_of (Ok z) = 0
+number_of (Err TimeError.Invalid) = 0
+number_of (Err TimeError.Beyond) = 14
+number_of (Err TimeError.LongFraction) = 15
+number_of (Err TimeError.Overflow) = 16
 
-abbrev pub values_of : Time → List ℤ
-values_of (Is z) = z ∷ []
-values_of Nothing = []
-values_of Beyond = []
-values_of LongFraction = []
-values_of Overflow = []
+abbrev pub values_of : Result ℤ TimeError → List ℤ
+values_of (Ok z) = z ∷ []
+values_of (Err TimeError.Invalid) = []
+values_of (Err TimeError.Beyond) = []
+values_of (Err TimeError.LongFraction) = []
+values_of (Err TimeError.Overflow) = []
 
-abbrev pub Says : Time → ℕ → List ℤ → Type 0
+abbrev pub Says : Result ℤ TimeError → ℕ → List ℤ → Type 0
 Says r n values = (number_of r ≡ n) × (values_of r ≡ values)
 
 -- go on with this value, or keep the answer that has none
 infixl 55 ◌>>=◌
-abbrev pub ◌>>=◌ : Time → (ℤ → Time) → Time
-◌>>=◌ (Is z) next = next z
-◌>>=◌ Nothing next = Nothing
-◌>>=◌ Beyond next = Beyond
-◌>>=◌ LongFraction next = LongFraction
-◌>>=◌ Overflow next = Overflow
+abbrev pub ◌>>=◌ : Result ℤ TimeError → (ℤ → Result ℤ TimeError) → Result ℤ TimeError
+◌>>=◌ (Ok z) next = next z
+◌>>=◌ (Err TimeError.Invalid) next = Err TimeError.Invalid
+◌>>=◌ (Err TimeError.Beyond) next = Err TimeError.Beyond
+◌>>=◌ (Err TimeError.LongFraction) next = Err TimeError.LongFraction
+◌>>=◌ (Err TimeError.Overflow) next = Err TimeError.Overflow
 
 -- a product or a sum of times, if it is an i64
-abbrev pub time_of : Sum → Time
-time_of (Sum.Is z) = Is z
-time_of Sum.Overflow = Overflow
+abbrev pub time_of : Option ℤ → Result ℤ TimeError
+time_of (Some z) = Ok z
+time_of None = Err TimeError.Overflow
 
-abbrev pub tested : ℤ → Time
+abbrev pub tested : ℤ → Result ℤ TimeError
 tested z = time_of (checked z)
 
 -- ---- decimals of times
 -- at most 15 digits after leading zeros, at most 22 behind the point
-abbrev pub time_decimal : List ℕ → Decimal
+abbrev pub time_decimal : List ℕ → Result Digits DecimalError
 time_decimal s = decimal_of s 15 22
 
 -- a whole number as a float
@@ -92,14 +91,14 @@ tick_rate_of ctx = given ctx.has_tick_rate ctx.tick_rate
 
 -- ---- clock times
 -- hours, minutes, seconds: whole numbers, as Rust reads an i64
-abbrev pub integer : List ℕ → Numeral
+abbrev pub integer : List ℕ → Option Whole
 integer s = numeral_of s 10 (2 ^ 63 - 1) true
 
-abbrev pub whole_in : Numeral → Time
-whole_in (Numeral.Is w) = Is (signed w.negative w.magnitude)
-whole_in Numeral.Nothing = Nothing
+abbrev pub whole_in : Option Whole → Result ℤ TimeError
+whole_in (Some w) = Ok (signed w.negative w.magnitude)
+whole_in None = Err TimeError.Invalid
 
-abbrev pub whole : List ℕ → Time
+abbrev pub whole : List ℕ → Result ℤ TimeError
 whole s = whole_in (integer s)
 
 -- how many bytes the first n characters of s have; bytes from 0x80 to 0xBF go on with a character
@@ -110,18 +109,18 @@ chars_length (suc n) (b ∷ s) = cond (leb 0x80 b && leb b 0xBF) (suc (chars_len
 
 -- The first six characters of a fraction, zeros added up to six bytes, as a number of microseconds; 0 where they are no number. A fraction
 -- whose first six characters have more than six bytes is where the Rust stops: number 15.
-abbrev pub number_in : Numeral → ℤ
-number_in (Numeral.Is w) = signed w.negative w.magnitude
-number_in Numeral.Nothing = pos 0
+abbrev pub number_in : Option Whole → ℤ
+number_in (Some w) = signed w.negative w.magnitude
+number_in None = pos 0
 
 unfoldable pub micros_of : List ℕ → ℤ
 micros_of w = number_in (integer (take 6 (w ++ replicate 6 48)))
 
-abbrev pub micros : List ℕ → Time
-micros f = cond (ltb 6 (chars_length 6 f)) LongFraction (Is (micros_of (take (chars_length 6 f) f)))
+abbrev pub micros : List ℕ → Result ℤ TimeError
+micros f = cond (ltb 6 (chars_length 6 f)) (Err TimeError.LongFraction) (Ok (micros_of (take (chars_length 6 f) f)))
 
 -- seconds, without a point or with a fraction behind the first one
-abbrev pub seconds_in : List ℕ → Halves → Time
+abbrev pub seconds_in : List ℕ → Halves → Result ℤ TimeError
 seconds_in s no_half = do
   n ← whole s
   tested (n *ℤ pos 1000000)
@@ -131,29 +130,29 @@ seconds_in s (halves w f) = do
   z ← tested (n *ℤ pos 1000000)
   tested (z +ℤ u)
 
-unfoldable pub seconds_of : List ℕ → Time
+unfoldable pub seconds_of : List ℕ → Result ℤ TimeError
 unfolding split_once
 seconds_of s = seconds_in s (split_once 46 s)
 
-abbrev pub hours_minutes : ℤ → ℤ → Time
+abbrev pub hours_minutes : ℤ → ℤ → Result ℤ TimeError
 hours_minutes h m = do
   x ← tested (h *ℤ pos 3600000000)
   y ← tested (m *ℤ pos 60000000)
   tested (x +ℤ y)
 
 -- Frames are added where there is a rate above 0; what is no decimal adds nothing. White space around them makes them none.
-abbrev pub frames_in : ℤ → Decimal → Rate → Time
-frames_in z (Decimal.Is d) (rate r) =
-    cond (lt (float 0) r) (tested (z +ℤ at_rate (value_in_of binary64 d.negative d.digits d.scale) r)) (Is z)
-frames_in z (Decimal.Is d) no_rate = Is z
-frames_in z Decimal.Nothing r = Is z
-frames_in z Decimal.Beyond r = Beyond
+abbrev pub frames_in : ℤ → Result Digits DecimalError → Rate → Result ℤ TimeError
+frames_in z (Ok d) (rate r) =
+    cond (lt (float 0) r) (tested (z +ℤ at_rate (value_in_of binary64 d.negative d.digits d.scale) r)) (Ok z)
+frames_in z (Ok d) no_rate = Ok z
+frames_in z (Err DecimalError.Invalid) r = Ok z
+frames_in z (Err DecimalError.Beyond) r = Err TimeError.Beyond
 
 -- By the number of parts between colons: fewer than two are no time; hours and minutes; seconds behind them; frames behind those, and parts
 -- that are not looked at. What is read is read from left to right, and all of it before any sum but that of the frames.
-abbrev pub clock_of : List (List ℕ) → TimingCtx → Time
-clock_of [] ctx = Nothing
-clock_of (h ∷ []) ctx = Nothing
+abbrev pub clock_of : List (List ℕ) → TimingCtx → Result ℤ TimeError
+clock_of [] ctx = Err TimeError.Invalid
+clock_of (h ∷ []) ctx = Err TimeError.Invalid
 clock_of (h ∷ m ∷ []) ctx = do
   x ← whole h
   y ← whole m
@@ -172,7 +171,7 @@ clock_of (h ∷ m ∷ s ∷ f ∷ more) ctx = do
   t ← tested (a +ℤ z)
   frames_in t (time_decimal f) (frame_rate_of ctx)
 
-unfoldable pub clock_time : List ℕ → TimingCtx → Time
+unfoldable pub clock_time : List ℕ → TimingCtx → Result ℤ TimeError
 unfolding split_at seconds_of
 clock_time s ctx = clock_of (split_at 58 s) ctx
 
@@ -193,16 +192,16 @@ letters `f` = ascii "f"
 letters `t` = ascii "t"
 
 -- no time without a rate, or with one at or below 0
-abbrev pub counted : Float → Rate → Time
-counted v (rate r) = cond (le r (float 0)) Nothing (Is (at_rate v r))
-counted v no_rate = Nothing
+abbrev pub counted : Float → Rate → Result ℤ TimeError
+counted v (rate r) = cond (le r (float 0)) (Err TimeError.Invalid) (Ok (at_rate v r))
+counted v no_rate = Err TimeError.Invalid
 
 -- so many microseconds each; the product is rounded before it is cut
-abbrev pub each : ℕ → Float → Time
-each u v = Is (truncated (mul binary64 v (float u)))
+abbrev pub each : ℕ → Float → Result ℤ TimeError
+each u v = Ok (truncated (mul binary64 v (float u)))
 
 -- v of a metric
-abbrev pub in_metric : Metric → TimingCtx → Float → Time
+abbrev pub in_metric : Metric → TimingCtx → Float → Result ℤ TimeError
 in_metric `h` ctx v = each 3600000000 v
 in_metric `m` ctx v = each 60000000 v
 in_metric `s` ctx v = each 1000000 v
@@ -211,13 +210,13 @@ in_metric `f` ctx v = counted v (frame_rate_of ctx)
 in_metric `t` ctx v = counted v (tick_rate_of ctx)
 
 -- go on with the value of a decimal
-abbrev pub with_value_of : Decimal → (Float → Time) → Time
-with_value_of (Decimal.Is d) next = next (value_in_of binary64 d.negative d.digits d.scale)
-with_value_of Decimal.Nothing next = Nothing
-with_value_of Decimal.Beyond next = Beyond
+abbrev pub with_value_of : Result Digits DecimalError → (Float → Result ℤ TimeError) → Result ℤ TimeError
+with_value_of (Ok d) next = next (value_in_of binary64 d.negative d.digits d.scale)
+with_value_of (Err DecimalError.Invalid) next = Err TimeError.Invalid
+with_value_of (Err DecimalError.Beyond) next = Err TimeError.Beyond
 
 -- a time-count and its metric; white space may stand around the count
-unfoldable pub offset_time : List ℕ → Metric → TimingCtx → Time
+unfoldable pub offset_time : List ℕ → Metric → TimingCtx → Result ℤ TimeError
 offset_time n m ctx = with_value_of (time_decimal (trimmed n)) (in_metric m ctx)
 
 -- ---- a time expression
@@ -244,56 +243,56 @@ ends_in_one (m ∷ more) s = ends_in (letters m) s || ends_in_one more s
 
 -- What s is in one way, by the rule of that way: no other way is asked, and no order. That it ends in no metric is part of what a clock time
 -- is: the Rust comes to its clock rule with no other text. Without this condition `0:0:0:s` would be 0, and `0:0:5.5s` 5 s.
-abbrev pub time_by : Way → List ℕ → TimingCtx → Time
-time_by clock s ctx = cond (ends_in_one metrics s) Nothing (clock_time s ctx)
-time_by (offset m) s ctx = cond (ends_in (letters m) s) (offset_time (without (length (letters m)) s) m ctx) Nothing
+abbrev pub time_by : Way → List ℕ → TimingCtx → Result ℤ TimeError
+time_by clock s ctx = cond (ends_in_one metrics s) (Err TimeError.Invalid) (clock_time s ctx)
+time_by (offset m) s ctx = cond (ends_in (letters m) s) (offset_time (without (length (letters m)) s) m ctx) (Err TimeError.Invalid)
 
 -- the first answer; where that is no time, the second
 infixr 50 ◌else◌
-abbrev pub ◌else◌ : Time → Time → Time
-Nothing else u = u
-Is z else u = Is z
-Beyond else u = Beyond
-LongFraction else u = LongFraction
-Overflow else u = Overflow
+abbrev pub ◌else◌ : Result ℤ TimeError → Result ℤ TimeError → Result ℤ TimeError
+(Err TimeError.Invalid) else u = u
+Ok z else u = Ok z
+(Err TimeError.Beyond) else u = Err TimeError.Beyond
+(Err TimeError.LongFraction) else u = Err TimeError.LongFraction
+(Err TimeError.Overflow) else u = Err TimeError.Overflow
 
 -- the answer of the first of these ways that gives one, a time or a number
-abbrev pub first_of : List Way → List ℕ → TimingCtx → Time
-first_of [] s ctx = Nothing
+abbrev pub first_of : List Way → List ℕ → TimingCtx → Result ℤ TimeError
+first_of [] s ctx = Err TimeError.Invalid
 first_of (way ∷ more) s ctx = time_by way s ctx else first_of more s ctx
 
 -- a time expression: the ways tried in their order, each going on to the next where it gives no time
-unfoldable pub expression : List ℕ → TimingCtx → Time
+unfoldable pub expression : List ℕ → TimingCtx → Result ℤ TimeError
 unfolding offset_time clock_time
 expression s ctx = first_of ways s ctx
 
 -- white space around the whole is passed over, and nothing else is no time (the Rust's `parse_ttml_time`)
-unfoldable pub time_in : List ℕ → TimingCtx → Time
+unfoldable pub time_in : List ℕ → TimingCtx → Result ℤ TimeError
 unfolding expression
-time_in s ctx = cond (eqb (length (trimmed s)) 0) Nothing (expression (trimmed s) ctx)
+time_in s ctx = cond (eqb (length (trimmed s)) 0) (Err TimeError.Invalid) (expression (trimmed s) ctx)
 
 -- What `parse_ttml_time` promises of its answer r, t being the time of the text: it says a time exactly if the text is that time, no time
 -- exactly if it is none, and a number exactly if that is the one met.
-pub record ReadsTime (t r : Time) : Type 0 where
+pub record ReadsTime (t r : Result ℤ TimeError) : Type 0 where
   pub is : r ≡ t
-  pub time : (z : ℤ) → Says r 0 (z ∷ []) ↔ (t ≡ Is z)
-  pub none : Says r 0 [] ↔ (t ≡ Nothing)
-  pub beyond : Says r 14 [] ↔ (t ≡ Beyond)
-  pub long_fraction : Says r 15 [] ↔ (t ≡ LongFraction)
-  pub overflow : Says r 16 [] ↔ (t ≡ Overflow)
+  pub time : (z : ℤ) → Says r 0 (z ∷ []) ↔ (t ≡ Ok z)
+  pub none : Says r 0 [] ↔ (t ≡ (Err TimeError.Invalid))
+  pub beyond : Says r 14 [] ↔ (t ≡ (Err TimeError.Beyond))
+  pub long_fraction : Says r 15 [] ↔ (t ≡ (Err TimeError.LongFraction))
+  pub overflow : Says r 16 [] ↔ (t ≡ (Err TimeError.Overflow))
 
 -- ---- one way for each time (document 02, (d))
 -- s, without the white space around it, is t in this way: a time, or the number that it meets
-abbrev pub TimeBy : Way → List ℕ → TimingCtx → Time → Type 0
-TimeBy way s ctx t = (time_by way (trimmed s) ctx ≡ t) × ¬ (t ≡ Nothing)
+abbrev pub TimeBy : Way → List ℕ → TimingCtx → Result ℤ TimeError → Type 0
+TimeBy way s ctx t = (time_by way (trimmed s) ctx ≡ t) × ¬ (t ≡ (Err TimeError.Invalid))
 
 -- "Every answer is as it was": the order of trial before the change, which is the Rust's. The first of these metrics that s ends in decides,
 -- also where its count is no decimal; a clock time is what ends in none.
-abbrev pub by_first_metric : List Metric → List ℕ → TimingCtx → Time
+abbrev pub by_first_metric : List Metric → List ℕ → TimingCtx → Result ℤ TimeError
 by_first_metric [] s ctx = clock_time s ctx
 by_first_metric (m ∷ more) s ctx =
     cond (ends_in (letters m) s) (offset_time (without (length (letters m)) s) m ctx) (by_first_metric more s ctx)
 
-abbrev pub in_rusts_order : List ℕ → TimingCtx → Time
+abbrev pub in_rusts_order : List ℕ → TimingCtx → Result ℤ TimeError
 in_rusts_order s ctx =
-    cond (eqb (length (trimmed s)) 0) Nothing (by_first_metric (`ms` ∷ `s` ∷ `m` ∷ `h` ∷ `f` ∷ `t` ∷ []) (trimmed s) ctx)
+    cond (eqb (length (trimmed s)) 0) (Err TimeError.Invalid) (by_first_metric (`ms` ∷ `s` ∷ `m` ∷ `h` ∷ `f` ∷ `t` ∷ []) (trimmed s) ctx)

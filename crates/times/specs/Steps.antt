@@ -1,33 +1,39 @@
 -- Steps of the program, which contracts of inner functions cite. They need not be believed: `proofs/Parts.antt` shows that they make up
 -- what `Expressions` says.
-use Rattle.std.specs.Prelude.{ℕ, ◌+◌, ◌-◌, ◌*◌, Bool, cond, ◌||◌, List, [], ◌∷◌, get_or, eqb, ltb, ℤ, pos, ◌+ℤ◌, ◌*ℤ◌, Float}
+use Rattle.std.specs.Prelude.{Option, Some, None, Result, Ok, Err, ℕ, ◌+◌, ◌-◌, ◌*◌, Bool, cond, ◌||◌, List, [], ◌∷◌, get_or, eqb, ltb}
+use Rattle.std.specs.Prelude.{ℤ, pos, ◌+ℤ◌, ◌*ℤ◌, Float}
 use Rattle.std.specs.Float.{binary64}
 use Rattle.std.specs.Float.Ieee.{mul}
 use Rattle.scan.specs.Bytes.{digit_byte}
-use Rattle.decimals.specs.declared.read.Decimal.{Decimal}
 use Rattle.numerals.specs.declared.Whole.{Whole}
-use Rattle.times.specs.declared.sums.Sum.{Sum}
 use Rattle.times.specs.declared.offset.TimingCtx.{TimingCtx}
-use Rattle.times.specs.declared.offset.Time.{Time}
 use Rattle.times.specs.Sums.{checked, signed}
 use Rattle.times.specs.Expressions.{◌>>=◌, tested, time_decimal, truncated, Rate, counted, with_value_of, frame_rate_of}
 use Rattle.times.specs.Expressions.{whole, micros, seconds_of, hours_minutes, frames_in}
+use Rattle.decimals.specs.declared.read.DecimalError.{DecimalError}
+use Rattle.times.specs.declared.offset.TimeError.{TimeError}
+use Rattle.decimals.specs.declared.read.Digits.{Digits}
 
 -- a sum of sums, each tested
-abbrev pub plus : Sum → Sum → Sum
-plus (Sum.Is a) (Sum.Is b) = checked (a +ℤ b)
-plus (Sum.Is a) Sum.Overflow = Sum.Overflow
-plus Sum.Overflow b = Sum.Overflow
+abbrev pub plus : Option ℤ → Option ℤ → Option ℤ
+plus (Some a) (Some b) = checked (a +ℤ b)
+plus (Some a) None = None
+plus None b = None
+
+-- what a text has no time for, that is no decimal of a time
+abbrev pub refused : DecimalError → TimeError
+refused DecimalError.Invalid = TimeError.Invalid
+refused DecimalError.Beyond = TimeError.Beyond
 
 -- ---- offset times
 -- a metric ends in this letter
 abbrev pub ends_metric : ℕ → Bool
 ends_metric b = eqb b 104 || eqb b 109 || eqb b 115 || eqb b 102 || eqb b 116
 
-abbrev pub each_time : Decimal → Float → Time
-each_time d u = with_value_of d (λ v. Time.Is (truncated (mul binary64 v u)))
+abbrev pub each_time : Result Digits DecimalError → Float → Result ℤ TimeError
+each_time d u = with_value_of d (λ v. Ok (truncated (mul binary64 v u)))
 
-abbrev pub rate_time : Decimal → Rate → Time
+abbrev pub rate_time : Result Digits DecimalError → Rate → Result ℤ TimeError
 rate_time d r = with_value_of d (λ v. counted v r)
 
 -- ---- clock times
@@ -35,36 +41,36 @@ abbrev pub number : Whole → ℤ
 number w = signed w.negative w.magnitude
 
 -- hours and minutes, by the microseconds of each
-abbrev pub in_units : ℤ → ℕ → ℤ → ℕ → Sum
+abbrev pub in_units : ℤ → ℕ → ℤ → ℕ → Option ℤ
 in_units h hour m minute = plus (checked (h *ℤ pos hour)) (checked (m *ℤ pos minute))
 
 -- seconds and a fraction
-abbrev pub fractioned : ℤ → List ℕ → Time
+abbrev pub fractioned : ℤ → List ℕ → Result ℤ TimeError
 fractioned n f = do
   u ← micros f
   z ← tested (n *ℤ pos 1000000)
   tested (z +ℤ u)
 
 -- hours, minutes and seconds
-abbrev pub summed : ℤ → ℤ → Time → Time
+abbrev pub summed : ℤ → ℤ → Result ℤ TimeError → Result ℤ TimeError
 summed h m s = do
   z ← s
   a ← hours_minutes h m
   tested (a +ℤ z)
 
 -- the parts that are left, after the seconds, the minutes and the hours
-abbrev pub after_seconds : ℤ → List (List ℕ) → TimingCtx → Time
-after_seconds t [] ctx = Time.Is t
+abbrev pub after_seconds : ℤ → List (List ℕ) → TimingCtx → Result ℤ TimeError
+after_seconds t [] ctx = Ok t
 after_seconds t (f ∷ more) ctx = frames_in t (time_decimal f) (frame_rate_of ctx)
 
-abbrev pub after_minutes : ℤ → ℤ → List (List ℕ) → TimingCtx → Time
+abbrev pub after_minutes : ℤ → ℤ → List (List ℕ) → TimingCtx → Result ℤ TimeError
 after_minutes h m [] ctx = hours_minutes h m
 after_minutes h m (s ∷ more) ctx = do
   t ← summed h m (seconds_of s)
   after_seconds t more ctx
 
-abbrev pub after_hours : ℤ → List (List ℕ) → TimingCtx → Time
-after_hours h [] ctx = Time.Nothing
+abbrev pub after_hours : ℤ → List (List ℕ) → TimingCtx → Result ℤ TimeError
+after_hours h [] ctx = Err TimeError.Invalid
 after_hours h (m ∷ more) ctx = do
   y ← whole m
   after_minutes h y more ctx

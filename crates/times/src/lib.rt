@@ -7,6 +7,6 @@ mod usual;
 mod write;
 
 pub use clock::parse_ttml_time;
-pub use offset::{Time, TimingCtx};
-pub use sums::{Sum, add};
+pub use offset::{TimeError, TimingCtx};
+pub use sums::add;
 pub use write::format_ts;

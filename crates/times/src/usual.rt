@@ -2,12 +2,13 @@
 ghost use Rattle.std.specs.Prelude.{◌≡◌, ◌+◌, ◌*◌, length};
 ghost use Rattle.times.specs.Steps.{digit_or, in_millis, usual_millis};
 
-// A digit's value; 1,000 for any other byte, so that a sum over it passes every limit below.
+// A digit's value; 1,000 for any other byte, so that a sum over it passes every limit below: an `Option` would be
+// tested at each digit.
 fn digit(b: u8) -> u64
     ensures { result ≡ digit_or b }
 {
     match b {
-        b'0'..=b'9' => (b - 48) as u64,
+        b'0'..=b'9' => (b - b'0') as u64,
         _ => 1000,
     }
 }
@@ -28,16 +29,7 @@ fn three_digits(hundreds: u8, tens: u8, ones: u8) -> u64
 fn in_millis(h: u64, m: u64, s: u64, ms: u64) -> u64
     ensures { result ≡ in_millis h m s ms }
 {
-    if 100 <= h {
-        return 360000000;
-    }
-    if 60 <= m {
-        return 360000000;
-    }
-    if 60 <= s {
-        return 360000000;
-    }
-    if 1000 <= ms {
+    if 100 <= h || 60 <= m || 60 <= s || 1000 <= ms {
         return 360000000;
     }
     ((h * 60 + m) * 60 + s) * 1000 + ms
@@ -48,13 +40,7 @@ pub fn usual_millis(text: &[u8]) -> u64
     requires { length text.now ≡ 12 }
     ensures { result ≡ usual_millis text.now }
 {
-    if text[2] != b':' {
-        return 360000000;
-    }
-    if text[5] != b':' {
-        return 360000000;
-    }
-    if text[8] != b'.' {
+    if text[2] != b':' || text[5] != b':' || text[8] != b'.' {
         return 360000000;
     }
     let h = two_digits(text[0], text[1]);

@@ -3,8 +3,6 @@ ghost use Rattle.std.specs.Prelude.{◌≡◌, ◌+◌, ◌≤◌, length};
 ghost use Rattle.scan.specs.Posts.{Wrote, Appended};
 ghost use Rattle.times.specs.Written.{millis, clock_text, field, hours_width};
 
-use scan::Written;
-
 // Whole milliseconds of a time; one below zero counts as zero.
 fn milliseconds(us: i64) -> u64
     ensures { result ≡ millis us }
@@ -27,15 +25,15 @@ fn put_field(out: &mut [u8], at: usize, n: u64, width: usize, mark: u8) -> usize
 
 // Hours have two digits or more; their number fits a u32 for every i64, as the Rust casts it:
 // (2^63 - 1) / 3,600,000,000 is 2,562,047,788.
+#[tactic(auto, unfolding(crate::specs::Written::hours_width))]
 fn hours_width(h: u64) -> usize
     ensures { result ≡ hours_width h }
 {
-    let width = numerals::decimal_width(h);
-    if width < 2 { 2 } else { width }
+    numerals::decimal_width(h).max(2)
 }
 
 // `hh:mm:ss.mmm` written at a place, if it fits.
-pub fn format_ts(out: &mut [u8], at: usize, us: i64) -> Written
+pub fn format_ts(out: &mut [u8], at: usize, us: i64) -> Option<usize>
     requires { at ≤ length out.old }
     ensures { Wrote (clock_text us) at out.old out.new result }
 {
@@ -43,10 +41,10 @@ pub fn format_ts(out: &mut [u8], at: usize, us: i64) -> Written
     let h = ms / 3600000;
     let width = hours_width(h);
     if out.len() - at < width + 10 {
-        return Written::Full;
+        return None;
     }
     let minutes = put_field(out, at, h, width, b':');
     let seconds = put_field(out, minutes, ms / 60000 % 60, 2, b':');
     let rest = put_field(out, seconds, ms / 1000 % 60, 2, b'.');
-    Written::At(numerals::put_digits(out, rest, ms % 1000, 10, 3))
+    Some(numerals::put_digits(out, rest, ms % 1000, 10, 3))
 }

@@ -1,5 +1,6 @@
 -- What the functions on queries answer: the cells of an answer. Definitions alone.
-use Rattle.std.specs.Prelude.{ℕ, ◌≤◌, ◌<◌, ◌≡◌, Bool, cond, List, [], ◌∷◌, length, replicate, Float}
+use Rattle.queries.specs.Reply.{Reply}
+use Rattle.std.specs.Prelude.{Ok, Err, ℕ, ◌≤◌, ◌<◌, ◌≡◌, Bool, cond, List, [], ◌∷◌, length, replicate, Float}
 use Rattle.std.proofs.lemmas.List.Edits.{sets}
 use Rattle.colors.specs.declared.read.Rgba.{Rgba}
 use Rattle.decimals.specs.declared.size.Size.{Size}
@@ -9,7 +10,6 @@ use Rattle.track.specs.declared.values.Look.{Look}
 use Rattle.track.specs.Tables.{span, zero_float}
 use Rattle.styles.specs.Cells.{blank_look}
 use Rattle.queries.specs.declared.query.Resolved.{Resolved}
-use Rattle.queries.specs.declared.query.Resolved.TheVariants.{Style, NoStyle, Refused}
 use Rattle.told.specs.Told.{told}
 
 abbrev pub flag_cell : Bool → ℕ
@@ -54,10 +54,10 @@ pub record AnswerPut (place style ids : ℕ) (name : Span) (look : Look) (out ou
   pub float : size' ≡ sets size 0 (look.size.value ∷ [])
 
 -- its number, 0 if it has none; and its cells. Where there is no style, its part says nothing.
-abbrev pub ToldAs : Resolved → (out out' : List ℕ) → (size size' : List Float) → ℕ → Type 0
-ToldAs (Style a) out out' size size' r = (r ≡ 0) × AnswerPut 0 1 a.ids a.name a.look out out' size size'
-ToldAs (NoStyle n) out out' size size' r = (r ≡ 0) × AnswerPut 0 0 n (span 0 0) blank_look out out' size size'
-ToldAs (Refused x) out out' size size' r = (r ≡ x.number) × AnswerPut x.place 0 0 (span 0 0) blank_look out out' size size'
+abbrev pub ToldAs : Reply → (out out' : List ℕ) → (size size' : List Float) → ℕ → Type 0
+ToldAs (Ok (Resolved.Style a)) out out' size size' r = (r ≡ 0) × AnswerPut 0 1 a.ids a.name a.look out out' size size'
+ToldAs (Ok (Resolved.NoStyle n)) out out' size size' r = (r ≡ 0) × AnswerPut 0 0 n (span 0 0) blank_look out out' size size'
+ToldAs (Err x) out out' size size' r = (r ≡ x.number) × AnswerPut x.place 0 0 (span 0 0) blank_look out out' size size'
 
 -- ---- to a caller in C
 -- no room for the answer: "1. A lent table is shorter than its fixed length."
@@ -68,15 +68,15 @@ pub record NoRoom (lent left out out' : List ℕ) (size size' : List Float) (r :
   pub floats : size' ≡ replicate (length size) zero_float
 
 -- what the query promises of its answer, which stands in the cells and the float; its number is told
-pub record AnswersIn (promise : Resolved → List ℕ → Type 0) (left out out' : List ℕ) (size size' : List Float) (r : ℕ) : Type 0 where
-  pub answer : Resolved
+pub record AnswersIn (promise : Reply → List ℕ → Type 0) (left out out' : List ℕ) (size size' : List Float) (r : ℕ) : Type 0 where
+  pub answer : Reply
   pub promised : promise answer left
   pub number : ℕ
   pub is : r ≡ told number 0
   pub stands : ToldAs answer (replicate (length out) 0) out' (replicate (length size) zero_float) size' number
 
 -- 27 cells and a float are lent for the answer
-pub record AnswersInC (promise : Resolved → List ℕ → Type 0) (lent left out out' : List ℕ) (size size' : List Float) (r : ℕ) : Type 0 where
+pub record AnswersInC (promise : Reply → List ℕ → Type 0) (lent left out out' : List ℕ) (size size' : List Float) (r : ℕ) : Type 0 where
   pub room : 27 ≤ length out → 1 ≤ length size → AnswersIn promise left out out' size size' r
   pub no_cells : length out < 27 → NoRoom lent left out out' size size' r
   pub no_float : length size < 1 → NoRoom lent left out out' size size' r

@@ -1,7 +1,7 @@
 -- The check of the whole, test by test. Assumes nothing.
 --     RowsLong, rows_long, RestLong, rest-long     how long the tables are that pass
 --     Limits, limits_low                           how large the counts are that pass
---     full-rows, full-rest, full_is                tables as long as they must be
+--     full-long, long_full                         tables as long as they must be
 --     track_limits, track_bytes, track_rows, track_cues, track_is     tables that hold a track
 use Prim.Native.Nat.{ℕ, ◌≤◌}
 use mathlib.Core.Path.{◌≡◌}
@@ -91,18 +91,6 @@ module _ (T : Tables) where
 
   abbrev rest_ok : Bool
   rest_ok = rest_full (length T.times) (length T.sizes) (length T.strings) (length T.texts)
-
-  pub full-rows : rows_ok ≡ false → is_full T ≡ false
-  unfolding is_full
-  full-rows e = rw e
-
-  pub full-rest : rows_ok ≡ true → rest_ok ≡ false → is_full T ≡ false
-  unfolding is_full
-  full-rest e f = rw (e, f)
-
-  pub full_is : rows_ok ≡ true → rest_ok ≡ true → is_full T ≡ true
-  unfolding is_full
-  full_is e f = rw (e, f)
 
   -- as the promise has it
   pub full-long : is_full T ≡ true → LongEnough (lengths T)

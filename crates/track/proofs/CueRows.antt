@@ -1,34 +1,22 @@
 -- Cues, one after the other. Assumes nothing.
---     cue_values_not, cue_from_not, cue_room_not, cue_is     a cue, by its tests
---     cues_stop, cues_next, cues_done                        a row more of them
---     cue_within                                             the segments of a cue are among all
---     cue-row                                                each row is a cue whose segments begin where its cell 7 says
+--     cue_is                             a cue, by its tests
+--     cues_stop, cues_next, cues_done    a row more of them
+--     cue_within                         the segments of a cue are among all
+--     cue-row                            each row is a cue whose segments begin where its cell 7 says
 use Prim.Native.Nat.{ℕ, zero, suc, ◌+◌, ◌-◌, ◌≤◌, ◌<◌}
 use mathlib.Core.Path.{◌≡◌}
-use mathlib.Core.Bool.{true, false, ◌&&◌, and-false}
+use mathlib.Core.Bool.{true, false}
 use mathlib.Core.List.{List}
 use native.Mathlib.Omega.{arith}
 use native.Mathlib.Nat.{add-zero}
 use lib.Dec.{eqb}
-use borrow.Author.Tests.{eq-eqb, ne_eqb, le-leb, lt-leb}
+use borrow.Author.Tests.{eq-eqb, le-leb}
 use Rattle.scan.proofs.Every.{both}
 use Rattle.track.specs.Tables.{cell}
 use Rattle.track.specs.Meaning.{cue_values, are_segments, is_cue, are_cues}
 use Rattle.track.proofs.RowParts.{cue_parts}
 
 module _ (t e g z y : List ℕ) (most from i : ℕ) where
-  pub cue_values_not : cue_values t e z i ≡ false → is_cue t e g z y most from i ≡ false
-  unfolding is_cue
-  cue_values_not v = rw v
-
-  pub cue_from_not : (cell 11 t i 7 ≡ from → ⊥) → is_cue t e g z y most from i ≡ false
-  unfolding is_cue
-  cue_from_not n = rw (ne_eqb (cell 11 t i 7) from n, and-false (cue_values t e z i))
-
-  pub cue_room_not : most < from + cell 11 t i 8 → is_cue t e g z y most from i ≡ false
-  unfolding is_cue
-  cue_room_not h = rw (lt-leb (from + cell 11 t i 8) most h, and-false (cue_values t e z i && eqb (cell 11 t i 7) from))
-
   pub cue_is : cue_values t e z i ≡ true → cell 11 t i 7 ≡ from → from + cell 11 t i 8 ≤ most
       → is_cue t e g z y most from i ≡ are_segments g z y 512 (cell 11 t i 8) from
   unfolding is_cue

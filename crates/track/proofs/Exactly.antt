@@ -3,6 +3,7 @@
 --     track_some, track_none                   what the tables then hold
 --     promised                                 that answer keeps the promise
 --     determined, checked-is                   and no other does
+use Rattle.std.specs.Prelude.{Result, Ok, Err, ⊤}
 use Prim.Native.Nat.{ℕ, ◌<◌}
 use mathlib.Core.Path.{◌≡◌, refl, sym, ap, ap₂, subst, ◌∙◌}
 use mathlib.Core.Bool.{true, false}
@@ -11,7 +12,6 @@ use native.Mathlib.Omega.{arith}
 use Rattle.scan.proofs.Every.{by-test}
 use Rattle.decimals.proofs.Tests.{no}
 use Rattle.tree.specs.declared.answers.Refusal.{Refusal}
-use Rattle.track.specs.declared.check.Check.{Check}
 use Rattle.track.specs.Tables.{Tables, lengths, LongEnough}
 use Rattle.track.specs.Meaning.{is_track, track_at, track_in}
 use Rattle.track.specs.Check.{number_of, place_of, Says, TurnsAway, short_table, no_track, Checked}
@@ -21,7 +21,7 @@ use Rattle.track.proofs.Answers.{long_full, full-long}
 refusal_same : (x y : Refusal) → x.number ≡ y.number → x.place ≡ y.place → x ≡ y
 refusal_same x y a b = ap₂ (λ (m n : ℕ). record { number = m; place = n }) a b
 
-differ : {A : Type 0} {x y : Check} → x ≡ y → (number_of x ≡ number_of y → ⊥) → A
+differ : {A : Type 0} {x y : Result ⊤ Refusal} → x ≡ y → (number_of x ≡ number_of y → ⊥) → A
 unfolding number_of
 differ e d = absurd (d (ap number_of e))
 
@@ -37,7 +37,7 @@ module _ (T : Tables) where
   unfolding check_of
   check_none f e = rw (f, e)
 
-  pub check_track : is_full T ≡ true → is_track T ≡ true → check_of T ≡ Check.Track
+  pub check_track : is_full T ≡ true → is_track T ≡ true → check_of T ≡ Ok tt
   unfolding check_of
   check_track f e = rw (f, e)
 
@@ -53,16 +53,16 @@ module _ (T : Tables) where
 no_number : {A : Type 0} {n : ℕ} → 0 < n → 0 ≡ n → A
 no_number z e = absurd (omega arith)
 
-same_said : (n : ℕ) → 0 < n → (r s : Check) → Says r n 0 → Says s n 0 → r ≡ s
+same_said : (n : ℕ) → 0 < n → (r s : Result ⊤ Refusal) → Says r n 0 → Says s n 0 → r ≡ s
 unfolding number_of place_of
-same_said n z Check.Track s h g = no_number z h.0
-same_said n z (Check.Refused x) Check.Track h g = no_number z g.0
-same_said n z (Check.Refused x) (Check.Refused y) h g = ap Check.Refused (refusal_same x y (h.0 ∙ sym g.0) (h.1 ∙ sym g.1))
+same_said n z (Ok tt) s h g = no_number z h.0
+same_said n z (Err x) (Ok tt) h g = no_number z g.0
+same_said n z (Err x) (Err y) h g = ap Err (refusal_same x y (h.0 ∙ sym g.0) (h.1 ∙ sym g.1))
 
 module _ (T : Tables) where
   -- the three ways, with what is said in each
   ways : {A : Type 0}
-      → (LongEnough (lengths T) → track_in T ≡ some (track_at T) → check_of T ≡ Check.Track → A)
+      → (LongEnough (lengths T) → track_in T ≡ some (track_at T) → check_of T ≡ (Ok tt) → A)
       → (LongEnough (lengths T) → track_in T ≡ none → check_of T ≡ refused_as_of 17 → A)
       → (¬ LongEnough (lengths T) → check_of T ≡ refused_as_of 1 → A) → A
   ways a b c =
@@ -102,16 +102,16 @@ module _ (T : Tables) where
       one l e n p (short_table h) = rw e (refl, refl)
       one l e n p (no_track h t) = absurd (l h)
 
-  pub promised : {r : Check} → r ≡ check_of T → Checked T r
+  pub promised : {r : Result ⊤ Refusal} → r ≡ check_of T → Checked T r
   promised e = subst (Checked T) (sym e) kept
 
   -- two answers that keep the promise are the same
-  pub determined : (r s : Check) → Checked T r → Checked T s → r ≡ s
+  pub determined : (r s : Result ⊤ Refusal) → Checked T r → Checked T s → r ≡ s
   determined r s a b = ways
       (λ l t e. a.taken.1 (l, (track_at T, t)) ∙ sym (b.taken.1 (l, (track_at T, t))))
       (λ l t e. let k = no_track l t in same_said 17 (omega arith) r s ((a.refused 17 0 (omega arith)).1 k) ((b.refused 17 0 (omega arith)).1 k))
       (λ l e. let k = short_table l in same_said 1 (omega arith) r s ((a.refused 1 0 (omega arith)).1 k) ((b.refused 1 0 (omega arith)).1 k))
 
   -- so the tests of the program are the answer of everything that keeps it
-  pub checked-is : {r : Check} → Checked T r → r ≡ check_of T
+  pub checked-is : {r : Result ⊤ Refusal} → Checked T r → r ≡ check_of T
   checked-is {r} c = determined r (check_of T) c kept

@@ -3,6 +3,7 @@
 --     layout-holds            those of the layout hold it
 --     layout-means            so they mean it
 --     layout-full, layout-checked    they are as long as they must be, and pass the check of a handed track
+use Rattle.std.specs.Prelude.{Ok}
 use Prim.Native.Nat.{ℕ, ◌+◌, ◌-◌, ◌*◌, ◌≤◌}
 use mathlib.Core.Path.{◌≡◌, refl}
 use mathlib.Core.Bool.{Bool, true, false}
@@ -16,7 +17,6 @@ use lib.Ieee.{Float}
 use borrow.Author.Tests.{le-leb}
 use Rattle.track.specs.declared.strings.Span.{Span}
 use Rattle.track.specs.Tables.{Tables, Lengths, lengths, LongEnough, zero_float, size_cell, rows_from}
-use Rattle.track.specs.declared.check.Check.{Check}
 use Rattle.track.specs.Steps.{check_of}
 use Rattle.track.specs.Meaning.{is_param, is_style, is_region, are_cues, all_rows, within_limits, bytes_mean, rows_mean, is_track, style_in}
 use Rattle.track.specs.Meaning.{region_in, cue_in, track_at, track_in}
@@ -258,7 +258,7 @@ module _ (n : Lengths) (k : Placed) (z y : List ℕ) (u v : ℕ) (m : LongEnough
         texts = omega (arith, m.texts, hy);
       }
 
-  pub layout-checked : Fits k z y u v → check_of (layout n k z y u v) ≡ Check.Track
+  pub layout-checked : Fits k z y u v → check_of (layout n k z y u v) ≡ Ok tt
   unfolding layout
   layout-checked f =
       let T = layout n k z y u v in

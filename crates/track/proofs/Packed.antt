@@ -6,11 +6,11 @@
 --     sign_is                              the mark of a sign
 --     marks_below, flagged-below           marks are 32 bits, a font's flag among them
 --     MarkedRead, marked-read              a font's marks: the test and the values
---     marked-none, marked-far, marked-not, marked-bits    the test, step by step
+--     marked-bits                          the test of a size's marks
 --     marked-size                          marks that pass it say a size
 use Prim.Native.Nat.{ℕ, zero, suc, ◌+◌, ◌-◌, ◌*◌, ◌/◌, ◌%◌, ◌≤◌, ◌<◌}
 use mathlib.Core.Path.{◌≡◌, refl, sym, ap, ◌∙◌}
-use mathlib.Core.Bool.{Bool, true, false, cond, not, ◌&&◌, and-false}
+use mathlib.Core.Bool.{Bool, true, false, cond, not, ◌&&◌}
 use native.Mathlib.Omega.{arith}
 use native.Mathlib.Nat.{zero-add}
 use lib.Dec.{T, eqb, leb, ltb}
@@ -19,7 +19,7 @@ use lib.Signed.{mag, le_z, non_neg}
 use mir.Syntax.{w64}
 use mir.Val.{SFits, to_z}
 use mir.Facts.{to_z_pos}
-use borrow.Author.Tests.{ltb-true, ltb-false, leb-false, not-true, lt-ltb, le-ltb, le-leb, lt-leb, eq-eqb, ne_eqb}
+use borrow.Author.Tests.{ltb-true, ltb-false, leb-false, not-true, lt-ltb, le-ltb, le-leb, eq-eqb, ne_eqb}
 use Rattle.scan.proofs.Every.{both, by-test}
 use Rattle.decimals.specs.declared.size.Size.{Size}
 use Rattle.decimals.specs.Size.{is_size, is_spelling, spelled_value, spelled_bits}
@@ -164,21 +164,9 @@ marked-read f true s h =
 marked-read true false s h = record { family = refl; fits = refl; is = refl }
 marked-read false false s h = record { family = refl; fits = refl; is = refl }
 
--- ---- the test, step by step
+-- ---- the test
 module _ (m bits : ℕ) where
-  pub marked-none : sign_mark m ≡ 0 → is_marked m bits ≡ true
-  unfolding is_marked
-  marked-none e = rw e
-
-  pub marked-far : 2 < sign_mark m → is_marked m bits ≡ false
-  unfolding is_marked
-  marked-far h = rw (ne_eqb (sign_mark m) 0 (λ e. omega arith), lt-leb (sign_mark m) 2 h)
-
   module _ (n : sign_mark m ≡ 0 → ⊥) where
-    pub marked-not : is_spelling (digits_mark m) (scale_mark m) ≡ false → is_marked m bits ≡ false
-    unfolding is_marked
-    marked-not e = rw (ne_eqb (sign_mark m) 0 n, e, and-false (leb (sign_mark m) 2))
-
     pub marked-bits : sign_mark m ≤ 2 → is_spelling (digits_mark m) (scale_mark m) ≡ true
         → is_marked m bits ≡ eqb bits (spelled_bits (eqb (sign_mark m) 2) (digits_mark m) (scale_mark m))
     unfolding is_marked

@@ -1,34 +1,24 @@
 -- Laws of strings as places and lengths in a table of bytes. Assumes nothing.
---     span-far, span-near    by whether it ends within the table
 --     span-within            a string does
 --     every-run, every-is    every byte is in a class where the run of the class has the length
-use Prim.Native.Nat.{ℕ, suc, ◌+◌, ◌-◌, ◌≤◌, ◌<◌}
+use Prim.Native.Nat.{ℕ, suc, ◌+◌, ◌-◌, ◌≤◌}
 use mathlib.Core.Path.{◌≡◌, refl, sym}
-use mathlib.Core.Bool.{Bool, true, false, ◌&&◌, true≢false}
+use mathlib.Core.Bool.{Bool, true, false, true≢false}
 use mathlib.Core.List.{List, [], ◌∷◌}
 use native.Mathlib.Omega.{arith}
 use native.Mathlib.Nat.{zero-add}
 use lib.ListN.{length, take, drop, length-drop}
 use lib.Seq.{length-take-le}
 use lib.Dec.{leb, eqb, eqb-zero-suc, eqb-suc-suc}
-use borrow.Author.Tests.{leb-true, le-leb, lt-leb}
+use borrow.Author.Tests.{leb-true}
 use Rattle.scan.specs.Part.{part, string_at}
 use Rattle.scan.specs.Bytes.{run_length_of}
 use Rattle.scan.specs.Every.{every}
 use Rattle.scan.specs.Posts.{Ends}
 use Rattle.scan.proofs.Runs.{run_length}
-use Rattle.utf8.specs.Utf8.{boundary}
 use Rattle.track.specs.Meaning.{is_span}
 
 module _ (z : List ℕ) (p n : ℕ) where
-  pub span-far : length z < p + n → is_span z p n ≡ false
-  unfolding is_span
-  span-far h = rw (lt-leb (p + n) (length z) h)
-
-  pub span-near : p + n ≤ length z → is_span z p n ≡ boundary z p && boundary z (p + n)
-  unfolding is_span
-  span-near h = rw (le-leb (p + n) (length z) h)
-
   pub span-within : is_span z p n ≡ true → p + n ≤ length z
   unfolding is_span
   span-within e = by (leb (p + n) (length z)) refl

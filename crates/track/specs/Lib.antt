@@ -4,6 +4,7 @@ pub mod Layout
 pub mod Shown
 pub mod Meaning
 pub mod Check
+pub mod Handed
 pub mod Steps
 pub mod Placing
 pub mod Plain

@@ -1,12 +1,12 @@
 -- The tests of the check of a handed track, as the program makes them. This file need not be believed: `Check` says what is promised, and
 -- `proofs/Exactly` shows that these tests give it.
-use Rattle.std.specs.Prelude.{ℕ, Bool, cond, ◌&&◌, length, leb}
-use Rattle.track.specs.declared.check.Check.{Check}
+use Rattle.std.specs.Prelude.{Result, Ok, Err, ⊤, ℕ, Bool, cond, ◌&&◌, length, leb}
 use Rattle.track.specs.Tables.{Tables}
 use Rattle.track.specs.Meaning.{is_track}
+use Rattle.tree.specs.declared.answers.Refusal.{Refusal}
 
-abbrev pub refused_as_of : ℕ → Check
-refused_as_of n = Check.Refused (record { number = n; place = 0 })
+abbrev pub refused_as_of : ℕ → Result ⊤ Refusal
+refused_as_of n = Err (record { number = n; place = 0 })
 
 -- "1. A lent table is shorter than its fixed length."
 unfoldable pub rows_full : (head params styles regions cues segments extras : ℕ) → Bool
@@ -23,6 +23,6 @@ is_full T =
     && rest_full (length T.times) (length T.sizes) (length T.strings) (length T.texts)
 
 -- 17 comes after 1
-unfoldable pub check_of : Tables → Check
+unfoldable pub check_of : Tables → Result ⊤ Refusal
 unfolding is_full is_track
-check_of T = cond (is_full T) (cond (is_track T) Check.Track (refused_as_of 17)) (refused_as_of 1)
+check_of T = cond (is_full T) (cond (is_track T) (Ok tt) (refused_as_of 17)) (refused_as_of 1)

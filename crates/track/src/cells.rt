@@ -29,33 +29,27 @@ pub fn is_color(cells: &[u32], at: usize) -> bool
 }
 
 // Are three cells bytes?
+#[tactic(auto, unfolding(crate::specs::Meaning::are_three))]
 pub fn are_three(cells: &[u32], at: usize) -> bool
     requires { at + 3 ≤ length cells.now }
     ensures { result ≡ are_three cells.now at }
 {
-    if !is_byte(cells[at]) {
-        return false;
-    }
-    if !is_byte(cells[at + 1]) {
-        return false;
-    }
-    is_byte(cells[at + 2])
+    is_byte(cells[at]) && is_byte(cells[at + 1]) && is_byte(cells[at + 2])
 }
 
 // A sign (0: there is no size), digits, how many of them stand behind the point, and the f32.
+#[tactic(auto, unfolding(crate::specs::Meaning::is_size_at))]
 pub fn is_size_at(sign: u32, digits: u32, scale: u32, value: f32) -> bool
     ensures { result ≡ is_size_at sign digits scale value }
 {
-    if sign == 0 {
-        return true;
+    match sign {
+        0 => true,
+        1 | 2 => decimals::is_size(Size {
+            value,
+            negative: sign == 2,
+            digits,
+            scale,
+        }),
+        _ => false,
     }
-    if 2 < sign {
-        return false;
-    }
-    decimals::is_size(Size {
-        value,
-        negative: sign == 2,
-        digits,
-        scale,
-    })
 }

@@ -1,47 +1,30 @@
 // The check of a handed track: number 17.
 ghost use Rattle.std.specs.Prelude.{◌≡◌, ◌+◌, ◌*◌, ◌≤◌, length, get_or};
-ghost use Rattle.track.specs.Tables.{tables};
+ghost use Rattle.track.specs.Handed.{lists};
 ghost use Rattle.track.specs.Meaning.{within_limits, is_utf8, bytes_mean, rows_mean};
-ghost use Rattle.track.specs.Steps.{refused_as_of, rows_full, rest_full};
+ghost use Rattle.track.specs.Steps.{refused_as_of, is_full};
 ghost use Rattle.track.specs.Check.{Checked};
 
+use crate::handed::Tables;
 use crate::limits::{
     CUE_CELLS, CUES, EXTRA_CELLS, EXTRAS, HEAD_CELLS, PARAM_CELLS, PARAMS, REGION_CELLS, REGIONS,
     SEGMENT_CELLS, SEGMENTS, STYLE_CELLS, STYLES,
 };
 use tree::{BYTES, Refusal};
 
-// What is said of a handed track: it is one; or a number of document 01's list, 1 or 17, with place 0.
-#[derive(Clone, Copy)]
-pub enum Check {
-    Track,
-    Refused(Refusal),
-}
-
 // The counts of the head.
+#[tactic(auto, unfolding(crate::specs::Meaning::within_limits))]
 fn within_limits(head: &[u32]) -> bool
     requires { 10 ≤ length head.now }
     ensures { result ≡ within_limits head.now }
 {
-    if PARAMS < scan::get(head, 0) {
-        return false;
-    }
-    if STYLES < scan::get(head, 1) {
-        return false;
-    }
-    if REGIONS < scan::get(head, 2) {
-        return false;
-    }
-    if CUES < scan::get(head, 3) {
-        return false;
-    }
-    if SEGMENTS < scan::get(head, 4) {
-        return false;
-    }
-    if BYTES < scan::get(head, 8) {
-        return false;
-    }
-    scan::get(head, 9) <= BYTES
+    scan::get(head, 0) <= PARAMS
+        && scan::get(head, 1) <= STYLES
+        && scan::get(head, 2) <= REGIONS
+        && scan::get(head, 3) <= CUES
+        && scan::get(head, 4) <= SEGMENTS
+        && scan::get(head, 8) <= BYTES
+        && scan::get(head, 9) <= BYTES
 }
 
 // Are the bytes UTF-8?
@@ -51,163 +34,75 @@ fn is_utf8(bytes: &[u8]) -> bool
     utf8::utf8_end(bytes) == bytes.len()
 }
 
-fn refused(number: u32) -> Check
+fn refused(number: u32) -> Result<(), Refusal>
     ensures { result ≡ refused_as_of number }
 {
-    Check::Refused(Refusal { number, place: 0 })
+    Err(Refusal { number, place: 0 })
 }
 
-// Are the tables of rows as long as they must be? Each argument is a length.
-fn rows_full(
-    head: usize,
-    params: usize,
-    styles: usize,
-    regions: usize,
-    cues: usize,
-    segments: usize,
-    extras: usize,
-) -> bool
-    ensures { result ≡ rows_full head params styles regions cues segments extras }
+// Are the tables as long as they must be?
+#[tactic(auto, unfolding(crate::specs::Steps::is_full, crate::specs::Steps::rows_full, crate::specs::Steps::rest_full))]
+fn is_full(t: &Tables<'_>) -> bool
+    ensures { result ≡ is_full (lists t.now) }
 {
-    if head < HEAD_CELLS {
-        return false;
-    }
-    if params < PARAMS * PARAM_CELLS {
-        return false;
-    }
-    if styles < STYLES * STYLE_CELLS {
-        return false;
-    }
-    if regions < REGIONS * REGION_CELLS {
-        return false;
-    }
-    if cues < CUES * CUE_CELLS {
-        return false;
-    }
-    if segments < SEGMENTS * SEGMENT_CELLS {
-        return false;
-    }
-    EXTRAS * EXTRA_CELLS <= extras
+    HEAD_CELLS <= t.head.len()
+        && PARAMS * PARAM_CELLS <= t.params.len()
+        && STYLES * STYLE_CELLS <= t.styles.len()
+        && REGIONS * REGION_CELLS <= t.regions.len()
+        && CUES * CUE_CELLS <= t.cues.len()
+        && SEGMENTS * SEGMENT_CELLS <= t.segments.len()
+        && EXTRAS * EXTRA_CELLS <= t.extras.len()
+        && CUES * 2 <= t.times.len()
+        && STYLES <= t.sizes.len()
+        && BYTES <= t.strings.len()
+        && BYTES <= t.texts.len()
 }
 
-// The same of the other tables.
-fn rest_full(times: usize, sizes: usize, strings: usize, texts: usize) -> bool
-    ensures { result ≡ rest_full times sizes strings texts }
+// The used bytes are UTF-8, and xml:lang is among them. In what follows the strings and texts are the used ones.
+#[tactic(auto, unfolding(crate::specs::Meaning::bytes_mean))]
+fn bytes_mean(t: &Tables<'_>) -> bool
+    requires { 10 ≤ length t.now.head.now }
+    ensures { result ≡ bytes_mean t.now.head.now t.now.strings.now t.now.texts.now }
 {
-    if times < CUES * 2 {
-        return false;
-    }
-    if sizes < STYLES {
-        return false;
-    }
-    if strings < BYTES {
-        return false;
-    }
-    BYTES <= texts
-}
-
-// The used bytes are UTF-8, and xml:lang is among them.
-fn bytes_mean(head: &[u32], strings: &[u8], texts: &[u8]) -> bool
-    requires { 10 ≤ length head.now }
-    ensures { result ≡ bytes_mean head.now strings.now texts.now }
-{
-    if !is_utf8(strings) {
-        return false;
-    }
-    if !is_utf8(texts) {
-        return false;
-    }
-    let place = scan::get(head, 6);
-    crate::strings::is_optional(strings, scan::get(head, 5), place, scan::get(head, 7))
+    let lang = scan::get(t.head, 6);
+    is_utf8(t.strings)
+        && is_utf8(t.texts)
+        && crate::strings::is_optional(t.strings, scan::get(t.head, 5), lang, scan::get(t.head, 7))
 }
 
 // The rows of parameters, styles and regions mean such.
-fn rows_mean(
-    head: &[u32],
-    params: &[u32],
-    styles: &[u32],
-    regions: &[u32],
-    sizes: &[f32],
-    extras: &[u32],
-    strings: &[u8],
-) -> bool
-    requires { (10 ≤ length head.now) × (get_or head.now 0 0 * 4 ≤ length params.now) × (get_or head.now 1 0 * 27 ≤ length styles.now)
-        × (get_or head.now 2 0 * 4 ≤ length regions.now) × (get_or head.now 1 0 ≤ length sizes.now) × (24576 ≤ length extras.now) }
-    ensures { result ≡ rows_mean head.now params.now styles.now regions.now sizes.now
-        extras.now strings.now }
+#[tactic(auto, unfolding(crate::specs::Meaning::rows_mean))]
+fn rows_mean(t: &Tables<'_>) -> bool
+    requires { (10 ≤ length t.now.head.now) × (get_or t.now.head.now 0 0 * 4 ≤ length t.now.params.now)
+        × (get_or t.now.head.now 1 0 * 27 ≤ length t.now.styles.now) × (get_or t.now.head.now 2 0 * 4 ≤ length t.now.regions.now)
+        × (get_or t.now.head.now 1 0 ≤ length t.now.sizes.now) × (24576 ≤ length t.now.extras.now) }
+    ensures { result ≡ rows_mean t.now.head.now t.now.params.now t.now.styles.now t.now.regions.now t.now.sizes.now
+        t.now.extras.now t.now.strings.now }
 {
-    if !crate::params::are_params(params, strings, scan::get(head, 0)) {
-        return false;
-    }
-    if !crate::styles::are_styles(styles, sizes, extras, strings, scan::get(head, 1)) {
-        return false;
-    }
-    crate::styles::are_regions(regions, extras, strings, scan::get(head, 2))
+    crate::params::are_params(t, scan::get(t.head, 0))
+        && crate::styles::are_styles(t, scan::get(t.head, 1))
+        && crate::styles::are_regions(t, scan::get(t.head, 2))
 }
 
 // Is what the tables hold a track? In time that is linear in what they use.
-pub fn check_track(
-    head: &[u32],
-    params: &[u32],
-    styles: &[u32],
-    regions: &[u32],
-    cues: &[u32],
-    times: &[i64],
-    segments: &[u32],
-    sizes: &[f32],
-    extras: &[u32],
-    strings: &[u8],
-    texts: &[u8],
-) -> Check
-    ensures { Checked (tables head.now params.now styles.now regions.now cues.now
-        times.now segments.now sizes.now extras.now strings.now
-        texts.now) result }
+pub fn check_track(t: &Tables<'_>) -> Result<(), Refusal>
+    ensures { Checked (lists t.now) result }
 {
-    if !rows_full(
-        head.len(),
-        params.len(),
-        styles.len(),
-        regions.len(),
-        cues.len(),
-        segments.len(),
-        extras.len(),
-    ) {
+    if !is_full(t) {
         return refused(1);
     }
-    if !rest_full(times.len(), sizes.len(), strings.len(), texts.len()) {
-        return refused(1);
-    }
-    if !within_limits(head) {
+    if !within_limits(t.head) {
         return refused(17);
     }
-    let used = scan::get(head, 8);
-    let shown = scan::get(head, 9);
-    if !bytes_mean(head, &strings[..used], &texts[..shown]) {
+    let used = Tables {
+        strings: &t.strings[..scan::get(t.head, 8)],
+        texts: &t.texts[..scan::get(t.head, 9)],
+        ..*t
+    };
+    let n = scan::get(t.head, 3);
+    let most = scan::get(t.head, 4);
+    if !bytes_mean(&used) || !rows_mean(&used) || !crate::cues::are_cues(&used, most, n) {
         return refused(17);
     }
-    if !rows_mean(
-        head,
-        params,
-        styles,
-        regions,
-        sizes,
-        extras,
-        &strings[..used],
-    ) {
-        return refused(17);
-    }
-    let n = scan::get(head, 3);
-    let most = scan::get(head, 4);
-    if !crate::cues::are_cues(
-        cues,
-        extras,
-        segments,
-        &strings[..used],
-        &texts[..shown],
-        most,
-        n,
-    ) {
-        return refused(17);
-    }
-    Check::Track
+    Ok(())
 }

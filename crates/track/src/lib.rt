@@ -5,6 +5,7 @@ mod cells;
 mod check;
 mod cues;
 mod extras;
+mod handed;
 mod limits;
 mod marks;
 mod params;
@@ -15,7 +16,8 @@ mod styles;
 mod values;
 
 pub use alignment::parse_text_align;
-pub use check::{Check, check_track};
+pub use check::check_track;
+pub use handed::Tables;
 pub use limits::{
     BOLD, BREAK, COLOR, CUE_CELLS, CUES, EXTRA_CELLS, EXTRAS, FONT, HEAD_CELLS, ITALIC, NESTED,
     PARAM_CELLS, PARAMS, REGION_CELLS, REGIONS, SEGMENT_CELLS, SEGMENTS, STRIKE, STYLE_CELLS,

@@ -49,22 +49,17 @@ pub fn size_bits(has: bool, s: Size) -> u32
 }
 
 // Are these the marks of a size, or of none, and the bits of its f32?
+#[tactic(auto, unfolding(crate::specs::Meaning::is_marked))]
 pub fn is_marked(marks: u32, bits: u32) -> bool
     ensures { result ≡ is_marked marks bits }
 {
     let sign = marks / 2 % 4;
-    if sign == 0 {
-        return true;
-    }
-    if 2 < sign {
-        return false;
-    }
     let digits = marks / 128;
     let scale = marks / 8 % 16;
-    if !decimals::is_spelling(digits, scale) {
-        return false;
-    }
-    bits == decimals::spelled_bits(sign == 2, digits, scale)
+    sign == 0
+        || sign <= 2
+            && decimals::is_spelling(digits, scale)
+            && bits == decimals::spelled_bits(sign == 2, digits, scale)
 }
 
 // The size that the marks say.

@@ -1,12 +1,13 @@
 // Segments: rows in document order, each with the number of rows of its subtree.
-ghost use Rattle.std.specs.Prelude.{◌≡◌, true, List, ℕ, ◌+◌, ◌*◌, ◌≤◌, length, get_or};
+ghost use Rattle.std.specs.Prelude.{◌≡◌, true, ◌+◌, ◌*◌, ◌≤◌, length, get_or};
 ghost use Rattle.track.specs.Tables.{font_at, segment_at};
 ghost use Rattle.track.specs.Meaning.{are_three, is_font, is_segment, are_segments};
 
+use crate::handed::Tables;
 use crate::limits::{
     BOLD, BREAK, COLOR, FONT, ITALIC, SEGMENT_CELLS, STRIKE, TEXT, TIMESTAMP, UNDERLINE,
 };
-use crate::strings::Span;
+use crate::strings::{Span, is_optional, is_span};
 use decimals::Size;
 
 #[derive(Clone, Copy)]
@@ -40,55 +41,43 @@ pub enum Segment {
 }
 
 // Is the font in row i one?
-fn is_font(segments: &[u32], strings: &[u8], i: usize) -> bool
-    requires { i * 6 + 6 ≤ length segments.now }
-    ensures { (y : List ℕ) → result ≡ is_font segments.now strings.now y i }
+#[tactic(auto, unfolding(crate::specs::Meaning::is_font, crate::specs::Tables::cell))]
+fn is_font(t: &Tables<'_>, i: usize) -> bool
+    requires { i * 6 + 6 ≤ length t.now.segments.now }
+    ensures { result ≡ is_font t.now.segments.now t.now.strings.now t.now.texts.now i }
 {
     let at = i * SEGMENT_CELLS;
-    let marks = segments[at + 4];
-    let place = scan::get(segments, at + 2);
-    if !crate::strings::is_optional(
-        strings,
-        (marks % 2) as usize,
-        place,
-        scan::get(segments, at + 3),
-    ) {
-        return false;
-    }
-    crate::marks::is_marked(marks, segments[at + 5])
+    let marks = t.segments[at + 4];
+    let family = (marks % 2) as usize;
+    let place = scan::get(t.segments, at + 2);
+    is_optional(t.strings, family, place, scan::get(t.segments, at + 3))
+        && crate::marks::is_marked(marks, t.segments[at + 5])
 }
 
 // Is row i a segment, whatever stands inside it?
-fn is_segment(segments: &[u32], strings: &[u8], texts: &[u8], i: usize) -> bool
-    requires { i * 6 + 6 ≤ length segments.now }
-    ensures { result ≡ is_segment segments.now strings.now texts.now i }
+fn is_segment(t: &Tables<'_>, i: usize) -> bool
+    requires { i * 6 + 6 ≤ length t.now.segments.now }
+    ensures { result ≡ is_segment t.now.segments.now t.now.strings.now t.now.texts.now i }
 {
     let at = i * SEGMENT_CELLS;
-    match segments[at] {
+    match t.segments[at] {
         TEXT => {
-            let place = scan::get(segments, at + 2);
-            let len = scan::get(segments, at + 3);
-            segments[at + 1] == 1 && crate::strings::is_span(texts, place, len)
+            let place = scan::get(t.segments, at + 2);
+            let len = scan::get(t.segments, at + 3);
+            t.segments[at + 1] == 1 && is_span(t.texts, place, len)
         }
-        BREAK | TIMESTAMP => segments[at + 1] == 1,
+        BREAK | TIMESTAMP => t.segments[at + 1] == 1,
         BOLD..=STRIKE => true,
-        COLOR => crate::cells::are_three(segments, at + 2),
-        FONT => is_font(segments, strings, i),
+        COLOR => crate::cells::are_three(t.segments, at + 2),
+        FONT => is_font(t, i),
         _ => false,
     }
 }
 
 // Are the n rows from row `from` on segments, nested at most `room`?
-pub fn are_segments(
-    segments: &[u32],
-    strings: &[u8],
-    texts: &[u8],
-    from: usize,
-    n: usize,
-    room: usize,
-) -> bool
-    requires { (from + n) * 6 ≤ length segments.now }
-    ensures { result ≡ are_segments segments.now strings.now texts.now room n from }
+pub fn are_segments(t: &Tables<'_>, from: usize, n: usize, room: usize) -> bool
+    requires { (from + n) * 6 ≤ length t.now.segments.now }
+    ensures { result ≡ are_segments t.now.segments.now t.now.strings.now t.now.texts.now room n from }
 {
     if room == 0 {
         return n == 0;
@@ -96,17 +85,17 @@ pub fn are_segments(
     let end = from + n;
     let mut i = from;
     while i < end {
-        if !is_segment(segments, strings, texts, i) {
+        if !is_segment(t, i) {
             return false;
         }
-        let rows = scan::get(segments, i * SEGMENT_CELLS + 1);
+        let rows = scan::get(t.segments, i * SEGMENT_CELLS + 1);
         if rows == 0 {
             return false;
         }
         if end - i < rows {
             return false;
         }
-        if 1 < rows && !are_segments(segments, strings, texts, i + 1, rows - 1, room - 1) {
+        if 1 < rows && !are_segments(t, i + 1, rows - 1, room - 1) {
             return false;
         }
         i += rows;

@@ -9,19 +9,14 @@ pub struct Span {
 }
 
 // Does a string stand there: within the used bytes, from the start of a character to that of one?
+#[tactic(auto, unfolding(crate::specs::Meaning::is_span))]
 pub fn is_span(bytes: &[u8], place: usize, len: usize) -> bool
     ensures { result ≡ is_span bytes.now place len }
 {
-    if bytes.len() < place {
-        return false;
-    }
-    if bytes.len() - place < len {
-        return false;
-    }
-    if !utf8::is_boundary(bytes, place) {
-        return false;
-    }
-    utf8::is_boundary(bytes, place + len)
+    place <= bytes.len()
+        && len <= bytes.len() - place
+        && utf8::is_boundary(bytes, place)
+        && utf8::is_boundary(bytes, place + len)
 }
 
 // The same of a string that may be absent.

@@ -4,20 +4,38 @@
 --     end_start, end_on        the search for `-->` goes on
 --     end_got, end_passed      where the comment ends
 --     comment-still            no comment opens here
-use Prim.Native.Nat.{ℕ, ◌+◌, ◌≤◌, ◌<◌}
+--     rest_length, rest_at     the rest of a text, from a place on
+use Prim.Native.Nat.{ℕ, ◌+◌, ◌-◌, ◌≤◌, ◌<◌}
 use mathlib.Core.Path.{◌≡◌, refl, sym, ◌∙◌}
 use mathlib.Core.Bool.{Bool, true, false, false≢true}
 use mathlib.Core.List.{List}
 use native.Mathlib.Omega.{arith}
-use lib.Dec.{ltb}
-use lib.ListN.{length, get_or}
-use borrow.Author.Tests.{ltb-true, ltb-false}
+use lib.Dec.{eqb, ltb}
+use lib.ListN.{length, get_or, take, drop, length-drop}
+use Rattle.std.proofs.lemmas.List.{take_rest, get_or-drop}
+use native.Mathlib.Nat.{add-zero}
+use borrow.Author.Tests.{ltb-true, ltb-false, eqb-true, eqb-false}
 use Rattle.scan.specs.Marks.{starts_at, seek, past}
 use Rattle.scan.specs.Posts.{Passed}
+use Rattle.scan.proofs.Every.{by-test}
 use Rattle.scan.proofs.Searches.{mark_on, mark_off, mark_out, seek-on, found_here, passed_got}
 use Rattle.tree.specs.Read.{comment_mark, comment_end, past_comments}
 use Rattle.tree.specs.Posts.{Opened, Opens}
 use Rattle.tree.proofs.NodeLaws.{comment-here, comment-out}
+
+-- ---- the rest of a text, from p on
+module _ (s : List ℕ) (p : ℕ) where
+  abbrev rest : List ℕ
+  rest = take (length s - p) (drop p s)
+
+  pub rest_length : length rest ≡ length s - p
+  rest_length = rw take_rest (length-drop p s)
+
+  pub rest_at : (j : ℕ) → get_or rest j 0 ≡ get_or s (p + j) 0
+  rest_at j = rw take_rest (get_or-drop p s j 0)
+
+  pub rest_first : get_or rest 0 0 ≡ get_or s p 0
+  rest_first = rw add-zero at (rest_at 0)
 
 -- ---- the two marks
 module _ (s : List ℕ) (p : ℕ) where
@@ -37,11 +55,15 @@ module _ (s : List ℕ) (p : ℕ) where
         opened = λ t. record { within = h; first = a; second = b };
       }
 
-  pub closes_here : p + 3 ≤ length s → get_or s p 0 ≡ 45 → get_or s (p + 1) 0 ≡ 45 → get_or s (p + 2) 0 ≡ 62 → starts_at s p comment_end ≡ true
-  closes_here h a b c =
-      let z : p + 1 + 1 ≡ p + 2 = omega arith in
-      mark_on s comment_end p 0 (omega arith) (omega arith) a ∙ mark_on s comment_end (p + 1) 1 (omega arith) (omega arith) b
-      ∙ mark_on s comment_end (p + 1 + 1) 2 (omega arith) (omega arith) (rw z c) ∙ mark_out s comment_end (p + 1 + 1 + 1) 3 (omega arith)
+  -- where its last two bytes stand the first decides
+  pub closes_by_first : p + 3 ≤ length s → get_or s (p + 1) 0 ≡ 45 → get_or s (p + 2) 0 ≡ 62 → eqb (get_or s p 0) 45 ≡ starts_at s p comment_end
+  closes_by_first h b c =
+      by-test (eqb (get_or s p 0) 45)
+      (λ t. t ∙ sym (mark_on s comment_end p 0 (omega arith) (omega arith) (eqb-true (get_or s p 0) 45 t)
+      ∙ mark_on s comment_end (p + 1) 1 (omega arith) (omega arith) b
+      ∙ mark_on s comment_end (p + 1 + 1) 2 (omega arith) (omega arith) (let z : p + 1 + 1 ≡ p + 2 = omega arith in rw z c)
+      ∙ mark_out s comment_end (p + 1 + 1 + 1) 3 (omega arith)))
+      (λ t. t ∙ sym (mark_off s comment_end p 0 (omega arith) (omega arith) (eqb-false (get_or s p 0) 45 t)))
 
   -- `-->` does not stand at the first two bytes of a comment
   pub end_start : Opened s p → seek comment_end s p ≡ seek comment_end s (p + 2)

@@ -1,4 +1,5 @@
 -- A loop over nodes: what holds at its head, and a lemma for each way through its body. Assumes nothing.
+use Rattle.std.specs.Prelude.{Ok, Err}
 use Prim.Native.Nat.{ℕ, ◌+◌, ◌*◌, ◌≤◌, ◌<◌}
 use mathlib.Core.Path.{◌≡◌, refl, ap, ◌∙◌}
 use mathlib.Core.Bool.{Bool, true, false}
@@ -16,7 +17,6 @@ use Rattle.tree.specs.Read.{Out, got, bad, close_mark, Reader, node_at_of, State
 use Rattle.scan.specs.Posts.{Ends}
 use Rattle.tree.specs.Posts.{Ready, Laid, Idle, ContentPost, closed_at}
 use Rattle.tree.specs.declared.answers.Cursor.{Cursor}
-use Rattle.tree.specs.declared.answers.Content.TheVariants as content
 use Rattle.scan.proofs.Runs.{run-low}
 use Rattle.scan.proofs.Loop.{loop-out, loop-halt, loop-more}
 use Rattle.tree.proofs.Forests.{size-join, attrs-join, rows_on, attrs-on}
@@ -46,11 +46,11 @@ module _ (s : List ℕ) (el : Reader) (p : ℕ) (x : State) where
 
 -- ---- what `parse_close` answers
 module _ (s : List ℕ) (p k a g : ℕ) (w : Ends (other 62) s p g) where
-  pub close_yes : g < length s → closed_at s p k a ≡ content.Done (record { pos = g + 1; nodes = k; attrs = a })
+  pub close_yes : g < length s → closed_at s p k a ≡ Ok (record { pos = g + 1; nodes = k; attrs = a })
   unfolding closed_at
   close_yes h = rw (← w.is, lt-ltb g (length s) h)
 
-  pub close_no : length s ≤ g → closed_at s p k a ≡ content.Refused (record { number = 11; place = p })
+  pub close_no : length s ≤ g → closed_at s p k a ≡ Err (record { number = 11; place = p })
   unfolding closed_at
   close_no h = rw (← w.is, le-ltb g (length s) h)
 

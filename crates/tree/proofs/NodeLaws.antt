@@ -1,4 +1,5 @@
 -- Nodes and elements: a law for each way, and what is laid. Assumes nothing.
+use Rattle.std.specs.Prelude.{Result, Ok, Err}
 use Prim.Native.Nat.{ℕ, zero, suc, ◌+◌, ◌-◌, ◌*◌, ◌≤◌, ◌<◌}
 use mathlib.Core.Path.{◌≡◌, refl, sym, ◌∙◌}
 use mathlib.Core.Bool.{Bool, true, false, true≢false}
@@ -16,10 +17,10 @@ use Rattle.tree.specs.Read.{Out, nothing, bad, cdata_mark, cdata_end, close_mark
 use Rattle.tree.specs.Read.{Reader, comment_turn, past_comments, text_at, section_at, node_here, node_at_of, enclose, tagged, element_by, element_of}
 use Rattle.tree.specs.Read.{content_of}
 use Rattle.scan.specs.Posts.{Ends, Found, Passed}
+use Rattle.tree.specs.declared.answers.Refusal.{Refusal}
 use Rattle.tree.specs.Posts.{Skipped, Laid, StepPost}
 use Rattle.tree.specs.declared.answers.Cursor.{Cursor}
 use Rattle.tree.specs.declared.answers.Step.{Step}
-use Rattle.tree.specs.declared.answers.Step.TheVariants as step
 use Rattle.tree.specs.declared.answers.Spot.{Spot}
 use Rattle.scan.proofs.Loop.{loop-out, loop-halt, loop-more}
 use Rattle.scan.proofs.Searches.{passed_none}
@@ -211,8 +212,8 @@ built_elem o inner s t t' t'' u u' u'' p n k a q b l c e g f h x y =
     }
 
 -- what is ensured from a later place is ensured from an earlier one
-pub lower : (o : Out) (s t t' u u' : List ℕ) (p q k a : ℕ) (r : Step) → p ≤ q → StepPost o s t t' u u' q k a r → StepPost o s t t' u u' p k a r
-lower o s t t' u u' p q k a (step.Node c) h l = record {
+pub lower : (o : Out) (s t t' u u' : List ℕ) (p q k a : ℕ) (r : Result Step Refusal) → p ≤ q → StepPost o s t t' u u' q k a r → StepPost o s t t' u u' p k a r
+lower o s t t' u u' p q k a (Ok (Step.Node c)) h l = record {
   forest = l.forest;
   is = l.is;
   after = omega arith;
@@ -224,5 +225,5 @@ lower o s t t' u u' p q k a (step.Node c) h l = record {
   laid = l.laid;
   listed = l.listed;
 }
-lower o s t t' u u' p q k a (step.Nothing z) h i = record { is = i.is; after = omega arith; within = i.within; same = i.same; alike = i.alike }
-lower o s t t' u u' p q k a (step.Refused f) h e = e
+lower o s t t' u u' p q k a (Ok (Step.Nothing z)) h i = record { is = i.is; after = omega arith; within = i.within; same = i.same; alike = i.alike }
+lower o s t t' u u' p q k a (Err f) h e = e

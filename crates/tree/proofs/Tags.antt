@@ -1,4 +1,5 @@
 -- The rest of a start tag: a law for each way, what holds at the loop's head, and how it goes on. Assumes nothing.
+use Rattle.std.specs.Prelude.{Result, Ok, Err}
 use Prim.Native.Nat.{ℕ, ◌+◌, ◌*◌, ◌≤◌, ◌<◌}
 use mathlib.Core.Path.{◌≡◌, refl, sym, ap, ◌∙◌}
 use mathlib.Core.Bool.{Bool, true, false, true≢false}
@@ -13,10 +14,10 @@ use Rattle.scan.specs.Marks.{starts_at}
 use Rattle.tree.specs.Trees.{Attr, attr_row, attr_rows}
 use Rattle.tree.specs.Read.{gt, skip, attr, flaw, attr_at, TagOut, opened, shut, torn, TagState, slash, attr_next, tag_turn, tag_from, start_at}
 use Rattle.scan.specs.Posts.{Ends}
+use Rattle.tree.specs.declared.answers.Refusal.{Refusal}
 use Rattle.tree.specs.Posts.{PairGot, TagGot, TagPost, shut_at}
 use Rattle.tree.specs.declared.answers.Spot.{Spot}
 use Rattle.tree.specs.declared.answers.Tag.{Tag}
-use Rattle.tree.specs.declared.answers.Tag.TheVariants as tag
 use Rattle.scan.proofs.Runs.{run-low}
 use Rattle.scan.proofs.Loop.{loop-out, loop-halt, loop-more}
 use Rattle.scan.proofs.Stores.{sets_on}
@@ -38,11 +39,11 @@ attr_rows-one x = refl
 
 -- ---- what `parse_shut` answers
 module _ (s : List ℕ) (p n q : ℕ) (w : Ends blank s (p + 1) q) where
-  pub shut-yes : starts_at s q gt ≡ true → shut_at s p n ≡ tag.Shut (record { pos = q + 1; attrs = n })
+  pub shut-yes : starts_at s q gt ≡ true → shut_at s p n ≡ Ok (Tag.Shut (record { pos = q + 1; attrs = n }))
   unfolding shut_at
   shut-yes e = rw (← w.is, e)
 
-  pub shut-no : starts_at s q gt ≡ false → shut_at s p n ≡ tag.Refused (record { number = 8; place = p })
+  pub shut-no : starts_at s q gt ≡ false → shut_at s p n ≡ Err (record { number = 8; place = p })
   unfolding shut_at
   shut-no e = rw (← w.is, e)
 
@@ -187,7 +188,7 @@ lower-got mk o s u u' p q a c h l = record {
   laid = l.laid;
 }
 
-pub lower-tag : (o : TagOut) (s u u' : List ℕ) (p q a : ℕ) (r : Tag) → p ≤ q → TagPost o s u u' q a r → TagPost o s u u' p a r
-lower-tag o s u u' p q a (tag.Open c) h l = lower-got opened o s u u' p q a c h l
-lower-tag o s u u' p q a (tag.Shut c) h l = lower-got shut o s u u' p q a c h l
-lower-tag o s u u' p q a (tag.Refused f) h e = e
+pub lower-tag : (o : TagOut) (s u u' : List ℕ) (p q a : ℕ) (r : Result Tag Refusal) → p ≤ q → TagPost o s u u' q a r → TagPost o s u u' p a r
+lower-tag o s u u' p q a (Ok (Tag.Open c)) h l = lower-got opened o s u u' p q a c h l
+lower-tag o s u u' p q a (Ok (Tag.Shut c)) h l = lower-got shut o s u u' p q a c h l
+lower-tag o s u u' p q a (Err f) h e = e

@@ -1,4 +1,5 @@
 -- The whole text: which case of `meaning` holds, and the answer and tables of each. Assumes nothing.
+use Rattle.std.specs.Prelude.{Result, Err}
 use Prim.Native.Nat.{ℕ, zero, suc, ◌+◌, ◌-◌, ◌*◌, ◌≤◌, ◌<◌}
 use mathlib.Core.Path.{◌≡◌, refl, ap, ◌∙◌}
 use mathlib.Core.List.{List, ◌++◌}
@@ -11,12 +12,12 @@ use Rattle.utf8.specs.Utf8.{utf8_end}
 use Rattle.tree.specs.Trees.{Forest, size, attrs_of, rows, attr_rows}
 use Rattle.tree.specs.Read.{Out, bad, top_of, prolog_end, meaning, answer_of, nodes_of, attr_cells}
 use Rattle.tree.specs.Posts.{Laid, Fits, TreeRead}
-use Rattle.tree.specs.Answers.{number_of, place_of}
-use Rattle.tree.specs.declared.answers.Answer.{Answer}
+use Rattle.tree.specs.Answers.{tree_with, number_of, place_of}
 use Rattle.tree.specs.declared.answers.Cursor.{Cursor}
-use Rattle.tree.specs.declared.answers.Answer.TheVariants.{Tree, Refused}
 use Rattle.tree.proofs.Forests.{length_rows}
 use Rattle.tree.proofs.Tags.{length_attr_rows}
+use Rattle.tree.specs.declared.answers.Refusal.{Refusal}
+use Rattle.tree.specs.declared.answers.TreeSize.{TreeSize}
 
 module _ (s : List ℕ) (n m : ℕ) where
   pub no_nodes : n < 49152 → meaning s n m ≡ bad 1 0
@@ -54,13 +55,13 @@ laid-blank t t' r cells n z e l h =
 
 -- the three promises at once: of a refusal, and of a tree
 pub refused : (o : Out) (x q n m : ℕ) (t u : List ℕ) → o ≡ bad x q → t ≡ replicate n 0 → u ≡ replicate m 0
-    → (Refused (record { number = x; place = q }) ≡ answer_of o) × ((t ≡ nodes_of n o) × (u ≡ attr_cells m o))
+    → (Err (record { number = x; place = q }) ≡ answer_of o) × ((t ≡ nodes_of n o) × (u ≡ attr_cells m o))
 unfolding answer_of nodes_of attr_cells
 refused o x q n m t u e y z = rw e (refl, (y, z))
 
 pub tree : (o : Out) (s t t' u u' : List ℕ) (low n m : ℕ) (c : Cursor) → Laid o s t t' u u' low 0 0 c → t ≡ replicate n 0 → u ≡ replicate m 0
     → 49152 ≤ n → 32768 ≤ m
-    → (Tree c.nodes c.attrs ≡ answer_of o) × ((t' ≡ nodes_of n o) × (u' ≡ attr_cells m o))
+    → (tree_with c.nodes c.attrs ≡ answer_of o) × ((t' ≡ nodes_of n o) × (u' ≡ attr_cells m o))
 unfolding answer_of nodes_of attr_cells
 tree o s t t' u u' low n m c l y z h g =
     let f : Forest = l.forest in
@@ -75,7 +76,7 @@ tree o s t t' u u' low n m c l y z h g =
     )
 
 -- as the promise has them
-pub read_of : {s t u : List ℕ} {r : Answer} {t' u' : List ℕ}
+pub read_of : {s t u : List ℕ} {r : Result TreeSize Refusal} {t' u' : List ℕ}
     → (r ≡ answer_of (meaning s (length t) (length u)))
     × ((t' ≡ nodes_of (length t) (meaning s (length t) (length u))) × (u' ≡ attr_cells (length u) (meaning s (length t) (length u))))
     → TreeRead s t u r t' u'

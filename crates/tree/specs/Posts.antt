@@ -1,5 +1,5 @@
 -- What the functions ask and ensure, by the cases of their answers. Steps of the program: `TreeRead` alone is a promise to others.
-use Rattle.std.specs.Prelude.{ℕ, ◌+◌, ◌*◌, ◌≤◌, ◌<◌, ◌≡◌, Bool, true, false, cond, List, length, get_or, ltb}
+use Rattle.std.specs.Prelude.{Result, Ok, Err, ⊤, ℕ, ◌+◌, ◌*◌, ◌≤◌, ◌<◌, ◌≡◌, Bool, true, false, cond, List, length, get_or, ltb}
 use Rattle.std.proofs.lemmas.List.Edits.{sets}
 use Rattle.scan.specs.Bytes.{blank, other, run_end_of}
 use Rattle.scan.specs.Marks.{starts_at}
@@ -8,19 +8,12 @@ use Rattle.tree.specs.Trees.{Attr, Forest, size, attrs_of, rows, attr_row, attr_
 use Rattle.tree.specs.Read.{Out, got, nothing, bad, AttrOut, attr, flaw, TagOut, opened, shut, torn, gt, skip, past_comments, meaning}
 use Rattle.tree.specs.Read.{comment_mark, answer_of, nodes_of, attr_cells}
 use Rattle.tree.specs.Answers.{Says}
-use Rattle.tree.specs.declared.answers.Answer.{Answer}
 use Rattle.tree.specs.declared.answers.Cursor.{Cursor}
 use Rattle.tree.specs.declared.answers.Spot.{Spot}
 use Rattle.tree.specs.declared.answers.Step.{Step}
-use Rattle.tree.specs.declared.answers.Step.TheVariants as step
-use Rattle.tree.specs.declared.answers.Content.{Content}
-use Rattle.tree.specs.declared.answers.Content.TheVariants as content
 use Rattle.tree.specs.declared.answers.Tag.{Tag}
-use Rattle.tree.specs.declared.answers.Tag.TheVariants as tag
-use Rattle.tree.specs.declared.answers.Pair.{Pair}
-use Rattle.tree.specs.declared.answers.Pair.TheVariants as pair
-use Rattle.tree.specs.declared.answers.Limits.{Limits}
-use Rattle.tree.specs.declared.answers.Limits.TheVariants as limits
+use Rattle.tree.specs.declared.answers.Refusal.{Refusal}
+use Rattle.tree.specs.declared.answers.TreeSize.{TreeSize}
 
 -- the text s, the tables t of nodes and u of attributes, a place p, k nodes and a attributes: within the limits
 pub record Ready (s t u : List ℕ) (p k a : ℕ) : Type 0 where
@@ -41,9 +34,9 @@ pub record PairGot (o : AttrOut) (s u u' : List ℕ) (p a q : ℕ) : Type 0 wher
   pub solid : q < length s → blank (get_or s q 0) ≡ false
   pub laid : u' ≡ sets u (a * 4) (attr_row one)
 
-abbrev pub PairPost : AttrOut → List ℕ → List ℕ → List ℕ → ℕ → ℕ → Pair → Type 0
-PairPost o s u u' p a (pair.Read q) = PairGot o s u u' p a q
-PairPost o s u u' p a (pair.Refused f) = o ≡ flaw f.number f.place
+abbrev pub PairPost : AttrOut → List ℕ → List ℕ → List ℕ → ℕ → ℕ → Result ℕ Refusal → Type 0
+PairPost o s u u' p a (Ok q) = PairGot o s u u' p a q
+PairPost o s u u' p a (Err f) = o ≡ flaw f.number f.place
 
 -- ---- a start tag
 -- o is made by mk of a list of attributes, read from p or later up to the spot c; their rows are laid from attribute a on
@@ -56,16 +49,16 @@ pub record TagGot (mk : List Attr → ℕ → ℕ → TagOut) (o : TagOut) (s u 
   pub most : c.attrs ≤ 8192
   pub laid : u' ≡ sets u (a * 4) (attr_rows list)
 
-abbrev pub TagPost : TagOut → List ℕ → List ℕ → List ℕ → ℕ → ℕ → Tag → Type 0
-TagPost o s u u' p a (tag.Open c) = TagGot opened o s u u' p a c
-TagPost o s u u' p a (tag.Shut c) = TagGot shut o s u u' p a c
-TagPost o s u u' p a (tag.Refused f) = o ≡ torn f.number f.place
+abbrev pub TagPost : TagOut → List ℕ → List ℕ → List ℕ → ℕ → ℕ → Result Tag Refusal → Type 0
+TagPost o s u u' p a (Ok (Tag.Open c)) = TagGot opened o s u u' p a c
+TagPost o s u u' p a (Ok (Tag.Shut c)) = TagGot shut o s u u' p a c
+TagPost o s u u' p a (Err f) = o ≡ torn f.number f.place
 
 -- the answer at the `/` of a start tag, with n attributes read
-unfoldable pub shut_at : List ℕ → ℕ → ℕ → Tag
+unfoldable pub shut_at : List ℕ → ℕ → ℕ → Result Tag Refusal
 shut_at s p n =
     let q = skip s (p + 1) in
-    cond (starts_at s q gt) (tag.Shut (record { pos = q + 1; attrs = n })) (tag.Refused (record { number = 8; place = p }))
+    cond (starts_at s q gt) (Ok (Tag.Shut (record { pos = q + 1; attrs = n }))) (Err (record { number = 8; place = p }))
 
 -- ---- nodes
 -- the comments at p end at r
@@ -106,20 +99,20 @@ pub record Idle (o : Out) (s t t' u u' : List ℕ) (p q : ℕ) : Type 0 where
   pub same : t' ≡ t
   pub alike : u' ≡ u
 
-abbrev pub StepPost : Out → List ℕ → List ℕ → List ℕ → List ℕ → List ℕ → ℕ → ℕ → ℕ → Step → Type 0
-StepPost o s t t' u u' p k a (step.Node c) = Laid o s t t' u u' (p + 1) k a c
-StepPost o s t t' u u' p k a (step.Nothing q) = Idle o s t t' u u' p q
-StepPost o s t t' u u' p k a (step.Refused f) = o ≡ bad f.number f.place
+abbrev pub StepPost : Out → List ℕ → List ℕ → List ℕ → List ℕ → List ℕ → ℕ → ℕ → ℕ → Result Step Refusal → Type 0
+StepPost o s t t' u u' p k a (Ok (Step.Node c)) = Laid o s t t' u u' (p + 1) k a c
+StepPost o s t t' u u' p k a (Ok (Step.Nothing q)) = Idle o s t t' u u' p q
+StepPost o s t t' u u' p k a (Err f) = o ≡ bad f.number f.place
 
-abbrev pub ContentPost : Out → List ℕ → List ℕ → List ℕ → List ℕ → List ℕ → ℕ → ℕ → ℕ → Content → Type 0
-ContentPost o s t t' u u' p k a (content.Done c) = Laid o s t t' u u' p k a c
-ContentPost o s t t' u u' p k a (content.Refused f) = o ≡ bad f.number f.place
+abbrev pub ContentPost : Out → List ℕ → List ℕ → List ℕ → List ℕ → List ℕ → ℕ → ℕ → ℕ → Result Cursor Refusal → Type 0
+ContentPost o s t t' u u' p k a (Ok c) = Laid o s t t' u u' p k a c
+ContentPost o s t t' u u' p k a (Err f) = o ≡ bad f.number f.place
 
 -- the answer at the `</` of a close tag, with k nodes and a attributes read
-unfoldable pub closed_at : List ℕ → ℕ → ℕ → ℕ → Content
+unfoldable pub closed_at : List ℕ → ℕ → ℕ → ℕ → Result Cursor Refusal
 closed_at s p k a =
     let g = run_end_of (other 62) s p in
-    cond (ltb g (length s)) (content.Done (record { pos = g + 1; nodes = k; attrs = a })) (content.Refused (record { number = 11; place = p }))
+    cond (ltb g (length s)) (Ok (record { pos = g + 1; nodes = k; attrs = a })) (Err (record { number = 11; place = p }))
 
 -- ---- the whole text
 -- the text s and tables of n and m cells meet none of the numbers 1 to 3
@@ -129,12 +122,12 @@ pub record Fits (s : List ℕ) (n m : ℕ) : Type 0 where
   pub short : length s ≤ 65536
   pub valid : length s ≤ utf8_end s
 
-abbrev pub LimitsPost : List ℕ → ℕ → ℕ → Limits → Type 0
-LimitsPost s n m limits.Within = Fits s n m
-LimitsPost s n m (limits.Refused f) = meaning s n m ≡ bad f.number f.place
+abbrev pub LimitsPost : List ℕ → ℕ → ℕ → Result ⊤ Refusal → Type 0
+LimitsPost s n m (Ok tt) = Fits s n m
+LimitsPost s n m (Err f) = meaning s n m ≡ bad f.number f.place
 
 -- the whole call: the tables t and u as they are lent, t' and u' as they are left
-pub record TreeRead (s t u : List ℕ) (r : Answer) (t' u' : List ℕ) : Type 0 where
+pub record TreeRead (s t u : List ℕ) (r : Result TreeSize Refusal) (t' u' : List ℕ) : Type 0 where
   pub answer : r ≡ answer_of (meaning s (length t) (length u))
   -- a refusal is answered with its number and its place
   pub says : (n p : ℕ) → meaning s (length t) (length u) ≡ bad n p → Says r n p

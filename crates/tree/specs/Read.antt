@@ -1,15 +1,16 @@
 -- The reader by places. It need not be believed: a step on the way from the program to the grammar, which `derivation` shows equal to what
 -- the grammar derives and to what is refused (`derivation/proofs/Theorem`).
 -- s is the whole text, p a place in it; k nodes and a attributes were read before. Quoted phrases are document 01's.
-use Rattle.std.specs.Prelude.{ℕ, zero, suc, ◌+◌, ◌-◌, ◌*◌, List, [], ◌∷◌, ◌++◌, Bool, cond, ◌||◌, length, get_or, replicate, eqb, ltb}
+use Rattle.std.specs.Prelude.{Result, Err, ℕ, zero, suc, ◌+◌, ◌-◌, ◌*◌, List, [], ◌∷◌, ◌++◌, Bool, cond, ◌||◌, length, get_or, replicate, eqb, ltb}
 use Rattle.scan.specs.Text.{ascii}
 use Rattle.scan.specs.Loop.{Next, halt, more, loop}
 use Rattle.scan.specs.Bytes.{blank, text_byte, name_byte, attr_name_byte, other, run_end_of}
 use Rattle.scan.specs.Marks.{starts_at, seek, past}
 use Rattle.utf8.specs.Utf8.{utf8_end}
 use Rattle.tree.specs.Trees.{Attr, Forest, nil, text, section, elem, size, join, rows, attrs_of, attr_rows}
-use Rattle.tree.specs.declared.answers.Answer.{Answer}
-use Rattle.tree.specs.declared.answers.Answer.TheVariants.{Tree, Refused}
+use Rattle.tree.specs.declared.answers.Refusal.{Refusal}
+use Rattle.tree.specs.Answers.{tree_with}
+use Rattle.tree.specs.declared.answers.TreeSize.{TreeSize}
 
 -- a forest, where reading stopped and how many nodes and attributes there are then; no node at a place; a refusal, number and place
 pub data Out : Type 0 where
@@ -235,10 +236,10 @@ meaning s n m =
     (top_of s (prolog_end s)))))
 
 -- the answer, and the cells of the two tables
-unfoldable pub answer_of : Out → Answer
-answer_of (got f q k a) = Tree (size f) (length (attrs_of f))
-answer_of (nothing q) = Tree 0 0
-answer_of (bad n q) = Refused (record { number = n; place = q })
+unfoldable pub answer_of : Out → Result TreeSize Refusal
+answer_of (got f q k a) = tree_with (size f) (length (attrs_of f))
+answer_of (nothing q) = tree_with 0 0
+answer_of (bad n q) = Err (record { number = n; place = q })
 
 unfoldable pub nodes_of : ℕ → Out → List ℕ
 nodes_of n (got f q k a) = rows 0 0 f ++ replicate (n - size f * 6) 0

@@ -1,4 +1,5 @@
 // What the readers answer. A place is an index of the text.
+ghost use Rattle.std.specs.Prelude.{◌≡◌};
 
 // Why a text is turned away: a number of document 01, and a place.
 #[derive(Clone, Copy)]
@@ -7,10 +8,19 @@ pub struct Refusal {
     pub place: usize,
 }
 
+impl Refusal {
+    pub(crate) fn new(number: u32, place: usize) -> Refusal
+        ensures { result ≡ record { number = number; place = place } }
+    {
+        Refusal { number, place }
+    }
+}
+
+// How many nodes and attributes a tree has.
 #[derive(Clone, Copy)]
-pub enum Answer {
-    Tree { nodes: usize, attrs: usize },
-    Refused(Refusal),
+pub struct TreeSize {
+    pub nodes: usize,
+    pub attrs: usize,
 }
 
 // Where reading goes on, and how many nodes and attributes there are then.
@@ -28,39 +38,16 @@ pub struct Spot {
     pub attrs: usize,
 }
 
-// A node, with the place after it; no node, at a place past the comments; or a refusal.
+// A node, with the place after it; or no node, at a place past the comments.
 #[derive(Clone, Copy)]
 pub enum Step {
     Node(Cursor),
     Nothing(usize),
-    Refused(Refusal),
 }
 
-// Nodes in a row, with the place after them; or a refusal.
-#[derive(Clone, Copy)]
-pub enum Content {
-    Done(Cursor),
-    Refused(Refusal),
-}
-
-// A start tag: content follows; no content; or a refusal.
+// A start tag: content follows, or none.
 #[derive(Clone, Copy)]
 pub enum Tag {
     Open(Spot),
     Shut(Spot),
-    Refused(Refusal),
-}
-
-// One attribute, with the place after it and its blanks; or a refusal.
-#[derive(Clone, Copy)]
-pub enum Pair {
-    Read(usize),
-    Refused(Refusal),
-}
-
-// The tests before reading: passed, or a refusal.
-#[derive(Clone, Copy)]
-pub enum Limits {
-    Within,
-    Refused(Refusal),
 }

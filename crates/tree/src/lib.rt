@@ -8,6 +8,6 @@ mod prolog;
 mod read;
 mod rows;
 
-pub use answers::{Answer, Refusal};
+pub use answers::{Refusal, TreeSize};
 pub use read::{BYTES, read_tree};
 pub use rows::{ATTR_CELLS, ELEMENT, NODE_CELLS, SECTION, TEXT};

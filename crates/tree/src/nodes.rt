@@ -6,8 +6,8 @@ ghost use Rattle.scan.specs.Posts.{Passed};
 ghost use Rattle.tree.specs.Read.{comment_end, text_at, section_at, node_at_of, element_of, content_of};
 ghost use Rattle.tree.specs.Posts.{Ready, Opened, Opens, Skipped, StepPost, ContentPost, closed_at};
 
-use crate::answers::{Content, Cursor, Refusal, Step, Tag};
-use crate::rows::{ELEMENT, MOST, SECTION, TEXT};
+use crate::answers::{Cursor, Refusal, Step, Tag};
+use crate::rows::{ELEMENT, MOST, NodeRow, SECTION, TEXT, put_node};
 use scan::Class;
 
 // Does a comment open at the place?
@@ -15,22 +15,7 @@ fn opens(src: &[u8], at: usize) -> bool
     requires { at ≤ length src.now }
     ensures { Opens src.now at result }
 {
-    if src.len() - at < 4 {
-        return false;
-    }
-    if src[at] != b'<' {
-        return false;
-    }
-    if src[at + 1] != b'!' {
-        return false;
-    }
-    if src[at + 2] != b'-' {
-        return false;
-    }
-    if src[at + 3] != b'-' {
-        return false;
-    }
-    true
+    matches!(&src[at..], [b'<', b'!', b'-', b'-', ..])
 }
 
 // Does `-->` stand at the place?
@@ -38,16 +23,7 @@ fn closes(src: &[u8], at: usize) -> bool
     requires { at + 3 ≤ length src.now }
     ensures { result ≡ starts_at src.now at comment_end }
 {
-    if src[at + 2] != b'>' {
-        return false;
-    }
-    if src[at + 1] != b'-' {
-        return false;
-    }
-    if src[at] != b'-' {
-        return false;
-    }
-    true
+    src[at + 2] == b'>' && src[at + 1] == b'-' && src[at] == b'-'
 }
 
 // The place after the comment at pos, or the length. It is short as a rule: 16 places are looked at one by one, four to a turn.
@@ -91,66 +67,82 @@ fn skip_comments(src: &[u8], pos: usize) -> usize
 }
 
 // The text at pos, where no `<` stands.
-fn parse_text(src: &[u8], nodes: &mut [u32], pos: usize, k: usize, a: usize) -> Step
+fn parse_text(
+    src: &[u8],
+    nodes: &mut [u32],
+    pos: usize,
+    k: usize,
+    a: usize,
+) -> Result<Step, Refusal>
     requires { (length src.now ≤ 65536) × (49152 ≤ length nodes.old) × (pos < length src.now) × (get_or src.now pos 0 ≡ 60 → ⊥)
         × (a ≤ 8192) }
     ensures { (u : List ℕ) → StepPost (text_at src.now pos k a) src.now nodes.old nodes.new u u
         pos k a result }
 {
     if MOST <= k {
-        return Step::Refused(Refusal {
-            number: 5,
-            place: pos,
-        });
+        return Err(Refusal::new(5, pos));
     }
     let e = scan::over(src, pos, Class::Text);
-    crate::rows::put_node(nodes, k, TEXT, k + 1, pos, e - pos, 0, 0);
-    Step::Node(Cursor {
+    let row = NodeRow {
+        kind: TEXT,
+        end: k + 1,
+        place: pos,
+        len: e - pos,
+        first: 0,
+        many: 0,
+    };
+    put_node(nodes, k, row);
+    Ok(Step::Node(Cursor {
         pos: e,
         nodes: k + 1,
         attrs: a,
-    })
+    }))
 }
 
 // The CDATA section that opens at pos.
-fn parse_section(src: &[u8], nodes: &mut [u32], pos: usize, k: usize, a: usize) -> Step
+fn parse_section(
+    src: &[u8],
+    nodes: &mut [u32],
+    pos: usize,
+    k: usize,
+    a: usize,
+) -> Result<Step, Refusal>
     requires { (length src.now ≤ 65536) × (49152 ≤ length nodes.old) × (pos + 9 ≤ length src.now) × (a ≤ 8192) }
     ensures { (u : List ℕ) → StepPost (section_at src.now pos k a) src.now nodes.old nodes.new u u
         pos k a result }
 {
     if MOST <= k {
-        return Step::Refused(Refusal {
-            number: 5,
-            place: pos,
-        });
+        return Err(Refusal::new(5, pos));
     }
     let start = pos + 9;
     let e = scan::find_seq(src, start, b"]]>");
-    crate::rows::put_node(nodes, k, SECTION, k + 1, start, e - start, 0, 0);
-    let mut q = e;
-    if e < src.len() {
-        q = e + 3;
-    }
-    Step::Node(Cursor {
+    let row = NodeRow {
+        kind: SECTION,
+        end: k + 1,
+        place: start,
+        len: e - start,
+        first: 0,
+        many: 0,
+    };
+    put_node(nodes, k, row);
+    let q = if e < src.len() { e + 3 } else { e };
+    Ok(Step::Node(Cursor {
         pos: q,
         nodes: k + 1,
         attrs: a,
-    })
+    }))
 }
 
 // The close tag at pos.
-fn parse_close(src: &[u8], pos: usize, k: usize, a: usize) -> Content
+fn parse_close(src: &[u8], pos: usize, k: usize, a: usize) -> Result<Cursor, Refusal>
     requires { pos ≤ length src.now }
     ensures { result ≡ closed_at src.now pos k a }
 {
     let g = scan::find_byte(src, pos, b'>');
     if src.len() <= g {
-        return Content::Refused(Refusal {
-            number: 11,
-            place: pos,
-        });
+        return Err(Refusal::new(11, pos));
     }
-    Content::Done(Cursor {
+    Ok(Cursor {
         pos: g + 1,
         nodes: k,
         attrs: a,
@@ -168,14 +160,14 @@ pub fn parse_node(
     k: usize,
     a: usize,
     room: usize,
-) -> Step
+) -> Result<Step, Refusal>
     requires { Ready src.now nodes.old attrs.old pos k a }
     ensures { StepPost (node_at_of src.now (element_of room src.now) pos k a) src.now nodes.old
         nodes.new attrs.old attrs.new pos k a result }
 {
     let at = skip_comments(src, pos);
     if src.len() <= at {
-        return Step::Nothing(at);
+        return Ok(Step::Nothing(at));
     }
     if src[at] != b'<' {
         return parse_text(src, nodes, at, k, a);
@@ -184,7 +176,7 @@ pub fn parse_node(
         return parse_section(src, nodes, at, k, a);
     }
     if scan::starts_with(src, at, b"</") {
-        return Step::Nothing(at);
+        return Ok(Step::Nothing(at));
     }
     parse_element(src, nodes, attrs, at, k, a, room)
 }
@@ -199,45 +191,48 @@ fn parse_element(
     k: usize,
     a: usize,
     room: usize,
-) -> Step
+) -> Result<Step, Refusal>
     requires { Ready src.now nodes.old attrs.old pos k a × (pos < length src.now) }
     ensures { StepPost (element_of room src.now pos k a) src.now nodes.old nodes.new
         attrs.old attrs.new pos k a result }
 {
     if room == 0 {
-        return Step::Refused(Refusal {
-            number: 4,
-            place: pos,
-        });
+        return Err(Refusal::new(4, pos));
     }
     if MOST <= k {
-        return Step::Refused(Refusal {
-            number: 5,
-            place: pos,
-        });
+        return Err(Refusal::new(5, pos));
     }
     let start = pos + 1;
     let e = scan::over_long(src, start, Class::Name);
-    match crate::attrs::parse_start(src, attrs, pos, e, a) {
-        Tag::Refused(r) => Step::Refused(r),
+    match crate::attrs::parse_start(src, attrs, pos, e, a)? {
         Tag::Shut(t) => {
-            let b = t.attrs;
-            crate::rows::put_node(nodes, k, ELEMENT, k + 1, pos, e - start, a, b - a);
-            Step::Node(Cursor {
+            let row = NodeRow {
+                kind: ELEMENT,
+                end: k + 1,
+                place: pos,
+                len: e - start,
+                first: a,
+                many: t.attrs - a,
+            };
+            put_node(nodes, k, row);
+            Ok(Step::Node(Cursor {
                 pos: t.pos,
                 nodes: k + 1,
-                attrs: b,
-            })
+                attrs: t.attrs,
+            }))
         }
         Tag::Open(t) => {
-            let b = t.attrs;
-            match parse_children(src, nodes, attrs, t.pos, k + 1, b, room - 1) {
-                Content::Refused(r) => Step::Refused(r),
-                Content::Done(c) => {
-                    crate::rows::put_node(nodes, k, ELEMENT, c.nodes, pos, e - start, a, b - a);
-                    Step::Node(c)
-                }
-            }
+            let c = parse_children(src, nodes, attrs, t.pos, k + 1, t.attrs, room - 1)?;
+            let row = NodeRow {
+                kind: ELEMENT,
+                end: c.nodes,
+                place: pos,
+                len: e - start,
+                first: a,
+                many: t.attrs - a,
+            };
+            put_node(nodes, k, row);
+            Ok(Step::Node(c))
         }
     }
 }
@@ -252,7 +247,7 @@ fn parse_children(
     k0: usize,
     a0: usize,
     room: usize,
-) -> Content
+) -> Result<Cursor, Refusal>
     requires { Ready src.now nodes.old attrs.old from k0 a0 }
     ensures { ContentPost (content_of room src.now from k0 a0) src.now nodes.old nodes.new
         attrs.old attrs.new from k0 a0 result }
@@ -264,25 +259,22 @@ fn parse_children(
         if scan::starts_with(src, pos, b"</") {
             return parse_close(src, pos, k, a);
         }
-        match parse_node(src, nodes, attrs, pos, k, a, room) {
+        match parse_node(src, nodes, attrs, pos, k, a, room)? {
             Step::Node(c) => {
                 pos = c.pos;
                 k = c.nodes;
                 a = c.attrs;
             }
             Step::Nothing(q) => {
-                return Content::Done(Cursor {
+                return Ok(Cursor {
                     pos: q,
                     nodes: k,
                     attrs: a,
                 });
             }
-            Step::Refused(r) => {
-                return Content::Refused(r);
-            }
         }
     }
-    Content::Done(Cursor {
+    Ok(Cursor {
         pos,
         nodes: k,
         attrs: a,

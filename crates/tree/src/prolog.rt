@@ -20,10 +20,7 @@ pub fn follows(src: &[u8], pos: usize, byte: u8) -> bool
     requires { pos ≤ length src.now }
     ensures { result ≡ starts_at src.now (pos + 1) (byte ∷ []) }
 {
-    if src.len() - pos < 2 {
-        return false;
-    }
-    src[pos + 1] == byte
+    pos + 1 < src.len() && src[pos + 1] == byte
 }
 
 // The place after the blanks at a position.

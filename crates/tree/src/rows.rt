@@ -17,28 +17,29 @@ pub const ELEMENT: u32 = 2;
 
 pub const SECTION: u32 = 3;
 
-// Kind, row after the subtree, place, length, first attribute, number of attributes.
-pub fn put_node(
-    cells: &mut [u32],
-    count: usize,
-    kind: u32,
-    end: usize,
-    place: usize,
-    len: usize,
-    first: usize,
-    many: usize,
-)
-    requires { (count * 6 + 6 ≤ length cells.old) × (kind < 2 ^ 32) × (end < 2 ^ 32) × (place < 2 ^ 32) × (len < 2 ^ 32) × (first < 2 ^ 32)
-        × (many < 2 ^ 32) }
-    ensures { cells.new ≡ sets cells.old (count * 6) (row kind end place len first many) }
+// A node: its kind, the row after its subtree, place, length, first attribute, number of attributes.
+#[derive(Clone, Copy)]
+pub struct NodeRow {
+    pub kind: u32,
+    pub end: usize,
+    pub place: usize,
+    pub len: usize,
+    pub first: usize,
+    pub many: usize,
+}
+
+pub fn put_node(cells: &mut [u32], count: usize, n: NodeRow)
+    requires { (count * 6 + 6 ≤ length cells.old) × (n.end < 2 ^ 32) × (n.place < 2 ^ 32) × (n.len < 2 ^ 32) × (n.first < 2 ^ 32)
+        × (n.many < 2 ^ 32) }
+    ensures { cells.new ≡ sets cells.old (count * 6) (row n.kind n.end n.place n.len n.first n.many) }
 {
     let at = count * NODE_CELLS;
-    cells[at] = kind;
-    cells[at + 1] = end as u32;
-    cells[at + 2] = place as u32;
-    cells[at + 3] = len as u32;
-    cells[at + 4] = first as u32;
-    cells[at + 5] = many as u32;
+    cells[at] = n.kind;
+    cells[at + 1] = n.end as u32;
+    cells[at + 2] = n.place as u32;
+    cells[at + 3] = n.len as u32;
+    cells[at + 4] = n.first as u32;
+    cells[at + 5] = n.many as u32;
 }
 
 // Place and length of the name, place and length of the value.

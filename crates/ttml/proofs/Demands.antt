@@ -1,4 +1,6 @@
 -- The demands hold. Assumes nothing.
+use Rattle.queries.specs.Reply.{Reply}
+use Rattle.std.specs.Prelude.{Result, Ok, Err, ⊤}
 use Prim.Native.Nat.{ℕ, zero, suc, ◌+◌, ◌-◌, ◌*◌, ◌≤◌, ◌<◌}
 use mathlib.Core.Path.{◌≡◌, refl, sym, ap, subst, ◌∙◌}
 use mathlib.Core.Bool.{true, false}
@@ -19,7 +21,6 @@ use Rattle.grammar.specs.Tree.{Forest}
 use Rattle.grammar.specs.Demand.{Derives}
 use Rattle.grammar.specs.Refusals.{Meets, too_deep, too_many_nodes, no_tag_name, too_many_attributes, slash, no_value, end_in_tag, open_close_tag}
 use Rattle.grammar.proofs.Theorem as grammar
-use Rattle.tree.specs.declared.answers.Answer as tree-answer
 use Rattle.tree.specs.declared.answers.Refusal as tree-refusal
 use Rattle.tree.specs.Posts.{Fits}
 use Rattle.times.proofs.Ways as ways
@@ -29,7 +30,6 @@ use Rattle.track.specs.Tables.{zero_float}
 use Rattle.track.specs.Meaning.{is_track, cue_in, track_at, track_in}
 use Rattle.track.specs.Plain.{is_plain_track}
 use Rattle.track.specs.Check.{Checked}
-use Rattle.track.specs.declared.check.Check.{Check}
 use Rattle.track.proofs.Exactly as check
 use Rattle.xml.specs.Promise as xml
 use Rattle.xml.proofs.Determined as tree
@@ -44,12 +44,10 @@ use Rattle.written.proofs.Handed.{names-fit}
 use Rattle.readback.specs.Steps.{CuesPlain}
 use Rattle.readback.proofs.CheckedCues.{cues_checked, cues_plain}
 use Rattle.readback.proofs.Theorem.{read_back}
-use Rattle.promised.specs.declared.Answer as reader
 use Rattle.promised.specs.Promise.{Tables, Parsed, CueParsed}
 use Rattle.promised.proofs.Determined.{zero_same}
 use Rattle.promised.proofs.Theorem.{parsed-determined, cue_determined, parsed-track, cue_track}
 use Rattle.promised.proofs.Cases.{parsed-case, cue_case}
-use Rattle.writer.specs.declared.calls.Answer as writer
 use Rattle.writer.specs.Promise.{Answers, Promise, Outcome, gives, meets, Comes, short_table, no_track, of_track, fits, within, whole_text, number_in, count_in}
 use Rattle.writer.specs.Promise.{place_in, text_in_of}
 use Rattle.writer.specs.Promise.{number_of, place_of, bytes_of, cue_numbered, cue_number}
@@ -60,7 +58,6 @@ use Rattle.spoken.specs.Promise as spoken
 use Rattle.spoken.proofs.Promised as speaking
 use Rattle.spoken.proofs.Theorem.{track_long, cues_are, row-there, cue_past}
 use Rattle.queries.specs.declared.query.Resolved.{Resolved}
-use Rattle.queries.specs.declared.query.Resolved.TheVariants.{Style, NoStyle, Refused}
 use Rattle.styles.specs.Own as styles
 use Rattle.styles.specs.Resolve.{Resolution, resolve}
 use Rattle.styles.specs.Listing.{InOrder}
@@ -80,11 +77,13 @@ use Rattle.told.specs.Told.{told, tree_told, check_told, Tells}
 use Rattle.told.specs.Trees.{count_cells, ReadInC}
 use Rattle.told.specs.Queries.{ToldAs, NoRoom}
 use Rattle.rewritten.specs.Recaption.{ThenWritten, Recaptioned}
-use Rattle.ttml.specs.declared.back.Back as call
+use Rattle.ttml.specs.declared.back.NotBack.{NotBack}
 use Rattle.ttml.specs.ReadBack.{Back, Signed, Went}
 use Rattle.ttml.specs.ReadBack as returning
 use Rattle.ttml.specs.Demands.{Determined, DeterminedBoth, QueryInC, Demand1, means_track, means_cue, HasRoom, Leaves}
 use Rattle.ttml.specs.Demands.{Demand2, Demand3, RequestD, RequestK, Demands}
+use Rattle.tree.specs.declared.answers.Refusal.{Refusal}
+use Rattle.tree.specs.declared.answers.TreeSize.{TreeSize}
 
 -- ---- 1
 
@@ -111,7 +110,7 @@ module _ (text : Bytes) (lent : xml.Tables) (counts : List ℕ) where
           let e = tree.determined x.promised.0 y.promised.0 in (
             x.is ∙ (ap tree_told e.0 ∙ sym y.is),
             e.1,
-            x.promised.1 ∙ (ap (λ (o : tree-answer.Answer). sets (replicate (length counts) 0) 0 (count_cells o)) e.0 ∙ sym y.promised.1),
+            x.promised.1 ∙ (ap (λ (o : Result TreeSize Refusal). sets (replicate (length counts) 0) 0 (count_cells o)) e.0 ∙ sym y.promised.1),
           )
 
       short : leb 2 (length counts) ≡ false → (r ≡ s) × (a ≡ b) × (c ≡ d)
@@ -124,16 +123,16 @@ module _ (text : Bytes) (lent : xml.Tables) (counts : List ℕ) where
           )
 
 -- an answer to a query, as it stands in its cells
-told_same : (w : Resolved) (o c d : List ℕ) (z x y : List Float) (n m : ℕ) → ToldAs w o c z x n → ToldAs w o d z y m
+told_same : (w : Reply) (o c d : List ℕ) (z x y : List Float) (n m : ℕ) → ToldAs w o c z x n → ToldAs w o d z y m
     → (n ≡ m) × (c ≡ d) × (x ≡ y)
-told_same (Style a) o c d z x y n m p q = (p.0 ∙ sym q.0, p.1.cells ∙ sym q.1.cells, p.1.float ∙ sym q.1.float)
-told_same (NoStyle k) o c d z x y n m p q = (p.0 ∙ sym q.0, p.1.cells ∙ sym q.1.cells, p.1.float ∙ sym q.1.float)
-told_same (Refused k) o c d z x y n m p q = (p.0 ∙ sym q.0, p.1.cells ∙ sym q.1.cells, p.1.float ∙ sym q.1.float)
+told_same (Ok (Resolved.Style a)) o c d z x y n m p q = (p.0 ∙ sym q.0, p.1.cells ∙ sym q.1.cells, p.1.float ∙ sym q.1.float)
+told_same (Ok (Resolved.NoStyle k)) o c d z x y n m p q = (p.0 ∙ sym q.0, p.1.cells ∙ sym q.1.cells, p.1.float ∙ sym q.1.float)
+told_same (Err k) o c d z x y n m p q = (p.0 ∙ sym q.0, p.1.cells ∙ sym q.1.cells, p.1.float ∙ sym q.1.float)
 
 pair_same : {A B : Type 0} (c d : A × B) → c.0 ≡ d.0 → c.1 ≡ d.1 → c ≡ d
 pair_same (a, b) (x, y) e f = rw (e, f) refl
 
-module _ (promise : Resolved → List ℕ → Type 0) (lent : List ℕ) (det : Determined promise) where
+module _ (promise : Reply → List ℕ → Type 0) (lent : List ℕ) (det : Determined promise) where
   query_in_C : QueryInC promise lent
   query_in_C out size r s a b c d p q =
       by-test (leb 27 (length out)) (λ t. by-test (leb 1 (length size)) (roomy t) (λ u. bare (p.no_float (leb-false 1 _ u)) (q.no_float (leb-false 1 _ u))))
@@ -152,7 +151,7 @@ module _ (promise : Resolved → List ℕ → Type 0) (lent : List ℕ) (det : D
           let e = det f.answer g.answer a b f.promised g.promised in
           let o : List ℕ = replicate (length out) 0 in
           let z : List Float = replicate (length size) zero_float in
-          let h = subst (λ (w : Resolved). ToldAs w o d.0 z d.1 g.number) (sym e.0) g.stands in
+          let h = subst (λ (w : Reply). ToldAs w o d.0 z d.1 g.number) (sym e.0) g.stands in
           let k = told_same f.answer o c.0 d.0 z c.1 d.1 f.number g.number f.stands h in (
             f.is ∙ (ap (λ (n : ℕ). told n 0) k.0 ∙ sym g.is),
             e.1,
@@ -160,28 +159,28 @@ module _ (promise : Resolved → List ℕ → Type 0) (lent : List ℕ) (det : D
           )
 
 -- a text read and written anew
-then_same : (u : reader.Answer) (T : track.Tables) (out : Bytes) (x y : writer.Answer) (c d : Bytes) → ThenWritten u T out x c
+then_same : (u : Result ⊤ Refusal) (T : track.Tables) (out : Bytes) (x y : Result ℕ Refusal) (c d : Bytes) → ThenWritten u T out x c
     → ThenWritten u T out y d → (x ≡ y) × (c ≡ d)
-then_same reader.Answer.Track T out x y c d p q = writing.determined whole_text T out x y c d p q
-then_same (reader.Answer.Refused r) T out x y c d p q = (p.0 ∙ sym q.0, p.1 ∙ sym q.1)
+then_same (Ok tt) T out x y c d p q = writing.determined whole_text T out x y c d p q
+then_same (Err r) T out x y c d p q = (p.0 ∙ sym q.0, p.1 ∙ sym q.1)
 
 recaptioned : (text : Bytes) (lent : Tables) (out : Bytes) → DeterminedBoth (Recaptioned text lent out)
 recaptioned text lent out x y a b c d p q =
     let e = parsed-determined p.read q.read in
-    let v = subst (λ (u : reader.Answer). ThenWritten u b.track out y d) (sym e.0) q.writes in
+    let v = subst (λ (u : Result ⊤ Refusal). ThenWritten u b.track out y d) (sym e.0) q.writes in
     let w = subst (λ (T : Tables). ThenWritten p.reading T.track out y d) (sym e.1) v in
     let k = then_same p.reading a.track out x y c d p.writes w in
     (k.0, e.1, k.1)
 
 -- a track written and read back
 module _ (T : track.Tables) (out : Bytes) (lent : Tables) where
-  written_same : {x y : writer.Answer} {a b : Bytes} → Promise whole_text T out x a → Promise whole_text T out y b → (x ≡ y) × (a ≡ b)
+  written_same : {x y : Result ℕ Refusal} {a b : Bytes} → Promise whole_text T out x a → Promise whole_text T out y b → (x ≡ y) × (a ≡ b)
   written_same {x} {y} {a} {b} p q = writing.determined whole_text T out x y a b p q
 
-  no_both : {n : ℕ} {r : tree-refusal.Refusal} {A : Type 0} → writer.Answer.Bytes n ≡ writer.Answer.Refused r → A
+  no_both : {n : ℕ} {r : tree-refusal.Refusal} {A : Type 0} → Ok n ≡ Err r → A
   no_both e = absurd (let z : ◌≡◌ {A = ℕ} 0 1 = cc in omega arith)
 
-  read_same : {n m : ℕ} {a b : Bytes} {u v : reader.Answer} {c d : Tables} → writer.Answer.Bytes n ≡ writer.Answer.Bytes m → a ≡ b
+  read_same : {n m : ℕ} {a b : Bytes} {u v : Result ⊤ Refusal} {c d : Tables} → ◌≡◌ {A = Result ℕ tree-refusal.Refusal} (Ok n) (Ok m) → a ≡ b
       → Parsed (take n a) lent u c → Parsed (take m b) lent v d → (n ≡ m) × (u ≡ v) × (c ≡ d)
   read_same {n} {m} {a} {b} {u} {v} {c} {d} e f p q =
       let k : n ≡ m = cc in
@@ -190,33 +189,33 @@ module _ (T : track.Tables) (out : Bytes) (lent : Tables) where
       (k, h.0, h.1)
 
   went : DeterminedBoth (λ answer written left. Went T out lent answer (returning.bytes_of answer) written left)
-  went (call.Back.Track n) (call.Back.Track m) a b c d p q =
+  went (Ok n) (Ok m) a b c d p q =
       let e = written_same p.0 q.0 in
       let k = read_same e.0 e.1 p.1 q.1 in
-      (ap call.Back.Track k.0, e.1, k.2)
-  went (call.Back.Track n) (call.Back.Unread m s) a b c d p q =
+      (ap Ok k.0, e.1, k.2)
+  went (Ok n) (Err (NotBack.Unread m s)) a b c d p q =
       let e = written_same p.0 q.0 in
       let k = read_same e.0 e.1 p.1 q.1 in
-      absurd (let g : reader.Answer.Track ≡ reader.Answer.Refused s = k.1 in let z : ◌≡◌ {A = ℕ} 0 1 = cc in omega arith)
-  went (call.Back.Track n) (call.Back.Unwritten s) a b c d p q = no_both (written_same p.0 q.0).0
-  went (call.Back.Unread n r) (call.Back.Track m) a b c d p q =
+      absurd (let g : ◌≡◌ {A = Result ⊤ tree-refusal.Refusal} (Ok tt) (Err s) = k.1 in let z : ◌≡◌ {A = ℕ} 0 1 = cc in omega arith)
+  went (Ok n) (Err (NotBack.Unwritten s)) a b c d p q = no_both (written_same p.0 q.0).0
+  went (Err (NotBack.Unread n r)) (Ok m) a b c d p q =
       let e = written_same p.0 q.0 in
       let k = read_same e.0 e.1 p.1 q.1 in
-      absurd (let g : reader.Answer.Refused r ≡ reader.Answer.Track = k.1 in let z : ◌≡◌ {A = ℕ} 0 1 = cc in omega arith)
-  went (call.Back.Unread n r) (call.Back.Unread m s) a b c d p q =
+      absurd (let g : ◌≡◌ {A = Result ⊤ tree-refusal.Refusal} (Err r) (Ok tt) = k.1 in let z : ◌≡◌ {A = ℕ} 0 1 = cc in omega arith)
+  went (Err (NotBack.Unread n r)) (Err (NotBack.Unread m s)) a b c d p q =
       let e = written_same p.0 q.0 in
       let k = read_same e.0 e.1 p.1 q.1 in
-      let f : reader.Answer.Refused r ≡ reader.Answer.Refused s = k.1 in
+      let f : ◌≡◌ {A = Result ⊤ tree-refusal.Refusal} (Err r) (Err s) = k.1 in
       let g : r ≡ s = cc in
       (rw (k.0, g) refl, e.1, k.2)
-  went (call.Back.Unread n r) (call.Back.Unwritten s) a b c d p q = no_both (written_same p.0 q.0).0
-  went (call.Back.Unwritten r) (call.Back.Track m) a b c d p q = no_both (sym (written_same p.0 q.0).0)
-  went (call.Back.Unwritten r) (call.Back.Unread m s) a b c d p q = no_both (sym (written_same p.0 q.0).0)
-  went (call.Back.Unwritten r) (call.Back.Unwritten s) a b c d p q =
+  went (Err (NotBack.Unread n r)) (Err (NotBack.Unwritten s)) a b c d p q = no_both (written_same p.0 q.0).0
+  went (Err (NotBack.Unwritten r)) (Ok m) a b c d p q = no_both (sym (written_same p.0 q.0).0)
+  went (Err (NotBack.Unwritten r)) (Err (NotBack.Unread m s)) a b c d p q = no_both (sym (written_same p.0 q.0).0)
+  went (Err (NotBack.Unwritten r)) (Err (NotBack.Unwritten s)) a b c d p q =
       let e = written_same p.0 q.0 in
-      let f : writer.Answer.Refused r ≡ writer.Answer.Refused s = e.0 in
+      let f : ◌≡◌ {A = Result ℕ tree-refusal.Refusal} (Err r) (Err s) = e.0 in
       let g : r ≡ s = cc in
-      (ap call.Back.Unwritten g, e.1, zero_same p.1 q.1)
+      (ap (λ (r : tree-refusal.Refusal). Err (NotBack.Unwritten r)) g, e.1, zero_same p.1 q.1)
 
 pub demand_1 : Demand1
 demand_1 = record {
@@ -261,7 +260,7 @@ module _ (text : Bytes) (f : Forest) (u : Utf8 text) (d : Derives text f) where
   cue_is : (c : Cue Bytes) → means_cue f c → cue_parsed text ≡ is c
   cue_is c m = no_place (cue_parsed text) c (cue_means text f fitting d ∙ m)
 
-passing : (T : track.Tables) → ((r : Check) → Checked T r → r ≡ Check.Track) → Checked T Check.Track
+passing : (T : track.Tables) → ((r : Result ⊤ Refusal) → Checked T r → r ≡ (Ok tt)) → Checked T (Ok tt)
 passing T h = let k = check.promised T refl in subst (Checked T) (h _ k) k
 
 same_some : {A : Type 0} {a b : A} {o : Option A} → o ≡ some a → o ≡ some b → a ≡ b
@@ -274,10 +273,10 @@ fits_both : (lent : ℕ) (w : Bytes) → length w ≤ lent → length w ≤ 6553
 unfolding within fits
 fits_both lent w h g = rw (le-leb (length w) lent h, le-leb (length w) 65536 g)
 
-bytes_said : (a : writer.Answer) (n : ℕ) → bytes_of a ≡ some n → a ≡ writer.Answer.Bytes n
+bytes_said : (a : Result ℕ Refusal) (n : ℕ) → bytes_of a ≡ some n → a ≡ Ok n
 unfolding bytes_of
-bytes_said (writer.Answer.Bytes m) n e = let q : m ≡ n = cc in ap writer.Answer.Bytes q
-bytes_said (writer.Answer.Refused r) n e = absurd (let z : ◌≡◌ {A = ℕ} 0 1 = cc in omega arith)
+bytes_said (Ok m) n e = let q : m ≡ n = cc in ap Ok q
+bytes_said (Err r) n e = absurd (let z : ◌≡◌ {A = ℕ} 0 1 = cc in omega arith)
 
 -- 18 says that it does not fit
 meets-eighteen : (lent : ℕ) (w : Bytes) → number_in (within lent (gives w)) ≡ 18 → (length w ≤ lent) × (length w ≤ 65536) → ⊥
@@ -291,13 +290,13 @@ too_long lent w n =
     (λ x. by-test (leb (length w) 65536) (λ y. absurd (n (leb-true _ _ x, leb-true _ _ y))) (λ y. rw (x, y) refl))
     (λ x. rw x refl)
 
-refused-said : (a : writer.Answer) (n : ℕ) → number_of a ≡ n → 0 < n → place_of a ≡ 0 → a ≡ writer.Answer.Refused (record { number = n; place = 0 })
+refused-said : (a : Result ℕ Refusal) (n : ℕ) → number_of a ≡ n → 0 < n → place_of a ≡ 0 → a ≡ Err (record { number = n; place = 0 })
 unfolding number_of place_of
-refused-said (writer.Answer.Bytes m) n e h p = absurd (omega (arith, e, h))
-refused-said (writer.Answer.Refused r) n e h p = rw (sym e, sym p) refl
+refused-said (Ok m) n e h p = absurd (omega (arith, e, h))
+refused-said (Err r) n e h p = rw (sym e, sym p) refl
 
 -- what a call that writes comes to, where its input allows one outcome
-module _ (may : Outcome → Type 0) (out left : Bytes) (answer : writer.Answer) (p : Answers may out answer left) where
+module _ (may : Outcome → Type 0) (out left : Bytes) (answer : Result ℕ Refusal) (p : Answers may out answer left) where
   module _ (w : Bytes) (only : (o : Outcome) → may o → o ≡ within (length out) (gives w)) where
     outcome_is : p.outcome ≡ within (length out) (gives w)
     outcome_is = only p.outcome p.comes
@@ -315,7 +314,7 @@ module _ (may : Outcome → Type 0) (out left : Bytes) (answer : writer.Answer) 
     )
 
   past : ((o : Outcome) → may o → o ≡ meets 17 0)
-      → (answer ≡ writer.Answer.Refused (record { number = 17; place = 0 })) × (left ≡ replicate (length out) 0)
+      → (answer ≡ Err (record { number = 17; place = 0 })) × (left ≡ replicate (length out) 0)
   unfolding number_in place_in text_in_of
   past only =
       let o : p.outcome ≡ meets 17 0 = only p.outcome p.comes in
@@ -387,7 +386,7 @@ cue-of (is c) t e = (c, refl, cc)
 cue-of (refused n p) t e = absurd (let z : ◌≡◌ {A = ℕ} 0 1 = cc in omega arith)
 
 -- a query whose promise holds of an outcome
-module _ (q : Query) {T : track.Tables} {lent left : List ℕ} {answer : Resolved} {t : Track Bytes} (p : Queried q T lent answer left) where
+module _ (q : Query) {T : track.Tables} {lent left : List ℕ} {answer : Reply} {t : Track Bytes} (p : Queried q T lent answer left) where
   -- without a number: what it gives
   module _ (e : track_in T ≡ some t) (z : query-promise.number_of answer ≡ 0) where
     gives-it : (r : Resolution) × (q.asks t ≡ styles.is r) × Gives q T lent t r answer left
@@ -451,7 +450,7 @@ pub demand_2 : Demand2
 demand_2 = record {
   parse_gives = λ text lent left answer f t l u d m p.
       let c = parsed-case text lent l d.size (utf8-end text u) p (parsed-is text f u d t m) in
-      let q : Parsed text lent reader.Answer.Track left = subst (λ (a : reader.Answer). Parsed text lent a left) c.0 p in
+      let q : Parsed text lent (Ok tt) left = subst (λ (a : Result ⊤ Refusal). Parsed text lent a left) c.0 p in
       (c.0, c.1, passing left.track (λ r c. (parsed-track q).passes {r = r} c));
   parse_only = λ text lent left p.
       let s = parsed-track p in
@@ -460,7 +459,7 @@ demand_2 = record {
   parse_clears = λ text lent left answer p h. p.cleared h;
   cue_gives = λ text lent left answer f c l u d m p.
       let k = cue_case text lent l d.size (utf8-end text u) p (cue_is text f u d c m) in
-      let q : CueParsed text lent reader.Answer.Track left = subst (λ (a : reader.Answer). CueParsed text lent a left) k.0 p in
+      let q : CueParsed text lent (Ok tt) left = subst (λ (a : Result ⊤ Refusal). CueParsed text lent a left) k.0 p in
       (k.0, k.1, passing left.track (λ r x. (cue_track q).passes {r = r} x));
   cue_only = λ text lent left p.
       let s = cue_track p in
@@ -534,7 +533,7 @@ take_all : (w z : Bytes) → take (length w) (w ++ z) ≡ w
 take_all [] z = refl
 take_all (x ∷ w) z = ap (λ (l : Bytes). x ∷ l) (take_all w z)
 
-wrote : (T : track.Tables) (out written : Bytes) (n : ℕ) → Promise whole_text T out (writer.Answer.Bytes n) written → Wrote T n written
+wrote : (T : track.Tables) (out written : Bytes) (n : ℕ) → Promise whole_text T out (Ok n) written → Wrote T n written
 unfolding bytes_of text_in_of
 wrote T out written n p =
     let g = given-text T (length out) p.outcome n p.comes p.count in
@@ -563,7 +562,7 @@ module _ (T : track.Tables) (t : Track Bytes) (signed : Signed T.times) (e : tra
       let k = (handed_is T t e).1 in
       cues_plain t.cues plain (rw k at (cues_checked T ok signed))
 
-  module _ (left : Tables) (lent : Tables) (p : Parsed (written_of t) lent reader.Answer.Track left) where
+  module _ (left : Tables) (lent : Tables) (p : Parsed (written_of t) lent (Ok tt) left) where
     back_of : (n : ℕ) (written : Bytes) → take n written ≡ written_of t → Back t n written left
     back_of n written w =
         let s = parsed-track p in
@@ -578,8 +577,8 @@ module _ (T : track.Tables) (t : Track Bytes) (signed : Signed T.times) (e : tra
           cues = read_back t all_plain s.track (rw (f, decoded-tree t) at s.meant-so);
         }
 
-  reads : (out written : Bytes) (n : ℕ) → Promise whole_text T out (writer.Answer.Bytes n) written
-      → (lent left : Tables) → Parsed (take n written) lent reader.Answer.Track left → Back t n written left
+  reads : (out written : Bytes) (n : ℕ) → Promise whole_text T out (Ok n) written
+      → (lent left : Tables) → Parsed (take n written) lent (Ok tt) left → Back t n written left
   reads out written n p lent left q =
       let w = wrote T out written n p in
       let x : take n written ≡ written_of t = w.text ∙ ap written_of (same_some w.handed e) in

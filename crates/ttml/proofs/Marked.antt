@@ -1,4 +1,5 @@
 -- Every case that document 01 marks [P] holds: computed from the definitions, and for the tree derived from what is computed. Assumes nothing.
+use Rattle.std.specs.Prelude.{Err}
 use mathlib.Core.Path.{◌≡◌, refl, ◌∙◌}
 use mathlib.Core.Logic.{inl, inr}
 use native.Mathlib.Omega.{arith}
@@ -21,20 +22,20 @@ use Rattle.grammar.specs.Demand.{decode_tree, decode_forest, decode_attrs}
 use Rattle.grammar.proofs.Examples as grammar
 use Rattle.times.specs.Sums.{checked}
 use Rattle.times.specs.declared.offset.TimingCtx.{TimingCtx}
-use Rattle.times.specs.declared.offset.Time.TheVariants.{Nothing}
 use Rattle.times.specs.Expressions.{float, frame_rate_of, counted, chars_length, micros_of, offset_time, ◌else◌, time_in}
 use Rattle.times.specs.Written.{clock_text}
 use Rattle.meaning.proofs.Computing.{computing}
 use Rattle.meaning.proofs.Examples.{below_zero}
 use Rattle.promised.proofs.Cases.{parsed-case}
 use Rattle.ttml.specs.Marked.{NoFrames, one_cue, film, Holds, All, marked}
+use Rattle.times.specs.declared.offset.TimeError.{TimeError}
 
 -- five frames, counted by whatever rate there is; no way after that gives a time
-five : (ctx : TimingCtx) → time_in (ascii "5f") ctx ≡ (counted (float 5) (frame_rate_of ctx) else Nothing)
+five : (ctx : TimingCtx) → time_in (ascii "5f") ctx ≡ (counted (float 5) (frame_rate_of ctx) else (Err TimeError.Invalid))
 unfolding time_in offset_time trimmed white_at white_before is_white sequence_at char_at loop go digit_byte run_length_of starts_at numeral_of decimal_of of_int round
 five ctx = refl
 
-no_frames : (ctx : TimingCtx) → NoFrames ctx → time_in (ascii "5f") ctx ≡ Nothing
+no_frames : (ctx : TimingCtx) → NoFrames ctx → time_in (ascii "5f") ctx ≡ Err TimeError.Invalid
 no_frames ctx (inl e) = five ctx ∙ rw e refl
 no_frames ctx (inr l) = five ctx ∙ by-test ctx.has_frame_rate (λ e. rw (e, l) refl) (λ e. rw e refl)
 

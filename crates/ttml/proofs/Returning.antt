@@ -2,6 +2,7 @@
 --     count_fits, count_stands     what is written stands in the bytes that are lent
 --     nothing_read, returned       no text is read; what came of writing and reading
 --     signed-more, signed_all      reading a cell tells that it is an i64, and past the end is none
+use Rattle.std.specs.Prelude.{Result, Ok, Err, ⊤}
 use Prim.Native.Nat.{ℕ, zero, suc, ◌+◌, ◌≤◌, ◌<◌, ◌^◌}
 use mathlib.Core.Path.{◌≡◌, refl, sym}
 use mathlib.Core.Logic.{◌⊎◌, inl, inr}
@@ -21,33 +22,31 @@ use Rattle.xml.specs.Reading.{Placed}
 use Rattle.meaning.proofs.Computing.{computing}
 use Rattle.meaning.proofs.Examples.{no_text}
 use Rattle.laid.specs.Laid.{whole}
-use Rattle.promised.specs.declared.Answer as reader
 use Rattle.promised.specs.Promise.{number_of, Tables, AllZero, Takes, TurnsAway, Parsed}
 use Rattle.promised.proofs.Numbers.{whole_numbers}
 use Rattle.promised.proofs.Promises.{some_number}
 use Rattle.promised.proofs.Determined.{decided}
 use Rattle.promised.proofs.Cases.{parsed-refused}
-use Rattle.writer.specs.declared.calls.Answer as writer
 use Rattle.writer.specs.Promise.{Outcome, Promise, whole_text}
 use Rattle.rewritten.proofs.Fitting.{bytes_fit}
-use Rattle.ttml.specs.declared.back.Back as call
+use Rattle.ttml.specs.declared.back.NotBack.{NotBack}
 use Rattle.ttml.specs.ReadBack.{Signed, Returned}
 use Rattle.ttml.specs.Steps.{count_of, outcome_of}
 use Rattle.ttml.proofs.Demands.{demand_3}
+use Rattle.tree.specs.declared.answers.Refusal.{Refusal}
 
 -- ---- what is written stands in the bytes that are lent
 module _ {asked : Track Bytes → Outcome} {T : track.Tables} {out left : Bytes} {n : ℕ} where
-  pub count_fits : (answer : writer.Answer) → n ≡ count_of answer → Promise asked T out answer left → n ≤ length left
-  unfolding count_of
-  count_fits (writer.Answer.Bytes m) e p = rw e (bytes_fit m p)
-  count_fits (writer.Answer.Refused r) e p = omega (arith, e)
+  pub count_fits : (answer : Result ℕ Refusal) → n ≡ count_of answer → Promise asked T out answer left → n ≤ length left
+  count_fits (Ok m) e p = rw e (bytes_fit m p)
+  count_fits (Err r) e p = omega (arith, e)
 
-  pub count_stands : (answer : writer.Answer) → n ≡ count_of answer → Promise asked T out answer left → n ≡ length (take n left)
+  pub count_stands : (answer : Result ℕ Refusal) → n ≡ count_of answer → Promise asked T out answer left → n ≡ length (take n left)
   count_stands answer e p = sym (length-take-le n left (count_fits answer e p))
 
 -- ---- after a track was written
 -- no text has no track, whatever tables are lent
-pub nothing_read : {lent left : Tables} {answer : reader.Answer} → Parsed [] lent answer left → AllZero lent left
+pub nothing_read : {lent left : Tables} {answer : Result ⊤ Refusal} → Parsed [] lent answer left → AllZero lent left
 unfolding computing
 nothing_read {lent} {left} {answer} p = p.cleared (by (decided whole whole_numbers [] lent))
   where
@@ -57,23 +56,22 @@ nothing_read {lent} {left} {answer} p = p.cleared (by (decided whole whole_numbe
         let l = some_number whole whole_numbers [] lent w.2 in
         omega (arith, l, ((p.refused w.0 w.1 l).1 w.2).0)
 
-module _ {T : track.Tables} {out written : Bytes} {lent left : Tables} {n : ℕ} {r : call.Back} (signed : Signed T.times) where
-  pub returned : (answer : writer.Answer) (reading : reader.Answer) → n ≡ count_of answer → r ≡ outcome_of answer reading
+module _ {T : track.Tables} {out written : Bytes} {lent left : Tables} {n : ℕ} {r : Result ℕ NotBack} (signed : Signed T.times) where
+  pub returned : (answer : Result ℕ Refusal) (reading : Result ⊤ Refusal) → n ≡ count_of answer → r ≡ outcome_of answer reading
       → Promise whole_text T out answer written → Parsed (take n written) lent reading left → Returned T out lent r written left
-  unfolding count_of outcome_of
-  returned (writer.Answer.Bytes m) reader.Answer.Track e o p q =
-      let w : Parsed (take m written) lent reader.Answer.Track left = rw e at q in
+  returned (Ok m) (Ok tt) e o p q =
+      let w : Parsed (take m written) lent (Ok tt) left = rw e at q in
       rw o (record {
         went = (p, w);
         comes = λ k b z t h plain.
             let f : m ≡ k = cc in
             rw (sym f) (demand_3.reads_back T t signed h plain out written m p lent left w);
       })
-  returned (writer.Answer.Bytes m) (reader.Answer.Refused x) e o p q = rw o (record {
+  returned (Ok m) (Err x) e o p q = rw o (record {
     went = (p, rw e at q);
     comes = λ k b z t h plain. absurd (let y : ◌≡◌ {A = ℕ} 0 1 = cc in omega arith);
   })
-  returned (writer.Answer.Refused x) reading e o p q = rw o (record {
+  returned (Err x) reading e o p q = rw o (record {
     went = (p, nothing_read (rw e at q));
     comes = λ k b z t h plain. absurd (let y : ◌≡◌ {A = ℕ} 0 1 = cc in omega arith);
   })

@@ -1,13 +1,11 @@
 -- The cases that document 01 marks [P], all of them in one table. Definitions alone; proofs/Marked has one proof of the whole table.
-use Rattle.std.specs.Prelude.{◌≡◌, true, false, List, [], ◌∷◌, ◌++◌, ◌⊎◌, ℤ, pos, negsuc}
+use Rattle.std.specs.Prelude.{Result, Ok, Err, ⊤, ◌≡◌, true, false, List, [], ◌∷◌, ◌++◌, ◌⊎◌, ℤ, pos, negsuc}
 use Rattle.std.proofs.Math.Option.{none, some}
 use Rattle.std.specs.Float.{binary64}
 use Rattle.std.specs.Float.Ieee.{of_int, le}
 use Rattle.scan.specs.Text.{ascii}
 use Rattle.entities.specs.Decode.{decoded}
 use Rattle.times.specs.declared.offset.TimingCtx.{TimingCtx}
-use Rattle.times.specs.declared.offset.Time.{Time}
-use Rattle.times.specs.declared.offset.Time.TheVariants.{Is, Nothing}
 use Rattle.times.specs.Expressions.{float, time_in}
 use Rattle.times.specs.Written.{clock_text}
 use Rattle.track.specs.Track.{Bytes, Track, done}
@@ -15,8 +13,9 @@ use Rattle.track.specs.Meaning.{track_in}
 use Rattle.grammar.specs.Tree.{Forest, text, element, more}
 use Rattle.grammar.specs.Tree as trees
 use Rattle.grammar.specs.Demand.{Derives, decode_forest}
-use Rattle.promised.specs.declared.Answer as reader
 use Rattle.promised.specs.Promise.{Tables, LongEnough, Parsed}
+use Rattle.times.specs.declared.offset.TimeError.{TimeError}
+use Rattle.tree.specs.declared.answers.Refusal.{Refusal}
 
 -- a document without rates, and one with a frame rate
 abbrev pub no_rates : TimingCtx
@@ -52,7 +51,7 @@ plain name content after = more (element name [] content) after
 pub data Case : Type 0 where
   tree : Bytes → Forest → Case
   entities : (s read : Bytes) → Case
-  time : Bytes → TimingCtx → Time → Case
+  time : Bytes → TimingCtx → Result ℤ TimeError → Case
   frameless : Bytes → Case
   written : ℤ → Bytes → Case
   film : Bytes → Track Bytes → Case
@@ -63,11 +62,11 @@ unfoldable pub Holds : Case → Type 0
 Holds (tree s f) = Derives s f × (decode_forest decoded f ≡ f)
 Holds (entities s read) = decoded s ≡ read
 Holds (time s ctx t) = time_in s ctx ≡ t
-Holds (frameless s) = (ctx : TimingCtx) → NoFrames ctx → time_in s ctx ≡ Nothing
+Holds (frameless s) = (ctx : TimingCtx) → NoFrames ctx → time_in s ctx ≡ Err TimeError.Invalid
 Holds (written z s) = clock_text z ≡ s
 Holds (film s t) =
-    (lent left : Tables) (answer : reader.Answer) → LongEnough lent → Parsed s lent answer left
-    → (answer ≡ reader.Answer.Track) × (track_in left.track ≡ some t)
+    (lent left : Tables) (answer : Result ⊤ Refusal) → LongEnough lent → Parsed s lent answer left
+    → (answer ≡ (Ok tt)) × (track_in left.track ≡ some t)
 
 abbrev pub All : List Case → Type 0
 All [] = Unit {0}
@@ -81,16 +80,16 @@ marked =
     ∷ entities (ascii "&#+65;") (ascii "A")
     ∷ entities (ascii "&AMP;") (ascii "&AMP;")
     -- "`00:05` is hours and minutes"
-    ∷ time (ascii "00:05") no_rates (Is (pos 300000000))
-    ∷ time (ascii "00:00:01.1234567") no_rates (Is (pos 1123456))
-    ∷ time (ascii "00:00:01.+5") no_rates (Is (pos 1050000))
-    ∷ time (ascii "00:00:01.5" ++ (0xC3 ∷ 0xA9 ∷ [])) no_rates (Is (pos 1000000))  -- é
+    ∷ time (ascii "00:05") no_rates (Ok (pos 300000000))
+    ∷ time (ascii "00:00:01.1234567") no_rates (Ok (pos 1123456))
+    ∷ time (ascii "00:00:01.+5") no_rates (Ok (pos 1050000))
+    ∷ time (ascii "00:00:01.5" ++ (0xC3 ∷ 0xA9 ∷ [])) no_rates (Ok (pos 1000000))  -- é
     -- "`-1s` is -1,000,000: a begin below zero moves a cue before its container"
-    ∷ time (ascii "-1s") no_rates (Is (negsuc 999999))
+    ∷ time (ascii "-1s") no_rates (Ok (negsuc 999999))
     ∷ film (ascii "<tt><body><div begin=\"3s\"><p begin=\"-5s\" dur=\"1s\"/></div></body></tt>") (one_cue (negsuc 1999999) (negsuc 999999))
     -- "`5f` is no time without frameRate or with one at or below 0; at 25 it is 200,000"
     ∷ frameless (ascii "5f")
-    ∷ time (ascii "5f") (frame_rate_of (pos 25)) (Is (pos 200000))
+    ∷ time (ascii "5f") (frame_rate_of (pos 25)) (Ok (pos 200000))
     -- "Written"
     ∷ written (negsuc 0) (ascii "00:00:00.000")
     ∷ written (pos 1999) (ascii "00:00:00.001")

@@ -1,5 +1,5 @@
 -- What writing a track and reading what was written promises. Definitions alone.
-use Rattle.std.specs.Prelude.{◌≡◌, true, List, ℕ, ◌<◌, ◌^◌, get_or, take, ℤ, pos}
+use Rattle.std.specs.Prelude.{Result, Ok, Err, ⊤, ◌≡◌, true, List, ℕ, ◌<◌, ◌^◌, get_or, take, ℤ, pos}
 use Rattle.std.specs.Int.Signed.{mag}
 use Rattle.std.proofs.Math.Option.{Option, none, some}
 use Rattle.grammar.specs.Tree.{Forest}
@@ -11,11 +11,9 @@ use Rattle.track.specs.Meaning.{track_in}
 use Rattle.track.specs.Layout.{each}
 use Rattle.track.specs.Plain.{is_plain_track}
 use Rattle.readback.specs.Back.{cue_back}
-use Rattle.promised.specs.declared.Answer as reader
 use Rattle.promised.specs.Promise.{Tables, AllZero, Parsed}
-use Rattle.writer.specs.declared.calls.Answer as writer
 use Rattle.writer.specs.Promise.{Promise, whole_text}
-use Rattle.ttml.specs.declared.back.Back as call
+use Rattle.ttml.specs.declared.back.NotBack.{NotBack}
 
 -- "Reading back is `parse` on what `write` made": n bytes stand in `written`, and `left` is what `parse` leaves
 pub record Back (t : Track Bytes) (n : ℕ) (written : Bytes) (left : Tables) : Type 0 where
@@ -34,41 +32,42 @@ Signed times = (i : ℕ) → mag (get_or times i (pos 0)) < 2 ^ 63
 
 -- ---- the answer
 -- how many bytes are written, where any are
-abbrev pub bytes_of : call.Back → Option ℕ
-bytes_of (call.Back.Track n) = some n
-bytes_of (call.Back.Unread n r) = some n
-bytes_of (call.Back.Unwritten r) = none
+abbrev pub bytes_of : Result ℕ NotBack → Option ℕ
+bytes_of (Ok n) = some n
+bytes_of (Err (NotBack.Unread n r)) = some n
+bytes_of (Err (NotBack.Unwritten r)) = none
 
 -- "An answer has number and byte place": those of reading, or of writing where nothing is written; none is met, here 0
-abbrev pub number_of : call.Back → ℕ
-number_of (call.Back.Track n) = 0
-number_of (call.Back.Unread n r) = r.number
-number_of (call.Back.Unwritten r) = r.number
+abbrev pub number_of : Result ℕ NotBack → ℕ
+number_of (Ok n) = 0
+number_of (Err (NotBack.Unread n r)) = r.number
+number_of (Err (NotBack.Unwritten r)) = r.number
 
-abbrev pub place_of : call.Back → ℕ
-place_of (call.Back.Track n) = 0
-place_of (call.Back.Unread n r) = r.place
-place_of (call.Back.Unwritten r) = r.place
+abbrev pub place_of : Result ℕ NotBack → ℕ
+place_of (Ok n) = 0
+place_of (Err (NotBack.Unread n r)) = r.place
+place_of (Err (NotBack.Unwritten r)) = r.place
 
 -- a track, or a number with its place
-abbrev pub refusal_of : call.Back → Refusal
+abbrev pub refusal_of : Result ℕ NotBack → Refusal
 refusal_of answer = record { number = number_of answer; place = place_of answer }
 
-abbrev pub met_by : call.Back → reader.Answer
-met_by (call.Back.Track n) = reader.Answer.Track
-met_by (call.Back.Unread n r) = reader.Answer.Refused r
-met_by (call.Back.Unwritten r) = reader.Answer.Refused r
+abbrev pub met_by : Result ℕ NotBack → Result ⊤ Refusal
+met_by (Ok n) = Ok tt
+met_by (Err (NotBack.Unread n r)) = Err r
+met_by (Err (NotBack.Unwritten r)) = Err r
 
 -- ---- the promise
 -- so many bytes are written as `write` does it, and read as `parse` does it; or none are, with this number and place, and every cell is zero
-abbrev pub Went : (T : track.Tables) (out : Bytes) (lent : Tables) → call.Back → (bytes : Option ℕ) → (written : Bytes) (left : Tables) → Type 0
+abbrev pub Went : (T : track.Tables) (out : Bytes) (lent : Tables) → Result ℕ NotBack → (bytes : Option ℕ) → (written : Bytes)
+    (left : Tables) → Type 0
 Went T out lent answer (some n) written left =
-    Promise whole_text T out (writer.Answer.Bytes n) written × Parsed (take n written) lent (met_by answer) left
+    Promise whole_text T out (Ok n) written × Parsed (take n written) lent (met_by answer) left
 Went T out lent answer none written left =
-    Promise whole_text T out (writer.Answer.Refused (refusal_of answer)) written × AllZero lent left
+    Promise whole_text T out (Err (refusal_of answer)) written × AllZero lent left
 
-pub record Returned (T : track.Tables) (out : Bytes) (lent : Tables) (answer : call.Back) (written : Bytes) (left : Tables) : Type 0 where
+pub record Returned (T : track.Tables) (out : Bytes) (lent : Tables) (answer : Result ℕ NotBack) (written : Bytes) (left : Tables) : Type 0 where
   pub went : Went T out lent answer (bytes_of answer) written left
   -- a plain track, where no number is met, comes back
-  pub comes : (n : ℕ) → bytes_of answer ≡ some n → met_by answer ≡ reader.Answer.Track → (t : Track Bytes) → track_in T ≡ some t
+  pub comes : (n : ℕ) → bytes_of answer ≡ some n → met_by answer ≡ (Ok tt) → (t : Track Bytes) → track_in T ≡ some t
       → is_plain_track t ≡ true → Back t n written left

@@ -1,16 +1,15 @@
 -- What the functions under `read_back` answer. Definitions alone.
-use Rattle.std.specs.Prelude.{ℕ}
-use Rattle.promised.specs.declared.Answer as reader
-use Rattle.writer.specs.declared.calls.Answer as writer
-use Rattle.ttml.specs.declared.back.Back as call
+use Rattle.std.specs.Prelude.{Result, Ok, Err, ⊤, ℕ}
+use Rattle.ttml.specs.declared.back.NotBack.{NotBack}
+use Rattle.tree.specs.declared.answers.Refusal.{Refusal}
 
 -- how many bytes are written
-unfoldable pub count_of : writer.Answer → ℕ
-count_of (writer.Answer.Bytes n) = n
-count_of (writer.Answer.Refused r) = 0
+abbrev pub count_of : Result ℕ Refusal → ℕ
+count_of (Ok n) = n
+count_of (Err r) = 0
 
 -- what came of writing and reading
-unfoldable pub outcome_of : writer.Answer → reader.Answer → call.Back
-outcome_of (writer.Answer.Bytes n) reader.Answer.Track = call.Back.Track n
-outcome_of (writer.Answer.Bytes n) (reader.Answer.Refused r) = call.Back.Unread n r
-outcome_of (writer.Answer.Refused r) reading = call.Back.Unwritten r
+abbrev pub outcome_of : Result ℕ Refusal → Result ⊤ Refusal → Result ℕ NotBack
+outcome_of (Ok n) (Ok tt) = Ok n
+outcome_of (Ok n) (Err r) = Err (NotBack.Unread n r)
+outcome_of (Err r) reading = Err (NotBack.Unwritten r)

@@ -1,17 +1,16 @@
 // A track written, and what was written read back.
 ghost use Rattle.std.specs.Prelude.{◌≡◌};
 ghost use Rattle.promised.specs.Promise.{tables};
-ghost use Rattle.track.specs.Tables as track;
+ghost use Rattle.track.specs.Handed.{lists};
 ghost use Rattle.ttml.specs.ReadBack.{Signed, Returned};
 ghost use Rattle.ttml.specs.Steps.{count_of, outcome_of};
 
+use track::Tables;
 use tree::Refusal;
-use writer::Answer;
 
-// So many bytes were written, and their track stands in the tables; or they, or the track that was handed, met a number.
+// Why no track comes back: the bytes that were written, so many, met a number; or the track that was handed did.
 #[derive(Clone, Copy)]
-pub enum Back {
-    Track(usize),
+pub enum NotBack {
     Unread(usize, Refusal),
     Unwritten(Refusal),
 }
@@ -20,49 +19,32 @@ pub enum Back {
 fn all_signed(times: &[i64])
     ensures { Signed times.now }
 {
-    let mut i = 0;
-    while i < times.len() {
+    for i in 0..times.len() {
         let _time = times[i];
-        i += 1;
     }
 }
 
 // How many bytes are written.
-fn count(answer: Answer) -> usize
+fn count(answer: Result<usize, Refusal>) -> usize
     ensures { result ≡ count_of answer }
 {
-    match answer {
-        Answer::Bytes(n) => n,
-        Answer::Refused(_) => 0,
-    }
+    answer.unwrap_or(0)
 }
 
 // What came of writing and reading.
-fn outcome(answer: Answer, read: promised::Answer) -> Back
+fn outcome(answer: Result<usize, Refusal>, read: Result<(), Refusal>) -> Result<usize, NotBack>
     ensures { result ≡ outcome_of answer read }
 {
-    match answer {
-        Answer::Refused(r) => Back::Unwritten(r),
-        Answer::Bytes(n) => match read {
-            promised::Answer::Track => Back::Track(n),
-            promised::Answer::Refused(r) => Back::Unread(n, r),
-        },
+    let n = answer.map_err(NotBack::Unwritten)?;
+    match read {
+        Ok(()) => Ok(n),
+        Err(r) => Err(NotBack::Unread(n, r)),
     }
 }
 
-// The track written to `out`, and that text's track in the tables that are lent.
+// The track written to `out`, how many bytes, and that text's track in the tables that are lent.
 pub fn read_back(
-    head: &[u32],
-    params: &[u32],
-    styles: &[u32],
-    regions: &[u32],
-    cues: &[u32],
-    times: &[i64],
-    segments: &[u32],
-    sizes: &[f32],
-    extras: &[u32],
-    strings: &[u8],
-    texts: &[u8],
+    t: &Tables<'_>,
     out: &mut [u8],
     nodes: &mut [u32],
     attrs: &mut [u32],
@@ -77,11 +59,8 @@ pub fn read_back(
     back_extras: &mut [u32],
     back_strings: &mut [u8],
     back_texts: &mut [u8],
-) -> Back
-    ensures { Returned
-        (track.tables head.now params.now styles.now regions.now cues.now times.now
-        segments.now sizes.now extras.now strings.now texts.now)
-        out.old
+) -> Result<usize, NotBack>
+    ensures { Returned (lists t.now) out.old
         (tables nodes.old attrs.old back_head.old back_params.old back_styles.old
         back_regions.old back_cues.old back_times.old back_segments.old
         back_sizes.old back_extras.old back_strings.old back_texts.old)
@@ -90,10 +69,8 @@ pub fn read_back(
         back_regions.new back_cues.new back_times.new back_segments.new back_sizes.new
         back_extras.new back_strings.new back_texts.new) }
 {
-    all_signed(times);
-    let answer = document::write(
-        head, params, styles, regions, cues, times, segments, sizes, extras, strings, texts, out,
-    );
+    all_signed(t.times);
+    let answer = document::write(t, out);
     // where nothing is written no text is read, which clears every cell
     let n = count(answer);
     let read = reader::parse(

@@ -4,7 +4,7 @@ ghost use Rattle.track.specs.Check.{Checked};
 ghost use Rattle.told.specs.Told.{Tells, check_told};
 
 use told::told;
-use track::Check;
+use track::Tables;
 
 // Is it a track?
 pub fn pg_check_track(
@@ -24,10 +24,21 @@ pub fn pg_check_track(
         (tables head.now params.now styles.now regions.now cues.now times.now
         segments.now sizes.now extras.now strings.now texts.now)) result }
 {
-    match track::check_track(
-        head, params, styles, regions, cues, times, segments, sizes, extras, strings, texts,
-    ) {
-        Check::Track => told(0, 0),
-        Check::Refused(r) => told(r.number, r.place),
+    let t = Tables {
+        head,
+        params,
+        styles,
+        regions,
+        cues,
+        times,
+        segments,
+        sizes,
+        extras,
+        strings,
+        texts,
+    };
+    match track::check_track(&t) {
+        Ok(()) => told(0, 0),
+        Err(r) => told(r.number, r.place),
     }
 }

@@ -7,7 +7,7 @@ mod query;
 mod read;
 mod write;
 
-pub use back::{Back, read_back};
+pub use back::{NotBack, read_back};
 pub use check::pg_check_track;
 pub use parse_xml::pg_parse_xml;
 pub use query::{pg_effective_style_for_cue_index, pg_region_style, pg_resolve_referenced_style};

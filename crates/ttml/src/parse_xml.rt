@@ -3,7 +3,7 @@ ghost use Rattle.xml.specs.Promise.{tables};
 ghost use Rattle.told.specs.Trees.{ReadInC};
 
 use told::{put_counts, told};
-use tree::Answer;
+use tree::TreeSize;
 
 const COUNTS: usize = 2;
 
@@ -26,8 +26,8 @@ pub fn pg_parse_xml(
         return told(1, 0);
     }
     match xml::parse_xml(text, nodes, attrs, strings) {
-        Answer::Refused(r) => told(r.number, r.place),
-        Answer::Tree { nodes: n, attrs: m } => {
+        Err(r) => told(r.number, r.place),
+        Ok(TreeSize { nodes: n, attrs: m }) => {
             put_counts(counts, n, m);
             told(0, 0)
         }

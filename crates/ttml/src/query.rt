@@ -4,6 +4,7 @@ ghost use Rattle.queries.specs.Promise.{ReferencedStyle, RegionStyle, EffectiveS
 ghost use Rattle.told.specs.Queries.{AnswersInC};
 
 use told::tell_style;
+use track::Tables;
 
 // The style that a style value resolves to.
 pub fn pg_resolve_referenced_style(
@@ -29,10 +30,20 @@ pub fn pg_resolve_referenced_style(
         ids.old)
         ids.old ids.new out.old out.new size.old size.new result }
 {
-    let answer = queries::resolve_referenced_style(
-        value, head, params, styles, regions, cues, times, segments, sizes, extras, strings, texts,
-        ids,
-    );
+    let t = Tables {
+        head,
+        params,
+        styles,
+        regions,
+        cues,
+        times,
+        segments,
+        sizes,
+        extras,
+        strings,
+        texts,
+    };
+    let answer = queries::resolve_referenced_style(value, &t, ids);
     tell_style(answer, ids, out, size)
 }
 
@@ -60,10 +71,20 @@ pub fn pg_region_style(
         ids.old)
         ids.old ids.new out.old out.new size.old size.new result }
 {
-    let answer = queries::region_style(
-        id, head, params, styles, regions, cues, times, segments, sizes, extras, strings, texts,
-        ids,
-    );
+    let t = Tables {
+        head,
+        params,
+        styles,
+        regions,
+        cues,
+        times,
+        segments,
+        sizes,
+        extras,
+        strings,
+        texts,
+    };
+    let answer = queries::region_style(id, &t, ids);
     tell_style(answer, ids, out, size)
 }
 
@@ -91,9 +112,19 @@ pub fn pg_effective_style_for_cue_index(
         cue_index ids.old)
         ids.old ids.new out.old out.new size.old size.new result }
 {
-    let answer = queries::effective_style_for_cue_index(
-        head, params, styles, regions, cues, times, segments, sizes, extras, strings, texts,
-        cue_index, ids,
-    );
+    let t = Tables {
+        head,
+        params,
+        styles,
+        regions,
+        cues,
+        times,
+        segments,
+        sizes,
+        extras,
+        strings,
+        texts,
+    };
+    let answer = queries::effective_style_for_cue_index(&t, cue_index, ids);
     tell_style(answer, ids, out, size)
 }

@@ -3,15 +3,15 @@ ghost use Rattle.std.specs.Prelude.{◌≡◌};
 ghost use Rattle.promised.specs.Promise.{tables, Parsed, CueParsed};
 ghost use Rattle.told.specs.Told.{Tells, read_told};
 
-use promised::Answer;
 use told::told;
+use tree::Refusal;
 
-fn tell(answer: Answer) -> u64
+fn tell(answer: Result<(), Refusal>) -> u64
     ensures { result ≡ read_told answer }
 {
     match answer {
-        Answer::Track => told(0, 0),
-        Answer::Refused(r) => told(r.number, r.place),
+        Ok(()) => told(0, 0),
+        Err(r) => told(r.number, r.place),
     }
 }
 

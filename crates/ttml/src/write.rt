@@ -6,14 +6,15 @@ ghost use Rattle.spoken.specs.Promise as spoken;
 ghost use Rattle.told.specs.Told.{Tells, written_told};
 
 use told::told;
-use writer::Answer;
+use track::Tables;
+use tree::Refusal;
 
-fn tell(answer: Answer) -> u64
+fn tell(answer: Result<usize, Refusal>) -> u64
     ensures { result ≡ written_told answer }
 {
     match answer {
-        Answer::Bytes(n) => told(0, n),
-        Answer::Refused(r) => told(r.number, r.place),
+        Ok(n) => told(0, n),
+        Err(r) => told(r.number, r.place),
     }
 }
 
@@ -37,9 +38,20 @@ pub fn pg_write(
         segments.now sizes.now extras.now strings.now texts.now)
         out.old a out.new) result }
 {
-    tell(document::write(
-        head, params, styles, regions, cues, times, segments, sizes, extras, strings, texts, out,
-    ))
+    let t = Tables {
+        head,
+        params,
+        styles,
+        regions,
+        cues,
+        times,
+        segments,
+        sizes,
+        extras,
+        strings,
+        texts,
+    };
+    tell(document::write(&t, out))
 }
 
 // The cue of this index as a text of its own in `out`; how many bytes.
@@ -63,10 +75,20 @@ pub fn pg_cue_to_bytes(
         segments.now sizes.now extras.now strings.now texts.now)
         out.old a out.new) result }
 {
-    tell(writer::cue_to_bytes(
-        head, params, styles, regions, cues, times, segments, sizes, extras, strings, texts, index,
-        out,
-    ))
+    let t = Tables {
+        head,
+        params,
+        styles,
+        regions,
+        cues,
+        times,
+        segments,
+        sizes,
+        extras,
+        strings,
+        texts,
+    };
+    tell(writer::cue_to_bytes(&t, index, out))
 }
 
 // What the cue of this index says, in `out`; how many bytes.
@@ -82,5 +104,11 @@ pub fn pg_plain_text(
         (spoken.tables head.now cues.now segments.now texts.now) index
         out.old a out.new) result }
 {
-    tell(spoken::plain_text(head, cues, segments, texts, index, out))
+    let t = spoken::Tables {
+        head,
+        cues,
+        segments,
+        texts,
+    };
+    tell(spoken::plain_text(&t, index, out))
 }

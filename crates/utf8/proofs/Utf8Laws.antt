@@ -5,10 +5,12 @@ use mathlib.Core.Bool.{Bool, true, false, cond, ◌&&◌, ◌||◌, and-false, a
 use mathlib.Core.List.{List, [], ◌∷◌, ◌++◌, append_assoc, append-nil}
 use native.Mathlib.Omega.{arith}
 use native.Mathlib.Nat.{add-zero, zero-add}
+use native.Mathlib.Numerals.{add-one}
 use lib.ListN.{length, get_or, take, drop, length-append, length-drop, take-append-drop, get_or-append}
-use lib.Seq.{length-take-le, take-length, drop_at, take-add, get_or-take, get_or-drop, get_or-append-add}
+use lib.Seq.{drop-cons, length-take-le, take-length, drop_at, take-add, get_or-take, get_or-drop, get_or-append-add}
 use lib.Dec.{eqb, leb, ltb}
 use borrow.Author.Tests.{ltb-true, ltb-false, leb-true, lt-ltb, le-ltb, le-leb, lt-leb, ne_eqb, eqb-true, eqb-false}
+use Rattle.std.specs.List.{list_all}
 use Rattle.scan.specs.Loop.{halt, more, loop}
 use Rattle.scan.proofs.Every.{by-test}
 use Rattle.scan.proofs.Loop.{loop-out, loop-halt, loop-more, loop-ind, halt-inj, more-inj, halt≢more, more≢halt}
@@ -20,6 +22,13 @@ use Rattle.utf8.specs.Steps.{Bounded, AsciiTo, tails, followed}
 either : {A : Type 0} (a b : Bool) → a || b ≡ true → (a ≡ true → A) → (b ≡ true → A) → A
 either true b h f g = f refl
 either false b h f g = g h
+
+-- ---- a byte of a part that reaches to the text's end, and the last of one from its start
+pub tail-byte : (s : List ℕ) (p k : ℕ) → p + k < length s → get_or (take (length s - p) (drop p s)) k 0 ≡ get_or s (p + k) 0
+tail-byte s p k h = get_or-take (length s - p) (drop p s) k 0 (omega arith) ∙ get_or-drop p s k 0
+
+pub last-byte : (s : List ℕ) (e : ℕ) → 0 < e → e ≤ length s → get_or (take e s) (length (take e s) - 1) 0 ≡ get_or s (e - 1) 0
+last-byte s e h l = rw (length-take-le e s l) (get_or-take e s (e - 1) 0 (omega arith))
 
 -- ---- a byte in a range
 pub in_range : (b low high : ℕ) → low ≤ b → b ≤ high → within b (low to high) ≡ true
@@ -419,12 +428,24 @@ module _ (s : List ℕ) (p width low high : ℕ) where
       let z : p + 1 + 1 ≡ p + 2 = omega arith in
       rw (fits_in s (p + 1) (low to high) (tails (width - 2)) h (in_range (get_or s (p + 1) 0) low high g k), z)
 
-module _ (s : List ℕ) (p width i : ℕ) where
-  pub rest-not : i < width → within (get_or s (p + i) 0) (0x80 to 0xBF) ≡ false → cond (fits_at s (p + i) (tails (width - i))) width 0 ≡ 0
-  rest-not l g =
-      let z : width - i ≡ suc (width - (i + 1)) = omega arith in
-      rw (z, fits_not s (p + i) (0x80 to 0xBF) (tails (width - (i + 1))) g)
+-- the bytes after the second, as std's test of them all tells
+tails-all : (s : List ℕ) (q n : ℕ) → q + n ≤ length s → fits_at s q (tails n) ≡ list_all (λ b. leb 0x80 b && leb b 0xBF) (take n (drop q s))
+unfolding fits_at
+tails-all s q zero h = refl
+tails-all s q (suc n) h =
+    let l : q < length s = omega arith in
+    rw (lt-ltb q (length s) l, drop-cons s q 0 l, tails-all s (q + 1) n (omega arith), add-one q)
 
+module _ (s : List ℕ) (p width low high : ℕ) (w : 2 ≤ width) (l : width ≤ length s - p) (b : (leb low (get_or s (p + 1) 0) && leb (get_or s (p + 1) 0) high) ≡ true)
+    (rest : Bool) (e : rest ≡ list_all (λ b. leb 0x80 b && leb b 0xBF) (take (p + width - (p + 2)) (drop (p + 2) s)))
+  where
+    pub followed-rest : followed s p width low high ≡ cond rest width 0
+    followed-rest =
+        let n : p + width - (p + 2) ≡ width - 2 = omega arith in
+        followed-in s p width low high (omega arith) (range_low (get_or s (p + 1) 0) low high b) (range_high (get_or s (p + 1) 0) low high b)
+        ∙ rw (tails-all s (p + 2) (width - 2) (omega arith), ← n, ← e)
+
+module _ (s : List ℕ) (p width i : ℕ) where
   pub rest_in : i < width → p + i < length s → 0x80 ≤ get_or s (p + i) 0 → get_or s (p + i) 0 ≤ 0xBF
       → cond (fits_at s (p + i) (tails (width - i))) width 0 ≡ cond (fits_at s (p + (i + 1)) (tails (width - (i + 1)))) width 0
   rest_in l h g k =

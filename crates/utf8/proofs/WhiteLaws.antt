@@ -5,11 +5,12 @@ use mathlib.Core.Bool.{Bool, true, false, cond, ◌&&◌, true≢false}
 use mathlib.Core.List.{List, [], ◌∷◌, ◌++◌, append_assoc, append-nil}
 use native.Mathlib.Omega.{arith}
 use native.Mathlib.Nat.{sub-zero, zero-sub, suc-sub-suc}
-use native.Mathlib.Numerals.{add-one}
-use lib.ListN.{length, get_or, drop, drop_of_length-le}
-use lib.Seq.{drop-cons, take-length}
+use lib.ListN.{length, get_or}
+use lib.Seq.{take-length}
 use lib.Dec.{eqb, leb, ltb}
 use borrow.Author.Tests.{eqb-true, eqb-false, leb-true, leb-false, ltb-true, ltb-false, lt-ltb, le-ltb, eq-eqb, ne_eqb, le-leb, lt-leb}
+use Rattle.std.specs.Prelude.{nat_eq}
+use Rattle.std.specs.List.{list_any}
 use Rattle.scan.specs.Loop.{Next, halt, more, loop}
 use Rattle.scan.specs.Part.{part}
 use Rattle.scan.proofs.Loop.{loop-out, loop-halt, loop-more}
@@ -21,19 +22,12 @@ use Rattle.utf8.specs.Steps.{white_at, ends_with, white_before, white_turn, whit
 use Rattle.utf8.specs.Steps.{words_from}
 use Rattle.utf8.specs.White.{trimmed}
 
--- ---- a number in a list, from its j-th on
-module _ (b : ℕ) (cs : List ℕ) (j : ℕ) where
-  pub is_among-here : j < length cs → get_or cs j 0 ≡ b → is_among b (drop j cs) ≡ true
-  unfolding is_among
-  is_among-here h e = rw (drop-cons cs j 0 h, eq-eqb b (get_or cs j 0) (sym e))
-
-  pub is_among-on : j < length cs → (get_or cs j 0 ≡ b → ⊥) → is_among b (drop j cs) ≡ is_among b (drop (j + 1) cs)
-  unfolding is_among
-  is_among-on h e = rw (add-one j, drop-cons cs j 0 h, ne_eqb b (get_or cs j 0) (λ w. e (sym w)))
-
-  pub is_among-none : length cs ≤ j → is_among b (drop j cs) ≡ false
-  unfolding is_among
-  is_among-none h = rw (drop_of_length-le cs h)
+-- ---- a number in a list, as std's test tells
+pub among : (b : ℕ) (cs : List ℕ) → list_any (λ c. nat_eq c b) cs ≡ is_among b cs
+unfolding is_among
+among b [] = refl
+among b (c ∷ cs) =
+    by-test (eqb b c) (λ e. rw (e, eq-eqb c b (sym (eqb-true b c e)))) (λ e. rw (e, ne_eqb c b (λ z. eqb-false b c e (sym z)), among b cs))
 
 -- no number of a list stands between two
 abbrev apart : ℕ → ℕ → List ℕ → Bool

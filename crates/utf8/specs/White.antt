@@ -1,11 +1,10 @@
 -- `trimmed` and `words` as functions, and what `trim` and `next_word` ensure. Definitions alone. What the two are is said in WhiteSpace.antt, by
 -- `Trims` and `Splits`; that they are it, and nothing else is, is proved for every list of bytes: `trimmed-is`, `trimmed-only` (proofs/Trimming),
 -- `words_are`, `words-only` (proofs/Wording).
-use Rattle.std.specs.Prelude.{ℕ, ◌≤◌, ◌<◌, max, ◌≡◌, List, [], ◌∷◌, ◌++◌, length, drop}
+use Rattle.std.specs.Prelude.{Option, Some, None, ℕ, ◌≤◌, ◌<◌, max, ◌≡◌, List, [], ◌∷◌, ◌++◌, length, drop}
 use Rattle.scan.specs.Part.{part}
-use Rattle.utf8.specs.declared.white.Word.{Word}
-use Rattle.utf8.specs.declared.white.Word.TheVariants.{At, Nothing}
 use Rattle.utf8.specs.WhiteSpace.{WhiteSpace, Trims, Bare, Parted}
+use Rattle.utf8.specs.declared.white.Span.{Span}
 unfoldable pub use Rattle.utf8.specs.WhiteSpace.{is_among, is_white}
 unfoldable pub use Rattle.utf8.specs.Steps.{white_at, ends_with, white_before, white_end, white_back, white_start, word_end_of, words_from}
 
@@ -41,6 +40,6 @@ pub record WordAt (s : List ℕ) (p a e : ℕ) : Type 0 where
   pub parted : Parted (drop e s)
   pub next : (ws : List (List ℕ)) → words_from s p ws ≡ words_from s e (ws ++ (part a e s ∷ []))
 
-abbrev pub NextWord : List ℕ → ℕ → Word → Type 0
-NextWord s p (At w) = WordAt s p w.start w.end
-NextWord s p Nothing = (ws : List (List ℕ)) → words_from s p ws ≡ ws
+abbrev pub NextWord : List ℕ → ℕ → Option Span → Type 0
+NextWord s p (Some w) = WordAt s p w.start w.end
+NextWord s p None = (ws : List (List ℕ)) → words_from s p ws ≡ ws

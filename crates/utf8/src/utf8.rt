@@ -1,35 +1,31 @@
 // UTF-8: well-formed sequences of bytes, where the longest valid beginning of a text ends, and a
 // character's bytes.
-ghost use Rattle.std.specs.Prelude.{◌≡◌, ◌+◌, ◌≤◌, ◌<◌, length};
+ghost use Rattle.std.specs.Prelude.{◌≡◌, ◌&&◌, ◌+◌, ◌%◌, ◌≤◌, ◌<◌, length, leb};
+ghost use Rattle.std.specs.List.{list_all};
 ghost use Rattle.scan.specs.Posts.{Appended};
 ghost use Rattle.utf8.specs.Utf8.{boundary, Sequence, char_at, encode, LongestValid};
 ghost use Rattle.utf8.specs.Steps.{followed, Bounded, AsciiTo};
+
+// Do all of them go on with a character?
+fn all_go_on(bytes: &[u8]) -> bool
+    ensures { result ≡ list_all (λ b. leb 0x80 b && leb b 0xBF) bytes.now }
+{
+    bytes.iter().all(|b| matches!(b, 0x80..=0xBF))
+}
 
 // The width, where the second byte lies from low to high and those after it from 0x80 to 0xBF; or 0.
 fn follow(src: &[u8], pos: usize, width: usize, low: u8, high: u8) -> usize
     requires { (pos < length src.now) × (2 ≤ width) × (width ≤ 4) }
     ensures { result ≡ followed src.now pos width low high }
 {
-    if src.len() - pos < width {
-        return 0;
+    if width <= src.len() - pos
+        && (low..=high).contains(&src[pos + 1])
+        && all_go_on(&src[pos + 2..pos + width])
+    {
+        width
+    } else {
+        0
     }
-    if src[pos + 1] < low {
-        return 0;
-    }
-    if high < src[pos + 1] {
-        return 0;
-    }
-    let mut i = 2;
-    while i < width {
-        if src[pos + i] < 0x80 {
-            return 0;
-        }
-        if 0xBF < src[pos + i] {
-            return 0;
-        }
-        i += 1;
-    }
-    width
 }
 
 // How many bytes the well-formed sequence at the place has; 0 where none stands there.
@@ -37,8 +33,7 @@ pub fn sequence_at(src: &[u8], pos: usize) -> usize
     requires { pos < length src.now }
     ensures { Sequence src.now pos result }
 {
-    let lead = src[pos];
-    match lead {
+    match src[pos] {
         0..=0x7F => 1,
         0xC2..=0xDF => follow(src, pos, 2, 0x80, 0xBF),
         0xE0 => follow(src, pos, 3, 0xA0, 0xBF),
@@ -52,23 +47,18 @@ pub fn sequence_at(src: &[u8], pos: usize) -> usize
     }
 }
 
-// The same, by a look at the two commonest rows first; the others are given a part of the text of
-// their own, so that this one stays in registers.
+// The same, by a look at the two commonest rows first (as patterns they take more tests); the others
+// are given a part of the text of their own, so that this one stays in registers.
 fn next_sequence(src: &[u8], pos: usize) -> usize
     requires { pos < length src.now }
     ensures { Sequence src.now pos result }
 {
-    if 3 <= src.len() - pos {
-        let lead = src[pos];
-        let second = src[pos + 1];
-        let third = src[pos + 2];
-        if 0x80 <= second && second <= 0xBF {
-            if 0xC2 <= lead && lead <= 0xDF {
-                return 2;
-            }
-            if 0xE1 <= lead && lead <= 0xEC && 0x80 <= third && third <= 0xBF {
-                return 3;
-            }
+    if let &[lead, 0x80..=0xBF, third, ..] = &src[pos..] {
+        if 0xC2 <= lead && lead <= 0xDF {
+            return 2;
+        }
+        if 0xE1 <= lead && lead <= 0xEC && 0x80 <= third && third <= 0xBF {
+            return 3;
         }
     }
     sequence_at(&src[0..], pos)
@@ -81,13 +71,8 @@ fn largest(src: &[u8], pos: usize) -> u8
     ensures { Bounded src.now pos (pos + 64) result }
 {
     let mut most = 0;
-    let mut i = 0;
-    while i < 64 {
-        let b = src[pos + i];
-        if most < b {
-            most = b;
-        }
-        i += 1;
+    for i in 0..64 {
+        most = most.max(src[pos + i]);
     }
     most
 }
@@ -109,21 +94,20 @@ fn ascii_blocks(src: &[u8], pos: usize) -> usize
 
 // A place up to which the bytes from the place on are ASCII: where they end, or after blocks, which
 // are looked at once 16 bytes have been passed. Short runs are the rule between other characters.
+#[tactic(auto, using(crate::proofs::Utf8Laws::bounded_more, crate::proofs::Utf8Laws::bounded_join))]
 fn ascii_end(src: &[u8], pos: usize) -> usize
     requires { pos ≤ length src.now }
     ensures { AsciiTo src.now pos result }
 {
-    let mut i = pos;
-    while i < src.len() {
+    for i in pos..src.len() {
         if 0x7F < src[i] {
             return i;
         }
         if 16 <= i - pos {
             return ascii_blocks(src, i);
         }
-        i += 1;
     }
-    i
+    src.len()
 }
 
 // Where the longest valid beginning of the text ends.
@@ -145,25 +129,33 @@ pub fn utf8_end(src: &[u8]) -> usize
     i
 }
 
+// What a byte after the first adds to a code point.
+fn low_bits(b: u8) -> u32
+    ensures { result ≡ b % 64 }
+{
+    u32::from(b % 64)
+}
+
 // The code point of the well-formed sequence, of the given width, at the place.
+#[tactic(auto, unfolding(crate::specs::Utf8::char_at))]
 pub fn char_at(src: &[u8], pos: usize, width: usize) -> u32
     requires { (0 < width) × (width ≤ 4) × (pos + width ≤ length src.now) }
     ensures { result ≡ char_at src.now pos width }
 {
-    let a = src[pos] as u32;
-    if width == 1 {
-        return a;
+    let a = u32::from(src[pos]);
+    match width {
+        1 => a,
+        2 => a % 32 * 64 + low_bits(src[pos + 1]),
+        3 => a % 16 * 4096 + low_bits(src[pos + 1]) * 64 + low_bits(src[pos + 2]),
+        _ => {
+            let (b, c, d) = (
+                low_bits(src[pos + 1]),
+                low_bits(src[pos + 2]),
+                low_bits(src[pos + 3]),
+            );
+            a % 8 * 262144 + b * 4096 + c * 64 + d
+        }
     }
-    let b = (src[pos + 1] % 64) as u32;
-    if width == 2 {
-        return a % 32 * 64 + b;
-    }
-    let c = (src[pos + 2] % 64) as u32;
-    if width == 3 {
-        return a % 16 * 4096 + b * 64 + c;
-    }
-    let d = (src[pos + 3] % 64) as u32;
-    a % 8 * 262144 + b * 4096 + c * 64 + d
 }
 
 // The character's bytes written at a place; the answer is the place after them.
@@ -171,26 +163,30 @@ pub fn put_char(c: u32, out: &mut [u8], at: usize) -> usize
     requires { (c < 1114112) × (at + length (encode c) ≤ length out.old) }
     ensures { Appended (encode c) at out.old out.new result }
 {
-    if c < 0x80 {
-        out[at] = c as u8;
-        return at + 1;
+    match c {
+        0..=0x7F => {
+            out[at] = c as u8;
+            at + 1
+        }
+        0x80..=0x7FF => {
+            out[at] = (0xC0 + c / 64) as u8;
+            out[at + 1] = (0x80 + c % 64) as u8;
+            at + 2
+        }
+        0x800..=0xFFFF => {
+            out[at] = (0xE0 + c / 4096) as u8;
+            out[at + 1] = (0x80 + c / 64 % 64) as u8;
+            out[at + 2] = (0x80 + c % 64) as u8;
+            at + 3
+        }
+        _ => {
+            out[at] = (0xF0 + c / 262144) as u8;
+            out[at + 1] = (0x80 + c / 4096 % 64) as u8;
+            out[at + 2] = (0x80 + c / 64 % 64) as u8;
+            out[at + 3] = (0x80 + c % 64) as u8;
+            at + 4
+        }
     }
-    if c < 0x800 {
-        out[at] = (0xC0 + c / 64) as u8;
-        out[at + 1] = (0x80 + c % 64) as u8;
-        return at + 2;
-    }
-    if c < 0x10000 {
-        out[at] = (0xE0 + c / 4096) as u8;
-        out[at + 1] = (0x80 + c / 64 % 64) as u8;
-        out[at + 2] = (0x80 + c % 64) as u8;
-        return at + 3;
-    }
-    out[at] = (0xF0 + c / 262144) as u8;
-    out[at + 1] = (0x80 + c / 4096 % 64) as u8;
-    out[at + 2] = (0x80 + c / 64 % 64) as u8;
-    out[at + 3] = (0x80 + c % 64) as u8;
-    at + 4
 }
 
 // Does a character start, or the text end, at the place?
@@ -198,14 +194,5 @@ pub fn is_boundary(text: &[u8], at: usize) -> bool
     requires { at ≤ length text.now }
     ensures { result ≡ boundary text.now at }
 {
-    if at == 0 {
-        return true;
-    }
-    if text.len() <= at {
-        return at == text.len();
-    }
-    match text[at] {
-        0x80..=0xBF => false,
-        _ => true,
-    }
+    at == 0 || at == text.len() || !matches!(text[at], 0x80..=0xBF)
 }

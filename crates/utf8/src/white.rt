@@ -1,6 +1,7 @@
 // White space as Unicode has it (the property White_Space), which Rust's `trim` and
 // `split_whitespace` go by.
-ghost use Rattle.std.specs.Prelude.{◌≡◌, ◌≤◌, ◌<◌, length};
+ghost use Rattle.std.specs.Prelude.{◌≡◌, ◌==◌, ◌≤◌, ◌<◌, length};
+ghost use Rattle.std.specs.List.{list_any};
 ghost use Rattle.utf8.specs.WhiteSpace.{is_white};
 ghost use Rattle.utf8.specs.Steps.{WhiteAt, WhiteBefore, WhiteEnd, white_start, word_end_of};
 ghost use Rattle.utf8.specs.White.{Trimmed, NextWord};
@@ -18,23 +19,17 @@ pub struct Span {
     pub end: usize,
 }
 
-#[derive(Clone, Copy)]
-pub enum Word {
-    At(Span),
-    Nothing,
+// Is it one of the set? std's `contains` takes longer: of a table that is known, this leaves a few comparisons.
+fn is_among(c: u32, set: &[u32]) -> bool
+    ensures { result ≡ list_any (λ one. one == c) set.now }
+{
+    set.iter().any(|one| *one == c)
 }
 
 fn is_white(c: u32) -> bool
     ensures { result ≡ is_white c }
 {
-    let mut i = 0;
-    while i < 25 {
-        if WHITE_SPACE[i] == c {
-            return true;
-        }
-        i += 1;
-    }
-    false
+    is_among(c, &WHITE_SPACE)
 }
 
 // How many bytes the white-space character at the place has; 0 where none stands there.
@@ -43,10 +38,7 @@ fn any_white_at(src: &[u8], pos: usize) -> usize
     ensures { WhiteAt src.now pos result }
 {
     let width = crate::utf8::sequence_at(src, pos);
-    if width == 0 {
-        return 0;
-    }
-    if is_white(crate::utf8::char_at(src, pos, width)) {
+    if width != 0 && is_white(crate::utf8::char_at(src, pos, width)) {
         width
     } else {
         0
@@ -54,20 +46,20 @@ fn any_white_at(src: &[u8], pos: usize) -> usize
 }
 
 // The same. The visible ASCII characters, which are by far the commonest, and the space are answered
-// from their byte; the others are given a part of the text of their own, so that this one stays in
-// registers.
+// from their byte (a `match` would test for the space first); the others are given a part of the text
+// of their own, so that this one stays in registers.
 pub fn white_at(src: &[u8], pos: usize) -> usize
     requires { pos < length src.now }
     ensures { WhiteAt src.now pos result }
 {
     let lead = src[pos];
     if 0x20 < lead && lead < 0x80 {
-        return 0;
+        0
+    } else if lead == b' ' {
+        1
+    } else {
+        any_white_at(&src[0..], pos)
     }
-    if lead == 0x20 {
-        return 1;
-    }
-    any_white_at(&src[0..], pos)
 }
 
 // How many bytes the white-space character that ends at the place has; 0 where none ends there.
@@ -75,25 +67,22 @@ fn white_before(src: &[u8], end: usize) -> usize
     requires { end ≤ length src.now }
     ensures { WhiteBefore src.now end result }
 {
-    // a visible ASCII character ends no white space
-    if 0 < end {
-        let last = src[end - 1];
+    if let &[.., last] = &src[..end] {
+        // a visible ASCII character ends no white space
         if 0x20 < last && last < 0x80 {
             return 0;
         }
-        if last == 0x20 {
+        if last == b' ' {
             return 1;
         }
     }
-    let mut k = 1;
-    while k < 5 {
+    for k in 1..5 {
         if end < k {
             return 0;
         }
         if any_white_at(&src[0..], end - k) == k {
             return k;
         }
-        k += 1;
     }
     0
 }
@@ -135,10 +124,10 @@ pub fn trim_white(src: &[u8]) -> Span
 {
     let start = white_end(src, 0);
     let end = white_start(src);
-    if end < start {
-        return Span { start, end: start };
+    Span {
+        start,
+        end: end.max(start),
     }
-    Span { start, end }
 }
 
 // The same. Most texts have a visible ASCII character at both ends; any other is handed on as a part of its own, so that this one stays in
@@ -146,15 +135,13 @@ pub fn trim_white(src: &[u8]) -> Span
 pub fn trim(src: &[u8]) -> Span
     ensures { Trimmed src.now result.start result.end }
 {
-    let end = src.len();
-    if 0 < end {
-        let first = src[0];
-        let last = src[end - 1];
-        if 0x20 < first && first < 0x80 && 0x20 < last && last < 0x80 {
-            return Span { start: 0, end };
-        }
+    match src {
+        [0x21..=0x7F] | [0x21..=0x7F, .., 0x21..=0x7F] => Span {
+            start: 0,
+            end: src.len(),
+        },
+        _ => trim_white(&src[0..]),
     }
-    trim_white(&src[0..])
 }
 
 // Where the word at the place ends: before the next white space.
@@ -162,25 +149,23 @@ fn word_end(src: &[u8], pos: usize) -> usize
     requires { pos ≤ length src.now }
     ensures { (result ≡ word_end_of src.now pos) × (pos ≤ result) × (result ≤ length src.now) }
 {
-    let mut i = pos;
-    while i < src.len() {
+    for i in pos..src.len() {
         if white_at(src, i) != 0 {
             return i;
         }
-        i += 1;
     }
-    i
+    src.len()
 }
 
 // The next word from the place on. Words are what white space parts.
-pub fn next_word(src: &[u8], pos: usize) -> Word
+pub fn next_word(src: &[u8], pos: usize) -> Option<Span>
     requires { pos ≤ length src.now }
     ensures { NextWord src.now pos result }
 {
     let start = white_end(src, pos);
     if src.len() <= start {
-        return Word::Nothing;
+        return None;
     }
     let end = word_end(src, start);
-    Word::At(Span { start, end })
+    Some(Span { start, end })
 }

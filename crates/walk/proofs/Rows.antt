@@ -2,12 +2,13 @@
 --     own-text, own-break, own-none         the text of a row by its kind
 --     rows_split, rows-first, rows_last     rows one after the other
 --     Flat, flat                            the text of segments is that of their rows, whatever is nested
---     within-other, within-far, within-near, within-sum     a row whose text is within the table
---     rows-from, text-row, all_within                       and rows
+--     within-near, within-sum                               a row whose text is within the table
+--     rows-from, text-row, all_within, next-within          and rows
 --     Writing, writing_start, writing_step, writing_full, writing_done           what the program has written so far, and how it goes on
+use Rattle.std.specs.Prelude.{None}
 use Prim.Native.Nat.{ℕ, zero, suc, ◌+◌, ◌-◌, ◌*◌, ◌≤◌, ◌<◌}
 use mathlib.Core.Path.{◌≡◌, refl, sym, ap, ◌∙◌}
-use mathlib.Core.Bool.{Bool, true, false, and-eq-true_iff}
+use mathlib.Core.Bool.{Bool, true, and-eq-true_iff}
 use mathlib.Core.List.{List, [], ◌∷◌, ◌++◌, append_assoc, append-nil}
 use native.Mathlib.Omega.{arith}
 use native.Mathlib.Nat.{add-zero}
@@ -16,7 +17,6 @@ use lib.Dec.{eqb, ltb, leb}
 use borrow.Author.Tests.{le-leb, lt-leb, leb-true, leb-false, eq-eqb, ne_eqb, eqb-true, eqb-false, ltb-true, ltb-false}
 use Rattle.scan.specs.Part.{string_at}
 use Rattle.scan.specs.Posts.{Appended, Wrote, WroteInPart}
-use Rattle.scan.specs.declared.table.Written.TheVariants.{Full}
 use Rattle.scan.proofs.Every.{by-test}
 use Rattle.scan.proofs.Stores.{appended_on, appended_kept, in_part, wrote_on, wrote_full}
 use Rattle.track.specs.Tables.{cell, segment_at, segments_at}
@@ -125,17 +125,10 @@ module _ (t z y : List ℕ) where
 
 -- ---- rows whose texts are within the table
 module _ (t : List ℕ) (i : ℕ) where
-  pub within-other : (get_or t (i * 6) 0 ≡ 1 → ⊥) → row_within_of t i ≡ true
-  unfolding row_within_of cell
-  within-other e = rw (add-zero (i * 6), ne_eqb (get_or t (i * 6) 0) 1 e)
-
   module _ (e : get_or t (i * 6) 0 ≡ 1) (p n : ℕ) (a : p ≡ get_or t (i * 6 + 2) 0) (b : n ≡ get_or t (i * 6 + 3) 0) where
     is-text : row_within_of t i ≡ leb (p + n) 65536
     unfolding row_within_of cell
     is-text = rw (add-zero (i * 6), eq-eqb (get_or t (i * 6) 0) 1 e, a, b)
-
-    pub within-far : 65536 < p → row_within_of t i ≡ false
-    within-far h = is-text ∙ lt-leb (p + n) 65536 (omega (arith, h))
 
     pub within-near : p ≤ 65536 → leb n (65536 - p) ≡ row_within_of t i
     within-near h =
@@ -166,6 +159,12 @@ all_within t (suc n) i h =
     (and-eq-true_iff (row_within_of t i) (all_rows (row_within_of t) n (i + 1))).1
     (h i (omega arith) (omega arith), all_within t n (i + 1) (λ j a b. h j (omega arith) (omega arith)))
 
+-- one of such rows
+pub next-within : (t : List ℕ) (n from i : ℕ) → from ≤ i → i < from + n → all_rows (row_within_of t) n from ≡ true → row_within_of t i ≡ true
+next-within t n from i l h w =
+    let e : from + (i - from) ≡ i = omega arith in
+    rw e at (all_row (row_within_of t) n from (i - from) w (omega arith))
+
 -- ---- what is written so far: of the n rows from row `from` on those before row i, from a place of the table o on up to `to`
 pub record Writing (t y : List ℕ) (from n at : ℕ) (o : List ℕ) (i to : ℕ) (o' : List ℕ) : Type 0 where
   pub after : from ≤ i
@@ -188,11 +187,6 @@ module _ (t y : List ℕ) (from n at : ℕ) (o : List ℕ) where
 
     -- the next row
     module _ (h : i < from + n) where
-      pub next-within : all_rows (row_within_of t) n from ≡ true → row_within_of t i ≡ true
-      next-within a =
-          let e : from + (i - from) ≡ i = omega (arith, g.after) in
-          rw e at (all_row (row_within_of t) n from (i - from) a (omega (arith, g.after)))
-
       pub writing_step : (k : ℕ) (o'' : List ℕ) → Appended (row_text y t i) to o' o'' k → Writing t y from n at o (i + 1) k o''
       writing_step k o'' a = record {
         after = omega (arith, g.after);
@@ -203,7 +197,7 @@ module _ (t y : List ℕ) (from n at : ℕ) (o : List ℕ) where
       }
 
       -- its text does not fit
-      pub writing_full : (o'' : List ℕ) → Wrote (row_text y t i) to o' o'' Full → WroteInPart (rows_text y t n from) at o o'' Full
+      pub writing_full : (o'' : List ℕ) → Wrote (row_text y t i) to o' o'' None → WroteInPart (rows_text y t n from) at o o'' None
       writing_full o'' w =
           let rest = rows_text y t (n - (i - from) - 1) (i + 1) in
           let q : n ≡ i - from + (n - (i - from)) = omega (arith, g.after) in
@@ -211,6 +205,6 @@ module _ (t y : List ℕ) (from n at : ℕ) (o : List ℕ) where
           let s : rows_text y t n from ≡ rows_text y t (i - from) from ++ (row_text y t i ++ rest) =
           ap (λ (k : ℕ). rows_text y t k from) q ∙ (rows_split y t (i - from) (n - (i - from)) from
           ∙ rw e (ap (λ (l : List ℕ). rows_text y t (i - from) from ++ l) (rows-first y t (n - (i - from)) i (omega (arith, g.after))))) in
-          let own : WroteInPart (row_text y t i) to o' o'' Full = in_part (row_text y t i) to o' o'' Full g.fits w in
-          rw s (wrote_on (rows_text y t (i - from) from) (row_text y t i ++ rest) at o o' to o'' Full g.written
+          let own : WroteInPart (row_text y t i) to o' o'' None = in_part (row_text y t i) to o' o'' None g.fits w in
+          rw s (wrote_on (rows_text y t (i - from) from) (row_text y t i ++ rest) at o o' to o'' None g.written
           (wrote_full (row_text y t i) rest to o' o'' own))

@@ -1,29 +1,26 @@
 #![tactic(auto)]
 // A cue's text, row by row: what stands inside a wrapper has rows of its own, directly after it.
-ghost use Rattle.std.specs.Prelude.{◌≡◌, true, ◌+◌, ◌*◌, ◌≤◌, length};
+mod text_rows;
+
+ghost use Rattle.std.specs.Prelude.{◌≡◌, ◌+◌, ◌*◌, ◌≤◌, ◌<◌, length};
 ghost use Rattle.scan.specs.Posts.{Wrote, WroteInPart};
 ghost use Rattle.track.specs.Meaning.{all_rows};
 ghost use Rattle.walk.specs.Text.{row_text, rows_text, row_within_of};
 
-use scan::Written;
+pub use text_rows::TextRows;
 use track::{BREAK, SEGMENT_CELLS, TEXT};
 use tree::BYTES;
 
 // Row i, if it is a text, has its bytes within the table of texts.
+#[tactic(auto, unfolding(crate::specs::Text::row_within_of, track::specs::Tables::cell))]
 fn row_within(segments: &[u32], i: usize) -> bool
     requires { i * 6 + 6 ≤ length segments.now }
     ensures { result ≡ row_within_of segments.now i }
 {
     let row = i * SEGMENT_CELLS;
-    if segments[row] != TEXT {
-        return true;
-    }
     let place = scan::get(segments, row + 2);
     let len = scan::get(segments, row + 3);
-    if BYTES < place {
-        return false;
-    }
-    len <= BYTES - place
+    segments[row] != TEXT || place <= BYTES && len <= BYTES - place
 }
 
 // So have the n rows from row `from` on.
@@ -31,62 +28,39 @@ pub fn rows_within(segments: &[u32], from: usize, n: usize) -> bool
     requires { (from + n) * 6 ≤ length segments.now }
     ensures { result ≡ all_rows (row_within_of segments.now) n from }
 {
-    let end = from + n;
-    let mut i = from;
-    while i < end {
+    for i in from..from + n {
         if !row_within(segments, i) {
             return false;
         }
-        i += 1;
     }
     true
 }
 
 // The text of row i by itself: its bytes, or a line feed for a break; wrappers and timestamps have none.
-fn row_text(segments: &[u32], texts: &[u8], i: usize, out: &mut [u8], at: usize) -> Written
-    requires { (i * 6 + 6 ≤ length segments.now) × (row_within_of segments.now i ≡ true) × (65536 ≤ length texts.now)
-        × (at ≤ length out.old) }
-    ensures { Wrote (row_text texts.now segments.now i) at out.old out.new result }
+fn row_text(rows: &TextRows<'_>, i: usize, out: &mut [u8], at: usize) -> Option<usize>
+    requires { (rows.now.first ≤ i) × (i < rows.now.first + rows.now.many) × (at ≤ length out.old) }
+    ensures { Wrote (row_text rows.now.texts.now rows.now.segments.now i) at out.old out.new result }
 {
     let row = i * SEGMENT_CELLS;
-    let kind = segments[row];
-    if kind == TEXT {
-        let start = scan::get(segments, row + 2);
-        let end = start + scan::get(segments, row + 3);
-        return scan::append(out, at, &texts[start..end]);
+    match rows.segments[row] {
+        TEXT => {
+            let start = scan::get(rows.segments, row + 2);
+            let end = start + scan::get(rows.segments, row + 3);
+            scan::append(out, at, &rows.texts[start..end])
+        }
+        BREAK => scan::append(out, at, b"\n"),
+        _ => Some(at),
     }
-    if kind == BREAK {
-        return scan::append(out, at, b"\n");
-    }
-    Written::At(at)
 }
 
-// The text of the n rows from row `from` on, written at a place; or it does not fit.
-pub fn plain_text(
-    segments: &[u32],
-    texts: &[u8],
-    from: usize,
-    n: usize,
-    out: &mut [u8],
-    at: usize,
-) -> Written
-    requires { ((from + n) * 6 ≤ length segments.now) × (all_rows (row_within_of segments.now) n from ≡ true) × (65536 ≤ length texts.now)
-        × (at ≤ length out.old) }
-    ensures { WroteInPart (rows_text texts.now segments.now n from) at out.old out.new result }
+// The text of the rows, written at a place; or it does not fit.
+pub fn plain_text(rows: &TextRows<'_>, out: &mut [u8], at: usize) -> Option<usize>
+    requires { at ≤ length out.old }
+    ensures { WroteInPart (rows_text rows.now.texts.now rows.now.segments.now rows.now.many rows.now.first) at out.old out.new result }
 {
-    let end = from + n;
-    let mut i = from;
     let mut to = at;
-    while i < end {
-        match row_text(segments, texts, i, out, to) {
-            Written::Full => {
-                return Written::Full;
-            }
-            Written::At(next) => {
-                to = next;
-            }
-        }
-        i += 1;
+    for i in rows.first..rows.first + rows.many {
+        to = row_text(rows, i, out, to)?;
     }
-    Written::At(to)
+    Some(to)
 }

@@ -4,9 +4,9 @@
 --     head_asks, heads_no, body_asks, body_no   its head and its body, as they are asked for; refused
 --     HeadBlank, BodyBlank, cleared-as          what they have written is cleared
 --     whole-asks, content_laid                  all of it
+use Rattle.std.specs.Prelude.{Some, None, Result, Ok, Err}
 use Prim.Native.Nat.{ℕ, ◌+◌, ◌≤◌}
 use mathlib.Core.Path.{◌≡◌, refl, sym, ap, subst, ◌∙◌}
-use mathlib.Core.Bool.{true, false}
 use mathlib.Core.List.{List, []}
 use native.Mathlib.Omega.{arith}
 use lib.IntN.{ℤ, pos}
@@ -39,36 +39,33 @@ use Rattle.laid.specs.Laid.{laid_param, laid_of, style_extras, region_extras}
 use Rattle.laid.proofs.Fitting.{styles_many, regions_many, cues_many, segments_many}
 use Rattle.styling.specs.declared.space.WsMode.{WsMode}
 use Rattle.xml.specs.declared.find.Attribute.{Attribute}
-use Rattle.xml.specs.declared.find.Value.{Value}
 use Rattle.styling.specs.Posts.{space_in, turned, FoundFits}
 use Rattle.extras.specs.Counts.{attrs_named}
 use Rattle.extras.proofs.Counts.{attrs-apart}
 use Rattle.inline.specs.Stood.{span_in}
 use Rattle.params.specs.Named.{found_in}
 use Rattle.heads.specs.declared.collect.Heads.{Heads}
-use Rattle.heads.specs.declared.collect.Heading.{Heading}
 use Rattle.heads.specs.Steps.{Children, four, Cleared, AsksHead, Headed, HeadPost, inside_head, in_head_of}
 use Rattle.heads.proofs.Joining.{head_stops, apart_of}
 use Rattle.promised.proofs.Promises.{RestZero}
 use Rattle.cues.specs.declared.lines.Line.{Line}
-use Rattle.cues.specs.declared.lines.Lining.{Lining}
 use Rattle.cues.specs.Steps.{CueTables, five, Spacious, Base, Lined, no_line, Bodies, AsksBody, Bodied, BodyPost}
 use Rattle.cues.specs.Elements.{Elem, element_in}
 use Rattle.cues.proofs.Blanks.{filled-from, Blank, lined_none}
-use Rattle.cues.proofs.Elements.{elem-cells, elem-rows, elem-inside, elem-order}
+use Rattle.cues.proofs.Elements.{elem-cells, elem-inside, elem-order}
 use Rattle.blank.specs.Steps.{rest}
 use Rattle.whole.specs.Steps.{head_base, Ready, LangIs, whole_head, HeadAsks, HeadPut, track_of_parts, content_means, ContentLaid}
 
 -- ---- its language
 
-pub lang_found : (z : List ℕ) (l : List (Attr Placed)) (h : Attribute) → FoundFits z (Value.At h) → found_in z (Value.At h) ≡ lang_of with_places l
-    → LangIs z l (record { has = true; span = record { place = h.place; len = h.len } })
+pub lang_found : (z : List ℕ) (l : List (Attr Placed)) (h : Attribute) → FoundFits z (Some h) → found_in z (Some h) ≡ lang_of with_places l
+    → LangIs z l (Some (record { place = h.place; len = h.len }))
 lang_found z l h f e =
     let long = string_long z h.place h.len f in
     record { has = rw (← e); span = rw (← e, long); within = f }
 
-pub lang_none : (z : List ℕ) (l : List (Attr Placed)) → found_in z Value.Absent ≡ lang_of with_places l
-    → LangIs z l (record { has = false; span = record { place = 0; len = 0 } })
+pub lang_none : (z : List ℕ) (l : List (Attr Placed)) → found_in z None ≡ lang_of with_places l
+    → LangIs z l None
 lang_none z l e = record { has = rw (← e); span = rw (← e); within = omega arith }
 
 -- ---- the head of the track
@@ -181,14 +178,14 @@ module _ (h s r c : List ℕ) (m : List ℤ) (g : List ℕ) (f : List Float) (ex
         }
 
     module _ (s' r' : List ℕ) (f' : List Float) (ex' : List ℕ) where
-      abbrev Heads_said : Heading → Type 0
+      abbrev Heads_said : Result Heads Refusal → Type 0
       Heads_said w = HeadPost inside_head in_head_of t u z (k + 1) e.end (four s r f ex) (four s' r' f' ex') w
 
-      pub heads_no : (q : Refusal) → Heads_said (Heading.Refused q) → (params : List (Param Placed)) (ctx : TimingCtx)
+      pub heads_no : (q : Refusal) → Heads_said (Err q) → (params : List (Param Placed)) (ctx : TimingCtx)
           → content_means params ctx (element_in x) ≡ turned q
       heads_no q w params ctx = head_stops (inside_head (nodes_in z x.content)) _ q (w (lengths (tables p₀)) (cleared p₀) children)
 
-      module _ (hd : Heads) (w : Heads_said (Heading.Is hd)) (same_extras : length ex' ≡ length ex) where
+      module _ (hd : Heads) (w : Heads_said (Ok hd)) (same_extras : length ex' ≡ length ex) where
         headed : (p : List ℕ)
             → Headed (lengths (tables p)) (inside_head (nodes_in z x.content)) (in_head_of z x.content) (four s' r' f' ex') hd
         headed p = w (lengths (tables p)) (cleared p) children
@@ -246,7 +243,7 @@ module _ (h s r c : List ℕ) (m : List ℤ) (g : List ℕ) (f : List Float) (ex
         attrs = attrs_in z x.attrs
 
         module _ (ctx : TimingCtx) (ws : WsMode) (mode : space_in ws ≡ space_of with_places collapse attrs) (after : CueTables) where
-          abbrev Body_said : Lining → Type 0
+          abbrev Body_said : Result Line Refusal → Type 0
           Body_said a = BodyPost t u z (k + 1) e.end ctx ws hd.extras lent after a
 
           -- what its body means
@@ -256,22 +253,21 @@ module _ (h s r c : List ℕ) (m : List ℤ) (g : List ℕ) (f : List Float) (ex
           as_read : body_of with_places ctx (space_in ws) (first_element with_places (ascii "body") (nodes_in z x.content)) ≡ meant
           as_read = rw mode
 
-          pub body_no : (q : Refusal) → Body_said (Lining.Refused q) → (params : List (Param Placed))
+          pub body_no : (q : Refusal) → Body_said (Err q) → (params : List (Param Placed))
               → content_means params ctx (element_in x) ≡ turned q
           body_no q b params =
               rw ((headed p₀).means_styles, (headed p₀).means_regions, sym as_read ∙ b (base p₀) (length z) (bodies p₀))
 
-          module _ (line : Line) (b : Body_said (Lining.Is line)) where
+          module _ (line : Line) (b : Body_said (Ok line)) where
             bodied : (p : List ℕ) → Bodied (base p) (length z) after
                 (body_of with_places ctx (space_in ws) (first_element with_places (ascii "body") (nodes_in z x.content))) line
             bodied p = b (base p) (length z) (bodies p)
 
-            pub whole-asks : (count : ℕ) → count ≤ 64 → HeadAsks u z e count hd line h
+            pub whole-asks : (count : ℕ) → count ≤ 64 → HeadAsks z count hd line h
             whole-asks count few =
                 let a = headed p₀ in
                 let n = (bodied p₀).standing in
                 record {
-                  attrs = elem-rows x row;
                   short = ready.short;
                   few = few;
                   few_styles = omega (arith, a.count_styles, a.few_styles);

@@ -4,6 +4,8 @@
 --     many_params, few_params, tt-laid      its content with its parameters
 --     tt-no, params_cleared                 a number, and its parameters cleared
 --     root_no, root_is, track_as            the first tt
+use Rattle.std.specs.Prelude as rust
+use Rattle.std.specs.Prelude.{Some, None, Result, Ok, Err, ⊤}
 use Prim.Native.Nat.{ℕ, ◌≤◌}
 use mathlib.Core.Path.{◌≡◌, refl, sym, ap, subst, ◌∙◌}
 use mathlib.Core.List.{List, [], ◌∷◌}
@@ -18,10 +20,8 @@ use Rattle.tree.specs.declared.answers.Refusal.{Refusal}
 use Rattle.track.specs.Track.{Param, Track}
 use Rattle.track.specs.Tables.{Tables, Lengths, lengths}
 use Rattle.track.specs.Layout.{each, filled, filled_sizes, joined_cells, head_cells, param_cells, style_cells, region_cells, style_size}
-use Rattle.records.specs.declared.cells.Added.{Added}
 use Rattle.records.proofs.RowLaws.{joined_length, param_wide}
 use Rattle.records.proofs.Beside.{each-length}
-use Rattle.scan.specs.declared.table.Found.{Found}
 use Rattle.xml.specs.declared.find.Element as found
 use Rattle.xml.specs.Find.{OfSiblings, element_row, find_row}
 use Rattle.xml.specs.Reading.{Placed}
@@ -32,10 +32,8 @@ use Rattle.meaning.specs.Kinds.{with_places, attrs_in, nodes_in}
 use Rattle.meaning.specs.Meaning.{params_of, rate_of, timing, track_in, track_of}
 use Rattle.laid.specs.Laid.{laid_param, laid_of, laid_styles, laid_regions, texts_of, style_extras, whole}
 use Rattle.styling.specs.Posts.{OfRows, turned}
-use Rattle.params.specs.declared.rates.TimingSaid.{TimingSaid}
 use Rattle.params.specs.Named.{timing_said, timing_of}
 use Rattle.params.specs.Rows.{placed_params, Collects}
-use Rattle.promised.specs.declared.Answer as promise
 use Rattle.promised.proofs.Promises.{RestZero, RestLaid}
 use Rattle.cues.specs.Elements.{Tree, Elem, element_in}
 use Rattle.cues.specs.Steps.{Lined}
@@ -93,7 +91,7 @@ unfolding placed_params joined_cells param_cells each laid_param
 params_cells [] = refl
 params_cells (x ∷ l) = rw (params_cells l)
 
-params_laid : (l : List (Param Placed)) (p p' : List ℕ) (n : ℕ) → Collects l p p' (Added.Next n) → p ≡ replicate (length p) 0 → 256 ≤ length p
+params_laid : (l : List (Param Placed)) (p p' : List ℕ) (n : ℕ) → Collects l p p' (Some n) → p ≡ replicate (length p) 0 → 256 ≤ length p
     → p' ≡ filled (length p) (joined_cells param_cells (each laid_param l))
 params_laid l p p' n c blank long =
     let k = joined_length param_cells 4 param_wide (each laid_param l) in
@@ -120,23 +118,23 @@ module _ {t u z : List ℕ} {k : ℕ} (x : Elem t u z k) {e : found.Element} (ro
   abbrev attrs : List (Attr Placed)
   attrs = attrs_in z x.attrs
 
-  abbrev Collected : (p p' : List ℕ) → Added → Type 0
+  abbrev Collected : (p p' : List ℕ) → rust.Option ℕ → Type 0
   Collected p p' a = OfRows u z e.first e.many (λ l. Collects (params_of with_places l) p p' a)
 
-  abbrev Timed : TimingSaid → Type 0
+  abbrev Timed : Result TimingCtx Refusal → Type 0
   Timed r = OfRows u z e.first e.many (λ l. timing_said r ≡ timing_of l)
 
   place_is : e.place ≡ x.place
   place_is = ap (λ (w : found.Element). w.place) (elem-cells x row)
 
   -- there are too many
-  pub params_full : (p p' : List ℕ) → Collected p p' Added.Full → track_in with_places (element_in x) ≡ refused 13 e.place
+  pub params_full : (p p' : List ℕ) → Collected p p' None → track_in with_places (element_in x) ≡ refused 13 e.place
   params_full p p' o =
       let c = o x.attrs (elem-owned x row) in
       track_steps (element_in x) ∙ (rw (lt-leb (length (params_of with_places attrs)) 64 c.0, place_is))
 
-  module _ (p p' : List ℕ) (n : ℕ) (o : Collected p p' (Added.Next n)) where
-    collected : Collects (params_of with_places attrs) p p' (Added.Next n)
+  module _ (p p' : List ℕ) (n : ℕ) (o : Collected p p' (Some n)) where
+    collected : Collects (params_of with_places attrs) p p' (Some n)
     collected = o x.attrs (elem-owned x row)
 
     pub many_params : length (params_of with_places attrs) ≡ n
@@ -150,10 +148,10 @@ module _ {t u z : List ℕ} {k : ℕ} (x : Elem t u z k) {e : found.Element} (ro
         track_steps (element_in x) ∙ (rw (le-leb (length (params_of with_places attrs)) 64 (omega (arith, many_params, few_params))))
 
     -- a rate is refused
-    pub rates_no : (q : Refusal) → Timed (TimingSaid.Refused q) → track_in with_places (element_in x) ≡ turned q
+    pub rates_no : (q : Refusal) → Timed (Err q) → track_in with_places (element_in x) ≡ turned q
     rates_no q r = after-params ∙ (rw (← (r x.attrs (elem-owned x row))))
 
-    module _ (ctx : TimingCtx) (r : Timed (TimingSaid.Is ctx)) where
+    module _ (ctx : TimingCtx) (r : Timed (Ok ctx)) where
       content-means : track_in with_places (element_in x) ≡ content_means (params_of with_places attrs) ctx (element_in x)
       content-means = after-params ∙ (rw (← (r x.attrs (elem-owned x row))))
 
@@ -163,13 +161,13 @@ module _ {t u z : List ℕ} {k : ℕ} (x : Elem t u z k) {e : found.Element} (ro
         abbrev before : Tables
         before = rest h p s q c m g f ex y
 
-        abbrev Read : promise.Answer → Type 0
+        abbrev Read : Result ⊤ Refusal → Type 0
         Read a =
             ContentOutcome (content_means (params_of with_places attrs) ctx (element_in x)) (params_of with_places attrs) z before
             (rest h' p s' q' c' m' g' f' ex' y') a
 
-        pub tt-laid : Read promise.Answer.Track
-            → Outcome (track_in with_places (element_in x)) z before (rest h' p' s' q' c' m' g' f' ex' y') promise.Answer.Track
+        pub tt-laid : Read (Ok tt)
+            → Outcome (track_in with_places (element_in x)) z before (rest h' p' s' q' c' m' g' f' ex' y') (Ok tt)
         unfolding laid_of
         tt-laid w =
             let params = params_laid (params_of with_places attrs) p p' n collected ready.zero.params ready.long.params in
@@ -179,21 +177,21 @@ module _ {t u z : List ℕ} {k : ℕ} (x : Elem t u z k) {e : found.Element} (ro
               laid = rest-laid (lengths before) (length z) w.track w.head (rw w.same params) w.styles w.regions w.sizes w.cues;
             }
 
-        pub tt-no : (i : Refusal) → Read (promise.Answer.Refused i) → {p'' : List ℕ} → p'' ≡ replicate (length p) 0
-            → Outcome (track_in with_places (element_in x)) z before (rest h' p'' s' q' c' m' g' f' ex' y') (promise.Answer.Refused i)
+        pub tt-no : (i : Refusal) → Read (Err i) → {p'' : List ℕ} → p'' ≡ replicate (length p) 0
+            → Outcome (track_in with_places (element_in x)) z before (rest h' p'' s' q' c' m' g' f' ex' y') (Err i)
         tt-no i w e = (content-means ∙ w.0, params_cleared (w.1 ready.zero.params) e)
 
 -- ---- the first tt
 
-module _ {t u z : List ℕ} {n : ℕ} (x : Tree t u z n) {r : Found} (o : OfSiblings t 0 n (λ f. r ≡ find_row z (ascii "tt") 0 f)) where
-  pub root_no : r ≡ Found.Nothing → whole (nodes_in z x.forest) ≡ refused 12 0
+module _ {t u z : List ℕ} {n : ℕ} (x : Tree t u z n) {r : rust.Option ℕ} (o : OfSiblings t 0 n (λ f. r ≡ find_row z (ascii "tt") 0 f)) where
+  pub root_no : r ≡ None → whole (nodes_in z x.forest) ≡ refused 12 0
   unfolding track_of
   root_no e = rw (elem-none x (ascii "tt") o e)
 
-  pub root_is : {k : ℕ} (e : r ≡ Found.Row k)
+  pub root_is : {k : ℕ} (e : r ≡ Some k)
       → whole (nodes_in z x.forest) ≡ track_in with_places (element_in (elem-found x (ascii "tt") o e).element)
   unfolding track_of
   root_is e = rw (elem-found x (ascii "tt") o e).is
 
-pub track_as : {m n : Answer (Track Placed)} (z : List ℕ) (T T' : Tables) (r : promise.Answer) → m ≡ n → Outcome n z T T' r → Outcome m z T T' r
+pub track_as : {m n : Answer (Track Placed)} (z : List ℕ) (T T' : Tables) (r : Result ⊤ Refusal) → m ≡ n → Outcome n z T T' r → Outcome m z T T' r
 track_as z T T' r e o = subst (λ (v : Answer (Track Placed)). Outcome v z T T' r) (sym e) o

@@ -1,15 +1,17 @@
 -- What the reader of tt asks and ensures. This file need not be believed: `parse` promises what is left in the end.
 --     t, u are the tables of nodes and attributes; z are the strings, as many bytes as the text has
-use Rattle.std.specs.Prelude.{ℕ, ◌+◌, ◌≤◌, ◌≡◌, List, length, replicate}
+use Rattle.std.specs.Option.{unwrap_or}
+use Rattle.std.specs.Option as has
+use Rattle.std.specs.Prelude.{Option, Result, Ok, Err, ⊤, ℕ, ◌+◌, ◌≤◌, ◌≡◌, List, length, replicate}
 use Rattle.std.proofs.lemmas.List.Edits.{sets}
 use Rattle.times.specs.declared.offset.TimingCtx.{TimingCtx}
+use Rattle.track.specs.declared.strings.Span.{Span}
 use Rattle.track.specs.Track.{Param, Style, Region, Cue, Track}
 use Rattle.track.specs.Tables.{Tables, Lengths, lengths}
 use Rattle.track.specs.Layout.{is_some, span_or, each, filled, filled_sizes, joined_cells, head_cells, style_cells, region_cells, style_size}
 use Rattle.track.specs.Layout as placing
 use Rattle.records.specs.declared.head.Head.{Head}
 use Rattle.records.specs.Posts.{head_row}
-use Rattle.xml.specs.declared.find.Element as found
 use Rattle.xml.specs.Reading.{Placed}
 use Rattle.meaning.specs.Words.{ascii}
 use Rattle.meaning.specs.Answers.{is, ◌>>=◌}
@@ -20,16 +22,15 @@ use Rattle.meaning.specs.Space.{collapse, space_of}
 use Rattle.meaning.specs.Tracks.{option_by}
 use Rattle.meaning.specs.Meaning.{lang_of, body_of}
 use Rattle.laid.specs.Laid.{laid_of, laid_styles, laid_regions, style_extras, region_extras}
-use Rattle.styling.specs.Posts.{HasRows, turned}
+use Rattle.styling.specs.Posts.{turned}
 use Rattle.inline.specs.Stood.{span_in}
 use Rattle.heads.specs.declared.collect.Heads.{Heads}
 use Rattle.heads.specs.Steps.{styles_in, regions_in, inside_head}
 use Rattle.cues.specs.declared.lines.Line.{Line}
-use Rattle.cues.specs.declared.paragraph.Part.{Part}
 use Rattle.cues.specs.Elements.{Tree, Elem, element_in}
-use Rattle.cues.specs.Steps.{CueTables, five, Base, Lined}
-use Rattle.promised.specs.declared.Answer.{Answer}
+use Rattle.cues.specs.Steps.{nowhere, CueTables, five, Base, Lined}
 use Rattle.promised.proofs.Promises.{RestLong, RestZero, RestLaid}
+use Rattle.tree.specs.declared.answers.Refusal.{Refusal}
 
 -- ---- the tables
 
@@ -58,9 +59,9 @@ module _ (m : meaning.Answer (Track Placed)) (z : List ℕ) (T T' : Tables) wher
     pub means : m ≡ is track
     pub laid : RestLaid (lengths T) (length z) track T'
 
-  abbrev pub Outcome : Answer → Type 0
-  Outcome Answer.Track = Laid
-  Outcome (Answer.Refused q) = (m ≡ turned q) × RestZero (lengths T) T'
+  abbrev pub Outcome : Result ⊤ Refusal → Type 0
+  Outcome (Ok tt) = Laid
+  Outcome (Err q) = (m ≡ turned q) × RestZero (lengths T) T'
 
 -- ---- a tree
 
@@ -68,16 +69,16 @@ pub record Asks (t u z : List ℕ) (n : ℕ) (T : Tables) : Type 0 where
   pub ready : Ready z T
   pub tree : Tree t u z n
 
-abbrev pub Post : (Nodes Placed → meaning.Answer (Track Placed)) → (t u z : List ℕ) (n : ℕ) (T T' : Tables) → Answer → Type 0
+abbrev pub Post : (Nodes Placed → meaning.Answer (Track Placed)) → (t u z : List ℕ) (n : ℕ) (T T' : Tables) → Result ⊤ Refusal → Type 0
 Post meant t u z n T T' r = (x : Tree t u z n) → Outcome (meant (nodes_in z x.forest)) z T T' r
 
 -- ---- tt
 
 -- its language, as the head has it
-pub record LangIs (z : List ℕ) (l : List (Attr Placed)) (r : Part) : Type 0 where
-  pub has : r.has ≡ is_some (lang_of with_places l)
-  pub span : r.span ≡ span_or (option_by span_in (lang_of with_places l))
-  pub within : r.span.place + r.span.len ≤ length z
+pub record LangIs (z : List ℕ) (l : List (Attr Placed)) (r : Option Span) : Type 0 where
+  pub has : has.is_some r ≡ is_some (lang_of with_places l)
+  pub span : unwrap_or r nowhere ≡ span_or (option_by span_in (lang_of with_places l))
+  pub within : (unwrap_or r nowhere).place + (unwrap_or r nowhere).len ≤ length z
 
 -- the head of a track of so many parameters, styles and regions, cues and segments
 abbrev pub whole_head : (z : List ℕ) (count : ℕ) → Heads → Line → List (Attr Placed) → Head
@@ -93,8 +94,7 @@ whole_head z count heads line l = record {
   texts = length z;
 }
 
-pub record HeadAsks (u z : List ℕ) (e : found.Element) (count : ℕ) (heads : Heads) (line : Line) (head : List ℕ) : Type 0 where
-  pub attrs : HasRows u z e.first e.many
+pub record HeadAsks (z : List ℕ) (count : ℕ) (heads : Heads) (line : Line) (head : List ℕ) : Type 0 where
   pub short : length z ≤ 65536
   pub few : count ≤ 64
   pub few_styles : heads.styles ≤ 256
@@ -142,11 +142,11 @@ module _ (m : meaning.Answer (Track Placed)) (params : List (Param Placed)) (z :
     pub line : Line
     pub cues : Lined (head_base (lengths T) track.styles track.regions) hi track.cues line (in_cues T')
 
-  abbrev pub ContentOutcome : Answer → Type 0
-  ContentOutcome Answer.Track = ContentLaid
-  ContentOutcome (Answer.Refused q) = (m ≡ turned q) × (T.params ≡ replicate (length T.params) 0 → RestZero (lengths T) T')
+  abbrev pub ContentOutcome : Result ⊤ Refusal → Type 0
+  ContentOutcome (Ok tt) = ContentLaid
+  ContentOutcome (Err q) = (m ≡ turned q) × (T.params ≡ replicate (length T.params) 0 → RestZero (lengths T) T')
 
-abbrev pub ContentPost : (t u z : List ℕ) (k count : ℕ) → TimingCtx → (T T' : Tables) → Answer → Type 0
+abbrev pub ContentPost : (t u z : List ℕ) (k count : ℕ) → TimingCtx → (T T' : Tables) → Result ⊤ Refusal → Type 0
 ContentPost t u z k count ctx T T' r =
     (x : Elem t u z k) (params : List (Param Placed)) → length params ≡ count
     → ContentOutcome (content_means params ctx (element_in x)) params z T T' r
@@ -155,5 +155,5 @@ pub record TrackAsks (t u z : List ℕ) (k : ℕ) (T : Tables) : Type 0 where
   pub ready : Ready z T
   pub element : Elem t u z k
 
-abbrev pub TrackPost : (Element Placed → meaning.Answer (Track Placed)) → (t u z : List ℕ) (k : ℕ) (T T' : Tables) → Answer → Type 0
+abbrev pub TrackPost : (Element Placed → meaning.Answer (Track Placed)) → (t u z : List ℕ) (k : ℕ) (T T' : Tables) → Result ⊤ Refusal → Type 0
 TrackPost meant t u z k T T' r = (x : Elem t u z k) → Outcome (meant (element_in x)) z T T' r

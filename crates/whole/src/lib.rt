@@ -4,58 +4,37 @@ ghost use Rattle.std.specs.Prelude.{List, ℕ};
 ghost use Rattle.meaning.specs.Kinds.{with_places};
 ghost use Rattle.meaning.specs.Meaning.{track_in};
 ghost use Rattle.laid.specs.Laid.{whole};
-ghost use Rattle.styling.specs.Posts.{HasRows, OfRows};
+ghost use Rattle.styling.specs.Posts.{Of};
 ghost use Rattle.blank.specs.Steps.{rest};
 ghost use Rattle.whole.specs.Steps.{Asks, Post, LangIs, HeadAsks, HeadPut, ContentAsks, ContentPost, TrackAsks, TrackPost};
 
-use cues::{Line, Lining, Part};
-use heads::{Heading, Heads};
-use params::TimingSaid;
-use promised::Answer;
-use records::{Added, Head};
+use cues::Line;
+use heads::Heads;
+use records::Head;
 use styling::WsMode;
 use times::TimingCtx;
 use track::Span;
 use tree::Refusal;
-use xml::Found;
+use xml::{Attributes, Tree};
 
 // The language of tt.
-fn lang_of(attrs: &[u32], strings: &[u8], e: xml::Element) -> Part
-    requires { HasRows attrs.now strings.now e.first e.many }
-    ensures { OfRows attrs.now strings.now e.first e.many (λ l. LangIs strings.now l result) }
+fn lang_of(attrs: &Attributes<'_>) -> Option<Span>
+    ensures { Of attrs.now (λ l. LangIs attrs.now.strings.now l result) }
 {
-    match params::lang_of(attrs, strings, e.first, e.many) {
-        xml::Value::At(h) => Part {
-            has: true,
-            span: Span {
-                place: h.place,
-                len: h.len,
-            },
-        },
-        xml::Value::Absent => Part {
-            has: false,
-            span: Span { place: 0, len: 0 },
-        },
-    }
+    let h = params::lang_of(attrs)?;
+    Some(Span {
+        place: h.place,
+        len: h.len,
+    })
 }
 
 // The head of the track: so many parameters, and what stands in the other tables.
-fn put_whole(
-    attrs: &[u32],
-    strings: &[u8],
-    head: &mut [u32],
-    e: xml::Element,
-    count: usize,
-    heads: Heads,
-    line: Line,
-)
-    requires { HeadAsks attrs.now strings.now e count heads line head.old }
-    ensures { OfRows attrs.now strings.now e.first e.many (λ l.
-        HeadPut strings.now count heads line l head.old head.new) }
+fn put_whole(attrs: &Attributes<'_>, head: &mut [u32], count: usize, heads: Heads, line: Line)
+    requires { HeadAsks attrs.now.strings.now count heads line head.old }
+    ensures { Of attrs.now (λ l. HeadPut attrs.now.strings.now count heads line l head.old head.new) }
 {
-    let lang = lang_of(attrs, strings, e);
-    let span = lang.span;
-    let used = strings.len();
+    let lang = lang_of(attrs);
+    let used = attrs.strings.len();
     records::put_head(
         head,
         Head {
@@ -64,8 +43,8 @@ fn put_whole(
             regions: heads.regions,
             cues: line.cues,
             segments: line.rows,
-            has_lang: lang.has,
-            lang: span,
+            has_lang: lang.is_some(),
+            lang: lang.unwrap_or(Span { place: 0, len: 0 }),
             strings: used,
             texts: used,
         },
@@ -74,9 +53,7 @@ fn put_whole(
 
 // The head and the body of the tt in row k, when its parameters and rates are known. After a refusal what they have written is cleared.
 fn read_content(
-    nodes: &[u32],
-    attrs: &[u32],
-    strings: &[u8],
+    tree: &Tree<'_>,
     head: &mut [u32],
     styles: &mut [u32],
     regions: &mut [u32],
@@ -89,49 +66,43 @@ fn read_content(
     k: usize,
     count: usize,
     ctx: TimingCtx,
-) -> Answer
-    requires { (p : List ℕ) × ContentAsks nodes.now attrs.now strings.now k count
+) -> Result<(), Refusal>
+    requires { (p : List ℕ) × ContentAsks tree.now.nodes.now tree.now.attrs.now tree.now.strings.now k count
         (rest head.old p styles.old regions.old cues.old times.old segments.old sizes.old extras.old texts.old) }
-    ensures { (p : List ℕ) → ContentPost nodes.now attrs.now strings.now k count ctx
+    ensures { (p : List ℕ) → ContentPost tree.now.nodes.now tree.now.attrs.now tree.now.strings.now k count ctx
         (rest head.old p styles.old regions.old cues.old times.old segments.old
         sizes.old extras.old texts.old)
         (rest head.new p styles.new regions.new cues.new times.new segments.new
         sizes.new extras.new texts.new) result }
 {
-    let e = xml::element_at(nodes, k);
+    let e = xml::element_at(tree.nodes, k);
     let from = k + 1;
-    match heads::collect_head(
-        nodes, attrs, strings, from, e.end, styles, regions, sizes, extras,
-    ) {
-        Heading::Refused(r) => {
+    let h = match heads::collect_head(tree, from, e.end, styles, regions, sizes, extras) {
+        Ok(h) => h,
+        Err(r) => {
             blank::clear_head(styles, regions, sizes, extras);
-            Answer::Refused(r)
+            return Err(r);
         }
-        Heading::Is(h) => {
-            let ws = styling::resolve_ws(attrs, strings, e.first, e.many, WsMode::Collapse);
-            match cues::collect_body(
-                nodes, attrs, strings, cues, times, segments, extras, texts, from, e.end, ctx, ws,
-                h.extras,
-            ) {
-                Lining::Refused(r) => {
-                    blank::clear_head(styles, regions, sizes, extras);
-                    blank::clear_body(cues, times, segments, texts);
-                    Answer::Refused(r)
-                }
-                Lining::Is(line) => {
-                    put_whole(attrs, strings, head, e, count, h, line);
-                    Answer::Track
-                }
-            }
+    };
+    let attrs = tree.attributes(e);
+    let ws = styling::resolve_ws(&attrs, WsMode::Collapse);
+    let line = match cues::collect_body(
+        tree, cues, times, segments, extras, texts, from, e.end, ctx, ws, h.extras,
+    ) {
+        Ok(line) => line,
+        Err(r) => {
+            blank::clear_head(styles, regions, sizes, extras);
+            blank::clear_body(cues, times, segments, texts);
+            return Err(r);
         }
-    }
+    };
+    put_whole(&attrs, head, count, h, line);
+    Ok(())
 }
 
 // The tt in row k: its parameters are counted before its rates are read.
 fn read_tt(
-    nodes: &[u32],
-    attrs: &[u32],
-    strings: &[u8],
+    tree: &Tree<'_>,
     head: &mut [u32],
     params: &mut [u32],
     styles: &mut [u32],
@@ -143,48 +114,43 @@ fn read_tt(
     extras: &mut [u32],
     texts: &mut [u8],
     k: usize,
-) -> Answer
-    requires { TrackAsks nodes.now attrs.now strings.now k (rest head.old params.old styles.old regions.old cues.old
+) -> Result<(), Refusal>
+    requires { TrackAsks tree.now.nodes.now tree.now.attrs.now tree.now.strings.now k (rest head.old params.old styles.old regions.old cues.old
         times.old segments.old sizes.old extras.old texts.old) }
-    ensures { TrackPost (track_in with_places) nodes.now attrs.now strings.now k
+    ensures { TrackPost (track_in with_places) tree.now.nodes.now tree.now.attrs.now tree.now.strings.now k
         (rest head.old params.old styles.old regions.old cues.old times.old
         segments.old sizes.old extras.old texts.old)
         (rest head.new params.new styles.new regions.new cues.new times.new
         segments.new sizes.new extras.new texts.new) result }
 {
-    let e = xml::element_at(nodes, k);
-    match params::collect_params(attrs, strings, e.first, e.many, params) {
-        Added::Full => {
+    let e = xml::element_at(tree.nodes, k);
+    let attrs = tree.attributes(e);
+    let Some(count) = params::collect_params(&attrs, params) else {
+        scan::clear(params);
+        return Err(Refusal {
+            number: 13,
+            place: e.place,
+        });
+    };
+    let ctx = match params::timing_of(&attrs) {
+        Ok(ctx) => ctx,
+        Err(r) => {
             scan::clear(params);
-            Answer::Refused(Refusal {
-                number: 13,
-                place: e.place,
-            })
+            return Err(r);
         }
-        Added::Next(count) => match params::timing_of(attrs, strings, e.first, e.many) {
-            TimingSaid::Refused(r) => {
-                scan::clear(params);
-                Answer::Refused(r)
-            }
-            TimingSaid::Is(ctx) => match read_content(
-                nodes, attrs, strings, head, styles, regions, cues, times, segments, sizes, extras,
-                texts, k, count, ctx,
-            ) {
-                Answer::Track => Answer::Track,
-                Answer::Refused(r) => {
-                    scan::clear(params);
-                    Answer::Refused(r)
-                }
-            },
-        },
+    };
+    if let Err(r) = read_content(
+        tree, head, styles, regions, cues, times, segments, sizes, extras, texts, k, count, ctx,
+    ) {
+        scan::clear(params);
+        return Err(r);
     }
+    Ok(())
 }
 
 // The track of the first tt among the n rows of the tree.
 pub fn read_track(
-    nodes: &[u32],
-    attrs: &[u32],
-    strings: &[u8],
+    tree: &Tree<'_>,
     head: &mut [u32],
     params: &mut [u32],
     styles: &mut [u32],
@@ -196,23 +162,22 @@ pub fn read_track(
     extras: &mut [u32],
     texts: &mut [u8],
     n: usize,
-) -> Answer
-    requires { Asks nodes.now attrs.now strings.now n (rest head.old params.old styles.old regions.old cues.old
+) -> Result<(), Refusal>
+    requires { Asks tree.now.nodes.now tree.now.attrs.now tree.now.strings.now n (rest head.old params.old styles.old regions.old cues.old
         times.old segments.old sizes.old extras.old texts.old) }
-    ensures { Post whole nodes.now attrs.now strings.now n
+    ensures { Post whole tree.now.nodes.now tree.now.attrs.now tree.now.strings.now n
         (rest head.old params.old styles.old regions.old cues.old times.old
         segments.old sizes.old extras.old texts.old)
         (rest head.new params.new styles.new regions.new cues.new times.new
         segments.new sizes.new extras.new texts.new) result }
 {
-    match xml::find_element(nodes, strings, 0, n, b"tt") {
-        Found::Nothing => Answer::Refused(Refusal {
+    let Some(k) = xml::find_element(tree.nodes, tree.strings, 0, n, b"tt") else {
+        return Err(Refusal {
             number: 12,
             place: 0,
-        }),
-        Found::Row(k) => read_tt(
-            nodes, attrs, strings, head, params, styles, regions, cues, times, segments, sizes,
-            extras, texts, k,
-        ),
-    }
+        });
+    };
+    read_tt(
+        tree, head, params, styles, regions, cues, times, segments, sizes, extras, texts, k,
+    )
 }

@@ -1,29 +1,28 @@
 -- What the calls that write bytes from a handed track promise, in the words of document 01: of the tables and the bytes that are lent, what is left
 -- in these, and the answer. Definitions alone. Nothing here says how the program writes.
-use Rattle.std.specs.Prelude.{ℕ, zero, suc, ◌-◌, ◌≡◌, Bool, cond, ◌&&◌, List, [], ◌∷◌, ◌++◌, length, replicate, leb}
+use Rattle.std.specs.Prelude.{None, Result, Ok, Err, ℕ, zero, suc, ◌-◌, ◌≡◌, Bool, cond, ◌&&◌, List, [], ◌∷◌, ◌++◌, length, replicate, leb}
 use Rattle.std.proofs.Math.Option.{Option, none, some}
-use Rattle.scan.specs.declared.table.Written.TheVariants.{Full}
 use Rattle.scan.specs.Posts.{written_number}
 use Rattle.track.specs.Track.{Bytes, Cue, Track}
 use Rattle.track.specs.Tables.{Tables, lengths, LongEnough}
 use Rattle.track.specs.Meaning.{track_in}
 use Rattle.written.specs.Written.{written_of, cue_written}
-use Rattle.writer.specs.declared.calls.Answer.{Answer}
+use Rattle.tree.specs.declared.answers.Refusal.{Refusal}
 
 -- ---- the answer
 -- "An answer has number and byte place (0 if none is named, or if a track was handed)": a text has no number, here 0; only 21 and 23 name a cue
-unfoldable pub number_of : Answer → ℕ
-number_of (Answer.Bytes n) = 0
-number_of (Answer.Refused r) = r.number
+unfoldable pub number_of : Result ℕ Refusal → ℕ
+number_of (Ok n) = 0
+number_of (Err r) = r.number
 
-unfoldable pub place_of : Answer → ℕ
-place_of (Answer.Bytes n) = 0
-place_of (Answer.Refused r) = r.place
+unfoldable pub place_of : Result ℕ Refusal → ℕ
+place_of (Ok n) = 0
+place_of (Err r) = r.place
 
 -- how many bytes are written
-unfoldable pub bytes_of : Answer → Option ℕ
-bytes_of (Answer.Bytes n) = some n
-bytes_of (Answer.Refused r) = none
+unfoldable pub bytes_of : Result ℕ Refusal → Option ℕ
+bytes_of (Ok n) = some n
+bytes_of (Err r) = none
 
 -- ---- what comes of a call: a text, or a number that is met, with its place
 pub data Outcome : Type 0 where
@@ -51,7 +50,7 @@ fits lent w = leb (length w) lent && leb (length w) 65536
 
 unfoldable pub within : ℕ → Outcome → Outcome
 unfolding fits
-within lent (gives w) = cond (fits lent w) (gives w) (meets (written_number Full) 0)
+within lent (gives w) = cond (fits lent w) (gives w) (meets (written_number None) 0)
 within lent (meets n p) = meets n p
 
 -- of the tables T, where so many bytes are lent: "1. A lent table is shorter than its fixed length.", "17. A handed track has […]", where they
@@ -78,7 +77,7 @@ text_in_of (gives w) = w
 text_in_of (meets n p) = []
 
 -- ---- the promise: one for every call that writes a text; `may` are the outcomes that its input allows
-pub record Answers (may : Outcome → Type 0) (lent : List ℕ) (answer : Answer) (left : List ℕ) : Type 0 where
+pub record Answers (may : Outcome → Type 0) (lent : List ℕ) (answer : Result ℕ Refusal) (left : List ℕ) : Type 0 where
   pub outcome : Outcome
   pub comes : may outcome
   -- "the number, the place"
@@ -90,5 +89,5 @@ pub record Answers (may : Outcome → Type 0) (lent : List ℕ) (answer : Answer
   pub bytes : left ≡ text_in_of outcome ++ replicate (length lent - length (text_in_of outcome)) 0
 
 -- of what is asked for, of a handed track
-abbrev pub Promise : (asked : Track Bytes → Outcome) (T : Tables) (lent : List ℕ) → Answer → (left : List ℕ) → Type 0
+abbrev pub Promise : (asked : Track Bytes → Outcome) (T : Tables) (lent : List ℕ) → Result ℕ Refusal → (left : List ℕ) → Type 0
 Promise asked T lent answer left = Answers (Comes asked T (length lent)) lent answer left

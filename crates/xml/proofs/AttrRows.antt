@@ -4,6 +4,7 @@
 --     name_apart, name_same                                    a name of another length, and one of the same bytes
 --     row-cells                                                the cells of a row
 --     value-here, value-next, value-nowhere                    one turn of `attr`
+use Rattle.std.specs.Prelude.{Some, None}
 use Prim.Native.Nat.{ℕ, ◌+◌, ◌-◌, ◌*◌, ◌≤◌, ◌<◌}
 use mathlib.Core.Path.{◌≡◌, refl, sym, ◌∙◌, ap}
 use mathlib.Core.Bool.{true, false}
@@ -18,7 +19,6 @@ use Rattle.tree.specs.Walks.{Listed, AttrIs}
 use Rattle.tree.proofs.Tags.{length_attr_rows}
 use Rattle.tree.proofs.Walks.{on_attr}
 use Rattle.xml.specs.declared.find.Attribute.{Attribute}
-use Rattle.xml.specs.declared.find.Value.TheVariants.{At, Absent}
 use Rattle.xml.specs.Find.{Owned, HasRows, NameFits, name_at, attribute_row, find_value}
 use Rattle.xml.proofs.PassForests.{string_long}
 
@@ -50,7 +50,7 @@ pub record Head (u z : List ℕ) (k n : ℕ) (l : List Attr) : Type 0 where
   pub value-fits : head.value + head.value_len ≤ length z
   pub owned : Owned u z (k + 1) (n - 1) others
 
-head_of : (u z : List ℕ) (k n : ℕ) (l : List Attr) → Owned u z k n l → 0 < n → Head u z k n l
+pub head_of : (u z : List ℕ) (k n : ℕ) (l : List Attr) → Owned u z k n l → 0 < n → Head u z k n l
 head_of u z k n [] y h = absurd (omega (arith, y.count))
 head_of u z k n (x ∷ l) y h =
     let a : AttrIs u k x × Listed u (k + 1) l = on_attr u k x l y.listed in
@@ -112,7 +112,7 @@ module _ {u z : List ℕ} {i n : ℕ} (own : HasRows u z i n) where
 
 -- ---- the search for a name
 module _ (name : List ℕ) {u z : List ℕ} {k e : ℕ} {l : List Attr} (x : Rest (find_value z name) u z k e l) where
-  pub value-here : k < e → same_folded (name_at u z k) name ≡ true → At (attribute_row u k) ≡ find_value z name l
+  pub value-here : k < e → same_folded (name_at u z k) name ≡ true → Some (attribute_row u k) ≡ find_value z name l
   unfolding find_value attribute_row
   value-here b w =
       let y : Head u z k (e - k) x.attrs = rest-first x b in
@@ -126,6 +126,6 @@ module _ (name : List ℕ) {u z : List ℕ} {k e : ℕ} {l : List Attr} (x : Res
       let v : same_folded (string_at z y.head.name y.head.name_len) name ≡ false = rw (y.cells.name_is, y.cells.name_len_is) at w in
       rest-on x b (rw v)
 
-  pub value-nowhere : e ≤ k → Absent ≡ find_value z name l
+  pub value-nowhere : e ≤ k → None ≡ find_value z name l
   unfolding find_value
   value-nowhere h = sym (rest-none x h)

@@ -2,6 +2,7 @@
 --     decided        a text is taken, or it is turned away with some number
 --     strings-same   the table of strings is told by the tree that it shows and by its zeros
 --     determined     the theorem
+use Rattle.std.specs.Prelude.{Result}
 use Prim.Native.Nat.{ℕ, ◌+◌, ◌-◌, ◌≤◌, ◌<◌}
 use mathlib.Core.Path.{◌≡◌, refl, sym, ap, ◌∙◌}
 use mathlib.Core.Logic.{◌⊎◌, inl, inr}
@@ -13,17 +14,18 @@ use lib.Dec.{ltb}
 use borrow.Author.Tests.{ltb-true, ltb-false}
 use Rattle.scan.specs.Part.{string_at}
 use Rattle.grammar.specs.Tree.{Forest}
-use Rattle.grammar.specs.Demand.{Result}
+use Rattle.grammar.specs.Demand as demand
 use Rattle.grammar.specs.Demand as demand
 use Rattle.scan.proofs.Every.{by-test}
 use Rattle.tree.specs.Trees as placed
 use Rattle.tree.specs.Trees.{Attr, nil, text, section, elem, Span, attr_spans, spans}
-use Rattle.tree.specs.declared.answers.Answer.{Answer}
 use Rattle.derivation.specs.Strings.{attr_in, attrs_in, tree_in}
 use Rattle.derivation.proofs.RunLaws.{string_is}
 use Rattle.xml.specs.Promise.{Tables, Takes, TurnsAway, Outside, HoldsTree, Parsed}
 use Rattle.xml.proofs.Promises.{readable_of, is-away, away_some, refused_as, counted}
 use Rattle.xml.proofs.Theorem.{parsed, takes_exactly, taken-fits}
+use Rattle.tree.specs.declared.answers.Refusal.{Refusal}
+use Rattle.tree.specs.declared.answers.TreeSize.{TreeSize}
 
 -- ---- taken or turned away
 pub decided : (s : List ℕ) (lent : Tables) → ((f : Forest) × Takes s lent f) ⊎ ((n : ℕ) × (p : ℕ) × TurnsAway s lent n p)
@@ -38,7 +40,7 @@ decided s lent = by (parsed s n m z) refl
     z : ℕ
     z = length lent.strings
 
-    by : (r : Result) → parsed s n m z ≡ r → ((f : Forest) × Takes s lent f) ⊎ ((n : ℕ) × (p : ℕ) × TurnsAway s lent n p)
+    by : (r : demand.Result) → parsed s n m z ≡ r → ((f : Forest) × Takes s lent f) ⊎ ((n : ℕ) × (p : ℕ) × TurnsAway s lent n p)
     by (demand.tree g) e =
         let y = taken-fits s n m z g e in
         let d = (takes_exactly s n m z y.0 y.1).0 (g, e) in
@@ -100,7 +102,7 @@ strings-same {a = a} {b = b} {g = g} h k =
 tables-same : {a b : Tables} → a.nodes ≡ b.nodes → a.attrs ≡ b.attrs → a.strings ≡ b.strings → a ≡ b
 tables-same {a} {b} e d c = λ i. record { nodes = e i; attrs = d i; strings = c i }
 
-pub determined : {s : List ℕ} {lent : Tables} {x y : Answer} {a b : Tables} → Parsed s lent x a → Parsed s lent y b → (x ≡ y) × (a ≡ b)
+pub determined : {s : List ℕ} {lent : Tables} {x y : Result TreeSize Refusal} {a b : Tables} → Parsed s lent x a → Parsed s lent y b → (x ≡ y) × (a ≡ b)
 determined {s} {lent} {x} {y} {a} {b} p q = by (decided s lent)
   where
     by : ((f : Forest) × Takes s lent f) ⊎ ((n : ℕ) × (k : ℕ) × TurnsAway s lent n k) → (x ≡ y) × (a ≡ b)

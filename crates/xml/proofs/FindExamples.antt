@@ -1,4 +1,5 @@
 -- Worked cases of what is asked of a tree, computed from the definitions.
+use Rattle.std.specs.Prelude.{Some}
 use mathlib.Core.Path.{◌≡◌, refl}
 use mathlib.Core.Bool.{true, false}
 use mathlib.Core.List.{List, [], ◌∷◌}
@@ -8,8 +9,6 @@ use Rattle.scan.specs.Names.{lower, same_folded, has_colon, after_last_colon}
 use Rattle.tree.specs.Trees as placed
 use Rattle.scan.specs.Part.{string_at}
 use Rattle.grammar.specs.Tree.{attr, text, section, element, none, more}
-use Rattle.scan.specs.declared.table.Found.TheVariants.{Row}
-use Rattle.xml.specs.declared.find.Value.TheVariants.{At}
 use Rattle.xml.specs.Find.{named, find_element, found, absent, value, no_value, attr_value, find_row, find_value, is_element}
 
 abbrev body : List ℕ
@@ -59,7 +58,7 @@ nodes = 1 ∷ 1 ∷ 0 ∷ 1 ∷ 0 ∷ 0 ∷ 2 ∷ 2 ∷ 1 ∷ 1 ∷ 0 ∷ 1 ∷ 
 abbrev owned : List placed.Attr
 owned = record { name = 4; name_len = 1; value = 7; value_len = 1 } ∷ []
 
-pub row-1 : find_row strings (ascii "p") 0 (placed.text 0 1 (placed.elem 1 1 owned placed.nil placed.nil)) ≡ Row 1
+pub row-1 : find_row strings (ascii "p") 0 (placed.text 0 1 (placed.elem 1 1 owned placed.nil placed.nil)) ≡ Some 1
 unfolding find_row named string_at same_folded lower has_colon after_last_colon
 row-1 = refl
 
@@ -71,6 +70,6 @@ pub an_element : is_element nodes strings (ascii "p") 1 ≡ true
 unfolding is_element named string_at same_folded lower has_colon after_last_colon
 an_element = refl
 
-pub value-7 : find_value strings (ascii "A") owned ≡ At (record { at = 4; place = 7; len = 1 })
+pub value-7 : find_value strings (ascii "A") owned ≡ Some (record { at = 4; place = 7; len = 1 })
 unfolding find_value string_at same_folded lower
 value-7 = refl

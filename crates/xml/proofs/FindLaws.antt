@@ -5,6 +5,7 @@
 --     find_nothing, find_found                        what `find_row` says of the tree
 --     many_shown                                      as many attributes are shown as there are
 --     value-shown, value-at                           what `find_value` says of the attributes
+use Rattle.std.specs.Prelude.{Some, None}
 use Prim.Native.Nat.{ℕ, suc, ◌+◌, ◌≤◌, ◌<◌}
 use mathlib.Core.Path.{◌≡◌, refl, sym, ap, ◌∙◌}
 use mathlib.Core.Bool.{true, false}
@@ -20,9 +21,7 @@ use Rattle.tree.proofs.Places.{in_whole, in_first, in_rest}
 use Rattle.tree.proofs.Walks.{on_text, on_section, on_elem, on_attrs, room, placed_text, placed_section, placed_elem}
 use Rattle.scan.specs.Part.{string_at}
 use Rattle.derivation.specs.Strings.{attr_in, attrs_in, tree_in}
-use Rattle.scan.specs.declared.table.Found.TheVariants.{Row, Nothing}
 use Rattle.xml.specs.declared.find.Attribute.{Attribute}
-use Rattle.xml.specs.declared.find.Value.TheVariants.{At}
 use Rattle.xml.specs.Find.{named, find_element, absent, value, attr_value}
 use Rattle.xml.specs.Find.{Holds, Siblings, find_row, find_value, shown, WithinAttrs, Owned, is_element, HasRow, element_row, TextAt, ElementAt}
 use Rattle.xml.specs.Find.{FoundAt}
@@ -159,16 +158,16 @@ module _ (z name : List ℕ) {t : List ℕ} {k b p n : ℕ} where
       rw (r.kind_is, r.place_is, r.len_is)
 
 -- ---- what `find_row` says of the tree
-never : {A : Type 0} {k : ℕ} → Row k ≡ Nothing → A
+never : {A : Type 0} {k : ℕ} → Some k ≡ None → A
 never e = absurd (let z : ◌≡◌ {A = ℕ} 0 1 = cc in omega arith)
 
-pub find_nothing : (z name : List ℕ) (i : ℕ) (f : Forest) → find_row z name i f ≡ Nothing → find_element name (tree_in z f) ≡ absent
+pub find_nothing : (z name : List ℕ) (i : ℕ) (f : Forest) → find_row z name i f ≡ None → find_element name (tree_in z f) ≡ absent
 unfolding find_row find_element tree_in
 find_nothing z name i nil e = refl
 find_nothing z name i (text p n f) e = find_nothing z name (i + 1) f e
 find_nothing z name i (section p n f) e = find_nothing z name (i + 1) f e
 find_nothing z name i (elem p n l c f) e =
-    let r : find_row z name (i + 1 + size c) f ≡ Nothing → find_element name (tree_in z f) ≡ absent = find_nothing z name (i + 1 + size c) f in
+    let r : find_row z name (i + 1 + size c) f ≡ None → find_element name (tree_in z f) ≡ absent = find_nothing z name (i + 1 + size c) f in
     by-test (named name (string_at z (p + 1) n)) (λ w. never (rw w at e)) (λ w. rw w (r (rw w at e)))
 
 -- what is found among the later siblings
@@ -189,18 +188,18 @@ found-later h w e x = record {
   is = e ∙ x.is;
 }
 
-pub find_found : {t u z name : List ℕ} {i a k : ℕ} (f : Forest) → Holds t u z i a f → find_row z name i f ≡ Row k → FoundAt t u z name i f k
+pub find_found : {t u z name : List ℕ} {i a k : ℕ} (f : Forest) → Holds t u z i a f → find_row z name i f ≡ Some k → FoundAt t u z name i f k
 unfolding find_row find_element tree_in size
 find_found nil h e = never (sym e)
 find_found {i = i} (text p n f) h e = found-later (omega arith) (omega arith) refl (find_found {i = i + 1} f (holds_text h).later e)
 find_found {i = i} (section p n f) h e = found-later (omega arith) (omega arith) refl (find_found {i = i + 1} f (holds_section h).later e)
 find_found {t} {u} {z} {name} {i} {a} {k} (elem p n l c f) h e =
-    let r : find_row z name (i + 1 + size c) f ≡ Row k → FoundAt t u z name (i + 1 + size c) f k = find_found {i = i + 1 + size c} f (holds_elem h).later in
+    let r : find_row z name (i + 1 + size c) f ≡ Some k → FoundAt t u z name (i + 1 + size c) f k = find_found {i = i + 1 + size c} f (holds_elem h).later in
     by-test (named name (string_at z (p + 1) n)) here (λ w. found-later (omega arith) (omega arith) (rw w) (r (rw w at e)))
   where
     here : named name (string_at z (p + 1) n) ≡ true → FoundAt t u z name i (elem p n l c f) k
     here w =
-        let j : Row i ≡ Row k = rw w at e in
+        let j : Some i ≡ Some k = rw w at e in
         let v : i ≡ k = cc in
         rw (← v) (record {
           place = p;
@@ -230,20 +229,20 @@ value-shown z name (x ∷ l) =
     let r : shown z (find_value z name l) ≡ attr_value name (attrs_in z l) = value-shown z name l in
     by-test (same_folded (string_at z x.name x.name_len) name) (λ w. rw w) (λ w. rw w r)
 
-value-within : (z name : List ℕ) (l : List Attr) (x : Attribute) → WithinAttrs (length z) l → find_value z name l ≡ At x → x.place + x.len ≤ length z
+value-within : (z name : List ℕ) (l : List Attr) (x : Attribute) → WithinAttrs (length z) l → find_value z name l ≡ Some x → x.place + x.len ≤ length z
 unfolding find_value
 value-within z name [] x w e = absurd (let y : ◌≡◌ {A = ℕ} 0 1 = cc in omega arith)
 value-within z name (y ∷ l) x w e =
-    let r : find_value z name l ≡ At x → x.place + x.len ≤ length z = value-within z name l x w.2 in
+    let r : find_value z name l ≡ Some x → x.place + x.len ≤ length z = value-within z name l x w.2 in
     by-test (same_folded (string_at z y.name y.name_len) name) here (λ q. r (rw q at e))
   where
     here : same_folded (string_at z y.name y.name_len) name ≡ true → x.place + x.len ≤ length z
     here q =
-        let j : At (record { at = y.name; place = y.value; len = y.value_len }) ≡ At x = rw q at e in
+        let j : Some (record { at = y.name; place = y.value; len = y.value_len }) ≡ Some x = rw q at e in
         let v : record { at = y.name; place = y.value; len = y.value_len } ≡ x = cc in
         rw (← v) w.1
 
-pub value-at : (z name : List ℕ) (l : List Attr) (x : Attribute) → WithinAttrs (length z) l → find_value z name l ≡ At x
+pub value-at : (z name : List ℕ) (l : List Attr) (x : Attribute) → WithinAttrs (length z) l → find_value z name l ≡ Some x
     → (attr_value name (attrs_in z l) ≡ value (string_at z x.place x.len)) × (x.place + x.len ≤ length z)
 unfolding shown
 value-at z name l x w e = (sym (value-shown z name l) ∙ ap (shown z) e, value-within z name l x w e)

@@ -2,6 +2,7 @@
 --     onward                                             the row after the first of some siblings
 --     Rest, rest-here, rest-next, rest_out               `find_element` goes on with the siblings from row k on
 --     local_within, local_part                           the part of a name that `is_element` compares
+use Rattle.std.specs.Prelude.{Some, None}
 use Prim.Native.Nat.{ℕ, zero, suc, ◌+◌, ◌-◌, ◌*◌, ◌≤◌, ◌<◌}
 use mathlib.Core.Path.{◌≡◌, refl, sym, ◌∙◌}
 use mathlib.Core.Bool.{true, false, true≢false}
@@ -16,7 +17,6 @@ use Rattle.tree.specs.Walks.{Stands, RowIs}
 use Rattle.tree.proofs.Places.{in_rest}
 use Rattle.tree.proofs.Walks.{on_text, on_section, on_elem, placed_text, placed_section, placed_elem}
 use Rattle.scan.specs.Part.{string_at}
-use Rattle.scan.specs.declared.table.Found.TheVariants.{Row, Nothing}
 use Rattle.xml.specs.Find.{named, Siblings, find_row, is_element}
 use Rattle.xml.proofs.FindLaws.{is-element_text, is-element_section, is-element_elem}
 
@@ -29,7 +29,7 @@ record Later (t z name : List ℕ) (k : ℕ) (g : Forest) : Type 0 where
   pub after : k < get_or t (k * 6 + 1) 0
   pub end : get_or t (k * 6 + 1) 0 + size forest ≡ k + size g
   pub placed : (lo hi : ℕ) → InOrder lo (spans g) hi → (lo' : ℕ) × InOrder lo' (spans forest) hi
-  pub here : is_element t z name k ≡ true → find_row z name k g ≡ Row k
+  pub here : is_element t z name k ≡ true → find_row z name k g ≡ Some k
   pub passed : is_element t z name k ≡ false → find_row z name k g ≡ find_row z name (get_or t (k * 6 + 1) 0) forest
 
 module _ (t z name : List ℕ) (k b : ℕ) where
@@ -101,7 +101,7 @@ pub record Rest (t z name : List ℕ) (i k e : ℕ) (f : Forest) : Type 0 where
   pub is : find_row z name i f ≡ find_row z name k forest
 
 module _ {t z name : List ℕ} {i k e : ℕ} {f : Forest} where
-  pub rest-here : Rest t z name i k e f → k < e → is_element t z name k ≡ true → Row k ≡ find_row z name i f
+  pub rest-here : Rest t z name i k e f → k < e → is_element t z name k ≡ true → Some k ≡ find_row z name i f
   rest-here x h w = sym (x.is ∙ (later t z name k x.first x.forest x.stands (omega (arith, x.end))).here w)
 
   pub rest-next : Rest t z name i k e f → k < e → is_element t z name k ≡ false → Rest t z name i (get_or t (k * 6 + 1) 0) e f
@@ -109,11 +109,11 @@ module _ {t z name : List ℕ} {i k e : ℕ} {f : Forest} where
       let y : Later t z name k x.forest = later t z name k x.first x.forest x.stands (omega (arith, x.end)) in
       record { first = y.first; forest = y.forest; stands = y.stands; end = y.end ∙ x.end; is = x.is ∙ y.passed w }
 
-  pub rest_out : Rest t z name i k e f → e ≤ k → Nothing ≡ find_row z name i f
+  pub rest_out : Rest t z name i k e f → e ≤ k → None ≡ find_row z name i f
   unfolding find_row size
   rest_out x h = by x.forest x.is (omega (arith, x.end))
     where
-      by : (g : Forest) → find_row z name i f ≡ find_row z name k g → size g ≡ 0 → Nothing ≡ find_row z name i f
+      by : (g : Forest) → find_row z name i f ≡ find_row z name k g → size g ≡ 0 → None ≡ find_row z name i f
       by nil w j = sym w
       by (text p n g) w j = absurd (omega arith)
       by (section p n g) w j = absurd (omega arith)

@@ -3,6 +3,7 @@
 --     given_holds                    its rows and its strings, as the searches take them
 --     given-count, given-siblings    the answer's count of nodes is the forest's, and these rows are siblings
 --     given-none                     after a refusal the text has no tree within the limits
+use Rattle.std.specs.Prelude.{Result, Err}
 use Prim.Native.Nat.{ℕ, suc, ◌+◌}
 use mathlib.Core.Path.{◌≡◌, refl, sym, ap, ◌∙◌}
 use mathlib.Core.List.{List}
@@ -13,17 +14,16 @@ use Rattle.grammar.specs.Tree.{Forest}
 use Rattle.grammar.specs.Limits as count
 use Rattle.entities.specs.Decode.{decoded}
 use Rattle.grammar.specs.Demand.{decode_tree, decode_forest}
-use Rattle.tree.specs.Answers.{number_of, place_of}
+use Rattle.tree.specs.Answers.{values_of, tree_with, number_of, place_of}
 use Rattle.tree.specs.Trees as placed
 use Rattle.tree.specs.Trees.{size, spans}
 use Rattle.tree.proofs.Places.{in_higher}
-use Rattle.tree.specs.declared.answers.Answer.{Answer}
-use Rattle.tree.specs.declared.answers.Answer.TheVariants.{Tree, Refused}
 use Rattle.tree.specs.declared.answers.Refusal.{Refusal}
 use Rattle.xml.specs.Find.{Holds, Siblings}
 use Rattle.xml.specs.Promise.{Tables, Takes, places_of, HoldsTree, Parsed}
 use Rattle.xml.proofs.FindLaws.{siblings_of}
 use Rattle.xml.proofs.Promises.{counted, nodes-counted}
+use Rattle.tree.specs.declared.answers.TreeSize.{TreeSize}
 
 -- reading entities keeps the nodes
 mutual
@@ -44,8 +44,8 @@ pub record Given (s : List ℕ) (lent left : Tables) : Type 0 where
   pub takes : Takes s lent tree
   pub holds : HoldsTree s lent left tree (places_of takes.derives.derived)
 
-module _ {s : List ℕ} {lent left : Tables} {r : Answer} (p : Parsed s lent r left) where
-  module _ {i j : ℕ} (e : r ≡ Tree i j) where
+module _ {s : List ℕ} {lent left : Tables} {r : Result TreeSize Refusal} (p : Parsed s lent r left) where
+  module _ {i j : ℕ} (e : r ≡ tree_with i j) where
     pub given-tree : Given s lent left
     unfolding number_of place_of
     given-tree =
@@ -73,15 +73,16 @@ module _ {s : List ℕ} {lent left : Tables} {r : Answer} (p : Parsed s lent r l
         let g = given-tree in
         let a : size given-forest ≡ count.nodes (decode_forest decoded g.tree) =
         nodes-counted left.strings given-forest ∙ ap count.nodes g.holds.shown in
-        let b : Tree i j ≡ Tree (count.nodes g.tree) (count.attrs g.tree) = sym e ∙ counted p g.tree g.takes in
+        let b : tree_with i j ≡ tree_with (count.nodes g.tree) (count.attrs g.tree) = sym e ∙ counted p g.tree g.takes in
+        let values = ap values_of b in
         let c : i ≡ count.nodes g.tree = cc in
         omega (arith, a, c, nodes-kept g.tree)
 
     pub given-siblings : Siblings left.nodes left.strings 0 i
     given-siblings = rw given-count at (siblings_of given_holds)
 
-  pub given-none : {x : Refusal} → r ≡ Refused x → (f : Forest) → ¬ Takes s lent f
+  pub given-none : {x : Refusal} → r ≡ Err x → (f : Forest) → ¬ Takes s lent f
   given-none e f d =
-      let b : ◌≡◌ {A = Answer} (Refused _) (Tree (count.nodes f) (count.attrs f)) = sym e ∙ counted p f d in
+      let b : ◌≡◌ {A = Result TreeSize Refusal} (Err _) (tree_with (count.nodes f) (count.attrs f)) = sym e ∙ counted p f d in
       let z : ◌≡◌ {A = ℕ} 0 1 = cc in
       omega arith

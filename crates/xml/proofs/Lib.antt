@@ -9,6 +9,7 @@ pub mod Promises
 pub mod FindLaws
 pub mod FindSteps
 pub mod AttrRows
+pub mod RowFacts
 pub mod Given
 pub mod Standing
 pub mod Derived

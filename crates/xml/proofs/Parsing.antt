@@ -3,16 +3,15 @@
 --     short_text                     a text that has a tree is no longer than the limit
 --     nodes-stand_ready, attrs-stand_ready   every row that was read can be passed
 --     Left, left_small, left_refused, left_tree   the four promises of `parse_xml` at once
+use Rattle.std.specs.Prelude.{Result, Err}
 use Prim.Native.Nat.{ℕ, zero, suc, ◌+◌, ◌-◌, ◌*◌, ◌≤◌, ◌<◌}
-use mathlib.Core.Path.{◌≡◌, refl, ◌∙◌}
+use mathlib.Core.Path.{◌≡◌, refl, ap, ◌∙◌}
 use mathlib.Core.Bool.{Bool, true, false}
 use mathlib.Core.List.{List, [], ◌++◌}
 use native.Mathlib.Omega.{arith}
 use lib.ListN.{length, get_or, replicate}
 use lib.Dec.{ltb}
 use borrow.Author.Tests.{lt-ltb, le-ltb, ltb-true, ltb-false}
-use Rattle.tree.specs.declared.answers.Answer.{Answer}
-use Rattle.tree.specs.declared.answers.Answer.TheVariants.{Tree, Refused}
 use Rattle.tree.specs.declared.answers.Refusal.{Refusal}
 use Rattle.tree.specs.Trees.{Attr, Forest, nil, text, section, elem, size, attrs_of, attr_spans, spans, InOrder}
 use Rattle.tree.specs.Read.{Out, got, nothing, bad, meaning, answer_of, nodes_of, attr_cells}
@@ -24,6 +23,8 @@ use Rattle.xml.specs.Steps.{raw, read_out, strings_of}
 use Rattle.xml.specs.Steps.{node_place, nodes_read, node_strings_read, NodeReady, attrs_read, attr_strings_read, AttrReady}
 use Rattle.xml.proofs.PassForests.{text-bytes, section-bytes, element-bytes, size-read, attrs-read, length_attrs_read, nodes-pass}
 use Rattle.xml.proofs.PassForests.{attrs-pass, strings-pass}
+use Rattle.tree.specs.Answers.{values_of, tree_with}
+use Rattle.tree.specs.declared.answers.TreeSize.{TreeSize}
 
 -- ---- which case
 module _ (s : List ℕ) (n m z : ℕ) where
@@ -36,15 +37,15 @@ module _ (s : List ℕ) (n m z : ℕ) where
   raw-enough h = rw (le-ltb z 65536 h)
 
 -- no tree is a refusal
-tree-bad : (o : Out) (i j x q : ℕ) → Tree i j ≡ answer_of o → o ≡ bad x q → ⊥
+tree-bad : (o : Out) (i j x q : ℕ) → tree_with i j ≡ answer_of o → o ≡ bad x q → ⊥
 unfolding answer_of
 tree-bad o i j x q e w =
-    let r : Tree i j ≡ Refused (record { number = x; place = q }) = rw w at e in
+    let r : tree_with i j ≡ Err (record { number = x; place = q }) = rw w at e in
     let z : ◌≡◌ {A = ℕ} 0 1 = cc in
     omega arith
 
 -- a text that has a tree is no longer than the limit
-pub short_text : (s : List ℕ) (n m i j : ℕ) → Tree i j ≡ answer_of (meaning s n m) → length s ≤ 65536
+pub short_text : (s : List ℕ) (n m i j : ℕ) → tree_with i j ≡ answer_of (meaning s n m) → length s ≤ 65536
 short_text s n m i j e = by (ltb n 49152) (ltb m 32768) (ltb 65536 (length s)) refl refl refl
   where
     by : (a b c : Bool) → ltb n 49152 ≡ a → ltb m 32768 ≡ b → ltb 65536 (length s) ≡ c → length s ≤ 65536
@@ -55,10 +56,10 @@ short_text s n m i j e = by (ltb n 49152) (ltb m 32768) (ltb 65536 (length s)) r
         absurd (tree-bad (meaning s n m) i j 2 0 e (too_long s n m (ltb-false n 49152 u) (ltb-false m 32768 v) (ltb-true 65536 (length s) w)))
 
 -- the counts that are answered
-counted : (o : Out) (i j : ℕ) → Tree i j ≡ answer_of o → (i ≡ size (tree_of o)) × (j ≡ length (attrs_of (tree_of o)))
+counted : (o : Out) (i j : ℕ) → tree_with i j ≡ answer_of o → (i ≡ size (tree_of o)) × (j ≡ length (attrs_of (tree_of o)))
 unfolding answer_of tree_of size attrs_of
-counted (got f q k a) i j e = (cc, cc)
-counted (nothing q) i j e = (cc, cc)
+counted (got f q k a) i j e = let v = ap values_of e in (cc, cc)
+counted (nothing q) i j e = let v = ap values_of e in (cc, cc)
 counted (bad x q) i j e = absurd (tree-bad (bad x q) i j x q e refl)
 
 -- ---- every row can be passed
@@ -109,7 +110,7 @@ module _ (t : List ℕ) (hi : ℕ) where
           let z : k + suc i ≡ k + 1 + size c + (i - size c) = omega arith in
           rw z (v w)
 
-module _ (s z : List ℕ) (n m i j : ℕ) (room : 65536 ≤ length z) (answer : Tree i j ≡ answer_of (meaning s n m)) where
+module _ (s z : List ℕ) (n m i j : ℕ) (room : 65536 ≤ length z) (answer : tree_with i j ≡ answer_of (meaning s n m)) where
   pub nodes-stand_ready : (t : List ℕ) → t ≡ nodes_of n (meaning s n m) → (k : ℕ) → k < i → NodeReady s t z k
   nodes-stand_ready t e k h =
       let f : Forest = tree_of (meaning s n m) in
@@ -141,34 +142,35 @@ module _ (s z : List ℕ) (n m i j : ℕ) (room : 65536 ≤ length z) (answer : 
       }
 
 -- ---- the four promises
-abbrev pub Left : List ℕ → ℕ → ℕ → ℕ → Out → Answer → List ℕ → List ℕ → List ℕ → Type 0
+abbrev pub Left : List ℕ → ℕ → ℕ → ℕ → Out → Result TreeSize Refusal → List ℕ → List ℕ → List ℕ → Type 0
 Left s n m z o r t u w = (r ≡ answer_of o) × ((t ≡ nodes_of n (read_out s o)) × ((u ≡ attr_cells m (read_out s o)) × (w ≡ strings_of z s o)))
 
 module _ (s : List ℕ) (n m z : ℕ) where
   pub left_small : (t u w : List ℕ) → z < 65536 → t ≡ replicate n 0 → u ≡ replicate m 0 → w ≡ replicate z 0
-      → Left s n m z (raw s n m z) (Refused (record { number = 1; place = 0 })) t u w
+      → Left s n m z (raw s n m z) (Err (record { number = 1; place = 0 })) t u w
   unfolding answer_of nodes_of attr_cells read_out strings_of
   left_small t u w h a b c = rw (raw-small s n m z h) (refl, (a, (b, c)))
 
-  refused-out : (o : Out) (r : Refusal) (t u w : List ℕ) → Refused r ≡ answer_of o → t ≡ nodes_of n o → u ≡ attr_cells m o → w ≡ replicate z 0
-      → Left s n m z o (Refused r) t u w
+  refused-out : (o : Out) (r : Refusal) (t u w : List ℕ) → Err r ≡ answer_of o → t ≡ nodes_of n o → u ≡ attr_cells m o → w ≡ replicate z 0
+      → Left s n m z o (Err r) t u w
   unfolding answer_of nodes_of attr_cells read_out strings_of
   refused-out (got f q k a) r t u w e x y v = let d : ◌≡◌ {A = ℕ} 0 1 = cc in absurd (omega arith)
   refused-out (nothing q) r t u w e x y v = let d : ◌≡◌ {A = ℕ} 0 1 = cc in absurd (omega arith)
   refused-out (bad i q) r t u w e x y v = (e, (x, (y, v)))
 
-  pub left_refused : (r : Refusal) (t u w : List ℕ) → 65536 ≤ z → Refused r ≡ answer_of (meaning s n m) → t ≡ nodes_of n (meaning s n m) → u
+  pub left_refused : (r : Refusal) (t u w : List ℕ) → 65536 ≤ z → Err r ≡ answer_of (meaning s n m) → t ≡ nodes_of n (meaning s n m) → u
       ≡ attr_cells m (meaning s n m)
-      → w ≡ replicate z 0 → Left s n m z (raw s n m z) (Refused r) t u w
+      → w ≡ replicate z 0 → Left s n m z (raw s n m z) (Err r) t u w
   left_refused r t u w h e x y v = rw (raw-enough s n m z h) (refused-out (meaning s n m) r t u w e x y v)
 
   module _ (i j : ℕ) (t t' u u' y w : List ℕ) where
-    tree-out : (o : Out) → ((f : Forest) (q k a : ℕ) → o ≡ got f q k a → InOrder 0 (spans f) (length s)) → Tree i j ≡ answer_of o → t ≡ nodes_of n o
+    tree-out : (o : Out) → ((f : Forest) (q k a : ℕ) → o ≡ got f q k a → InOrder 0 (spans f) (length s)) → tree_with i j ≡ answer_of o → t ≡ nodes_of n o
         → u ≡ attr_cells m o
         → t' ≡ nodes_read s t i → y ≡ node_strings_read s t (replicate z 0) i → u' ≡ attrs_read s u j → w ≡ attr_strings_read s u y j
-        → Left s n m z o (Tree i j) t' u' w
+        → Left s n m z o (tree_with i j) t' u' w
     unfolding answer_of nodes_of attr_cells read_out strings_of nodes_read node_strings_read attrs_read attr_strings_read
     tree-out (got f q k a) placed e et eu et' ey eu' ew =
+        let v = ap values_of e in
         let ei : i ≡ size f = cc in
         let ej : j ≡ length (attrs_of f) = cc in
         let o : InOrder 0 (spans f) (length s) = placed f q k a refl in (
@@ -182,14 +184,15 @@ module _ (s : List ℕ) (n m z : ℕ) where
           ),
         )
     tree-out (nothing q) placed e et eu et' ey eu' ew =
+        let v = ap values_of e in
         let ei : i ≡ 0 = cc in
         let ej : j ≡ 0 = cc in
         (e, (et' ∙ rw ei et, (eu' ∙ rw ej eu, ew ∙ rw (ej, ey, ei))))
     tree-out (bad x q) placed e et eu et' ey eu' ew = absurd (tree-bad (bad x q) i j x q e refl)
 
-    pub left_tree : (b : List ℕ) → 65536 ≤ z → Tree i j ≡ answer_of (meaning s n m) → t ≡ nodes_of n (meaning s n m) → u ≡ attr_cells m (meaning s n m)
+    pub left_tree : (b : List ℕ) → 65536 ≤ z → tree_with i j ≡ answer_of (meaning s n m) → t ≡ nodes_of n (meaning s n m) → u ≡ attr_cells m (meaning s n m)
         → b ≡ replicate z 0
         → t' ≡ nodes_read s t i → y ≡ node_strings_read s t b i → u' ≡ attrs_read s u j → w ≡ attr_strings_read s u y j
-        → Left s n m z (raw s n m z) (Tree i j) t' u' w
+        → Left s n m z (raw s n m z) (tree_with i j) t' u' w
     left_tree b h e et eu eb et' ey eu' ew =
         rw (raw-enough s n m z h) (tree-out (meaning s n m) (λ f q k a. meaning-placed s n m f q k a) e et eu et' (ey ∙ rw eb) eu' ew)

@@ -5,6 +5,7 @@
 --     nodes-counted, attrs-counted   a placed forest has as many nodes and attributes as the tree that it shows
 --     laid-outside              a byte outside of all strings is as it was
 --     parsed-of                 the promise
+use Rattle.std.specs.Prelude.{Result, Ok, Err}
 use Prim.Native.Nat.{ℕ, zero, suc, ◌+◌, ◌-◌, ◌≤◌, ◌<◌}
 use mathlib.Core.Path.{◌≡◌, refl, sym, ap, ap₂, subst, ◌∙◌}
 use mathlib.Core.Bool.{Bool, true, false}
@@ -22,15 +23,14 @@ use Rattle.utf8.proofs.Utf8Laws.{end_within, end_valid, end_longest, utf8-end, e
 use Rattle.entities.specs.Decode.{decoded}
 use Rattle.grammar.specs.Tree.{Forest}
 use Rattle.grammar.specs.Limits as count
-use Rattle.grammar.specs.Demand.{Result, refused, decode_forest}
+use Rattle.grammar.specs.Demand as demand
+use Rattle.grammar.specs.Demand.{refused, decode_forest}
 use Rattle.grammar.specs.Refusals.{Meets, too_deep, too_many_nodes, no_tag_name, too_many_attributes, slash, no_value, end_in_tag, open_close_tag}
-use Rattle.tree.specs.Answers.{number_of, place_of, values_of, Says}
+use Rattle.tree.specs.Answers.{tree_with, number_of, place_of, values_of, Says}
 use Rattle.tree.specs.Trees as placed
 use Rattle.tree.specs.Trees.{Attr, nil, text, section, elem, size, attrs_of, rows, attr_rows, Span, attr_spans, spans, InOrder}
 use Rattle.tree.specs.Read.{Out, got, nothing, bad, answer_of, nodes_of, attr_cells}
 use Rattle.tree.specs.Posts.{Fits}
-use Rattle.tree.specs.declared.answers.Answer.{Answer}
-use Rattle.tree.specs.declared.answers.Answer.TheVariants.{Tree, Refused}
 use Rattle.tree.proofs.Forests.{length_rows}
 use Rattle.tree.proofs.Tags.{length_attr_rows}
 use Rattle.tree.proofs.Places.{meaning-placed}
@@ -48,6 +48,8 @@ use Rattle.xml.proofs.Derived.{placed_as_derived}
 use Rattle.xml.proofs.Lengths.{read_placed}
 use Rattle.xml.proofs.Theorem as theorem
 use Rattle.xml.proofs.Theorem.{parsed, takes_exactly, refuses_exactly, taken-fits, answers_tree, answers_refused}
+use Rattle.tree.specs.declared.answers.Refusal.{Refusal}
+use Rattle.tree.specs.declared.answers.TreeSize.{TreeSize}
 
 -- ---- a number that is met is no 0
 meets-some : {d k j : ℕ} {s : List ℕ} {n p : ℕ} → Meets d k j s n p → 0 < n
@@ -68,12 +70,15 @@ away_some (first-met h m) = meets-some m.met
 
 -- ---- counts
 -- a refusal has no values
-tree-as : (a : Answer) (i j : ℕ) → values_of a ≡ i ∷ j ∷ [] → a ≡ Tree i j
-tree-as (Tree n m) i j e = cc
-tree-as (Refused x) i j e = let z : ◌≡◌ {A = ℕ} 0 1 = cc in absurd (omega arith)
+tree-as : (a : Result TreeSize Refusal) (i j : ℕ) → values_of a ≡ i ∷ j ∷ [] → a ≡ tree_with i j
+tree-as (Ok t) i j e =
+    let a : t.nodes ≡ i = cc in
+    let b : t.attrs ≡ j = cc in
+    ap₂ tree_with a b
+tree-as (Err x) i j e = let z : ◌≡◌ {A = ℕ} 0 1 = cc in absurd (omega arith)
 
-pub counted : {s : List ℕ} {lent left : Tables} {a : Answer} → Parsed s lent a left → (f : Forest) → Takes s lent f
-    → a ≡ Tree (count.nodes f) (count.attrs f)
+pub counted : {s : List ℕ} {lent left : Tables} {a : Result TreeSize Refusal} → Parsed s lent a left → (f : Forest) → Takes s lent f
+    → a ≡ tree_with (count.nodes f) (count.attrs f)
 counted {a = a} p f d = tree-as a (count.nodes f) (count.attrs f) (p.counts f d)
 
 module _ (z : List ℕ) where
@@ -147,10 +152,10 @@ zero_at (suc n) zero = refl
 zero_at (suc n) (suc i) = zero_at n i
 
 -- ---- the cases of an answer
-pub refused_as : (r : Answer) (i p : ℕ) → 0 < i → Says r i p → r ≡ Refused (record { number = i; place = p })
+pub refused_as : (r : Result TreeSize Refusal) (i p : ℕ) → 0 < i → Says r i p → r ≡ Err (record { number = i; place = p })
 unfolding number_of place_of
-refused_as (Tree a b) i p h e = absurd (omega (arith, e.0))
-refused_as (Refused x) i p h e = ap₂ (λ (a b : ℕ). Refused (record { number = a; place = b })) e.0 e.1
+refused_as (Ok t) i p h e = absurd (omega (arith, e.0))
+refused_as (Err x) i p h e = ap₂ (λ (a b : ℕ). Err (record { number = a; place = b })) e.0 e.1
 
 bad-out : (o : Out) → 0 < number_of (answer_of o) → (i : ℕ) × (q : ℕ) × (o ≡ bad i q)
 unfolding number_of answer_of
@@ -160,7 +165,7 @@ bad-out (bad i q) h = (i, q, refl)
 
 -- ---- the text s, the tables T, U and Z at entry
 module _ (s T U Z : List ℕ) where
-  abbrev result : Result
+  abbrev result : demand.Result
   result = parsed s (length T) (length U) (length Z)
 
   fits-of : Readable s (tables T U Z) → Fits s (length T) (length U)
@@ -179,7 +184,7 @@ module _ (s T U Z : List ℕ) where
   }
 
   -- ---- the numbers
-  moved : (a b i p : ℕ) → ◌≡◌ {A = Result} (refused a b) (refused i p) → TurnsAway s (tables T U Z) a b → TurnsAway s (tables T U Z) i p
+  moved : (a b i p : ℕ) → ◌≡◌ {A = demand.Result} (refused a b) (refused i p) → TurnsAway s (tables T U Z) a b → TurnsAway s (tables T U Z) i p
   moved a b i p e t =
       let x : a ≡ i = cc in
       let y : b ≡ p = cc in
@@ -257,7 +262,7 @@ module _ (s T U Z : List ℕ) where
   away_is (first-met {n} {p} r m) = (refuses_exactly s (length T) (length U) (length Z) (fits-of r) r.long_enough.of_strings n p).1 m
 
   -- ---- the promise
-  module _ {r : Answer} {t u w : List ℕ} (left : Left s (length T) (length U) (length Z) (raw s (length T) (length U) (length Z)) r t u w) where
+  module _ {r : Result TreeSize Refusal} {t u w : List ℕ} (left : Left s (length T) (length U) (length Z) (raw s (length T) (length U) (length Z)) r t u w) where
     module _ (f : Forest) (d : Takes s (tables T U Z) f) where
       fits : Fits s (length T) (length U)
       fits = fits-of d.readable
@@ -274,11 +279,11 @@ module _ (s T U Z : List ℕ) where
           ap (read_forest s) (placed_as_derived d.derives.derived (length T) (length U) fits read.0 read.1 read.2 read.3 read.4)
           ∙ read_placed d.derives.derived
 
-      counts_it : r ≡ Tree (count.nodes f) (count.attrs f)
+      counts_it : r ≡ tree_with (count.nodes f) (count.attrs f)
       unfolding answer_of
       counts_it =
           left.0 ∙ ap answer_of read_is
-          ∙ ap₂ Tree (nodes-counted s read.0 ∙ ap count.nodes read.5) (attrs-counted s read.0 ∙ ap count.attrs read.5)
+          ∙ ap₂ tree_with (nodes-counted s read.0 ∙ ap count.nodes read.5) (attrs-counted s read.0 ∙ ap count.attrs read.5)
 
       holds_read : HoldsTree s (tables T U Z) (tables t u w) f (read_forest s read.0)
       unfolding nodes_of attr_cells read_out strings_of
@@ -302,14 +307,14 @@ module _ (s T U Z : List ℕ) where
             as_long = ap length laid ∙ lay-length (strings s g) (replicate (length Z) 0) ∙ length-replicate {A = ℕ} (length Z) 0;
           }
 
-    taken-only : (a : Answer) → r ≡ a → number_of a ≡ 0 → (f : Forest) × Takes s (tables T U Z) f
+    taken-only : (a : Result TreeSize Refusal) → r ≡ a → number_of a ≡ 0 → (f : Forest) × Takes s (tables T U Z) f
     unfolding number_of
-    taken-only (Tree i j) e h =
-        let g = (answers_tree s (length T) (length U) (length Z)).0 (i, j, sym left.0 ∙ e) in
+    taken-only (Ok t) e h =
+        let g = (answers_tree s (length T) (length U) (length Z)).0 (t.nodes, t.attrs, sym left.0 ∙ e) in
         let y = taken-fits s (length T) (length U) (length Z) g.0 g.1 in
         let d = (takes_exactly s (length T) (length U) (length Z) y.0 y.1).0 g in
         (d.0, record { readable = readable_of y.0 y.1; derives = d.1 })
-    taken-only (Refused x) e h =
+    taken-only (Err x) e h =
         let y = (answers_refused s (length T) (length U) (length Z) x.number x.place).0 (sym left.0 ∙ e) in
         absurd (omega (arith, h, away_some (is-away x.number x.place y)))
 

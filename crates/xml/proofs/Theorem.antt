@@ -4,6 +4,7 @@
 --     takes_exactly, gives-that_tree, refuses_exactly   the demand; parsed-derived: of a text that derives a tree, it shows that tree
 --     small_strings, small_nodes, small_attrs, too_long, not_utf8   the numbers 1 to 3, in this order; taken-fits: a text that is taken meets none
 --     answers_tree, answers_refused  the program's answer tells which it is
+use Rattle.std.specs.Prelude.{Err}
 use Prim.Native.Nat.{ℕ, ◌≤◌, ◌<◌}
 use mathlib.Core.Path.{◌≡◌, refl, sym, ap, ap₂, ◌∙◌}
 use mathlib.Core.Bool.{Bool, true, false}
@@ -17,7 +18,6 @@ use Rattle.entities.specs.Decode.{decoded}
 use Rattle.tree.specs.Trees as placed
 use Rattle.tree.specs.Trees.{spans, InOrder}
 use Rattle.tree.specs.Read.{Out, got, nothing, bad, meaning, answer_of}
-use Rattle.tree.specs.declared.answers.Answer.TheVariants.{Tree, Refused}
 use Rattle.tree.specs.declared.answers.Refusal.{Refusal}
 use Rattle.utf8.specs.Utf8.{utf8_end}
 use Rattle.tree.specs.Posts.{Fits}
@@ -33,6 +33,7 @@ use Rattle.derivation.proofs.Agree.{agree}
 use Rattle.xml.specs.Steps.{raw, read_out, strings_of}
 use Rattle.xml.proofs.Parsing.{raw-small, raw-enough}
 use Rattle.xml.proofs.Shown.{tree-shown}
+use Rattle.tree.specs.Answers.{tree_with}
 
 -- what the table of strings and the placed forest show: a tree, or a number and its place
 abbrev pub parsed : List ℕ → ℕ → ℕ → ℕ → Result
@@ -48,19 +49,19 @@ shows s z h (bad n p) i = refl
 
 -- ---- a tree or a refusal, in each of the three
 module _ (s : List ℕ) (z : ℕ) where
-  there : (o : Out) (i j : ℕ) → answer_of o ≡ Tree i j → (g : Forest) × (result_in (strings_of z s o) (read_out s o) ≡ tree g)
+  there : (o : Out) (i j : ℕ) → answer_of o ≡ tree_with i j → (g : Forest) × (result_in (strings_of z s o) (read_out s o) ≡ tree g)
   unfolding answer_of result_in read_out
   there (got f q k a) i j e = (_, refl)
   there (nothing q) i j e = (_, refl)
   there (bad n p) i j e = let d : ◌≡◌ {A = ℕ} 0 1 = cc in absurd (omega arith)
 
-  back : (o : Out) (g : Forest) → result_in (strings_of z s o) (read_out s o) ≡ tree g → (i : ℕ) × (j : ℕ) × (answer_of o ≡ Tree i j)
+  back : (o : Out) (g : Forest) → result_in (strings_of z s o) (read_out s o) ≡ tree g → (i : ℕ) × (j : ℕ) × (answer_of o ≡ tree_with i j)
   unfolding answer_of result_in read_out
   back (got f q k a) g e = (_, _, refl)
   back (nothing q) g e = (_, _, refl)
   back (bad n p) g e = let d : ◌≡◌ {A = ℕ} 0 1 = cc in absurd (omega arith)
 
-  refused-there : (o : Out) (i p : ℕ) → answer_of o ≡ Refused (record { number = i; place = p }) → result_in (strings_of z s o) (read_out s o)
+  refused-there : (o : Out) (i p : ℕ) → answer_of o ≡ Err (record { number = i; place = p }) → result_in (strings_of z s o) (read_out s o)
       ≡ refused i p
   unfolding answer_of result_in read_out
   refused-there (got f q k a) i p e = let d : ◌≡◌ {A = ℕ} 0 1 = cc in absurd (omega arith)
@@ -70,7 +71,7 @@ module _ (s : List ℕ) (z : ℕ) where
       ap₂ refused (ap (λ (x : Refusal). x.number) w) (ap (λ (x : Refusal). x.place) w)
 
   refused-back : (o : Out) (i p : ℕ) → result_in (strings_of z s o) (read_out s o) ≡ refused i p → answer_of o
-      ≡ Refused (record { number = i; place = p })
+      ≡ Err (record { number = i; place = p })
   unfolding answer_of result_in read_out
   refused-back (got f q k a) i p e = let d : ◌≡◌ {A = ℕ} 0 1 = cc in absurd (omega arith)
   refused-back (nothing q) i p e = let d : ◌≡◌ {A = ℕ} 0 1 = cc in absurd (omega arith)
@@ -157,8 +158,8 @@ module _ (s : List ℕ) (n m z : ℕ) where
       )
 
   -- ---- the answer
-  pub answers_tree : ((i : ℕ) × (j : ℕ) × (answer_of (raw s n m z) ≡ Tree i j)) ↔ ((g : Forest) × (parsed s n m z ≡ tree g))
+  pub answers_tree : ((i : ℕ) × (j : ℕ) × (answer_of (raw s n m z) ≡ tree_with i j)) ↔ ((g : Forest) × (parsed s n m z ≡ tree g))
   answers_tree = ((λ x. there s z (raw s n m z) x.0 x.1 x.2), (λ x. back s z (raw s n m z) x.0 x.1))
 
-  pub answers_refused : (i p : ℕ) → (answer_of (raw s n m z) ≡ Refused (record { number = i; place = p })) ↔ (parsed s n m z ≡ refused i p)
+  pub answers_refused : (i p : ℕ) → (answer_of (raw s n m z) ≡ Err (record { number = i; place = p })) ↔ (parsed s n m z ≡ refused i p)
   answers_refused i p = (refused-there s z (raw s n m z) i p, refused-back s z (raw s n m z) i p)

@@ -1,18 +1,15 @@
 -- What is asked of a tree in its tables: elements by their local names, attributes by their names. Definitions alone.
 -- Names are compared without regard to ASCII case (the Rust's `find_element` and `attr`).
-use Rattle.std.specs.Prelude.{ℕ, ◌+◌, ◌*◌, ◌≤◌, ◌≡◌, Bool, true, false, cond, List, [], ◌∷◌, length, get_or, eqb}
+use Rattle.std.specs.Prelude.{Option, Some, None, ℕ, ◌+◌, ◌*◌, ◌≤◌, ◌≡◌, Bool, true, false, cond, List, [], ◌∷◌, length, get_or, eqb}
 use Rattle.scan.specs.Names.{same_folded, after_last_colon}
 use Rattle.tree.specs.Trees.{Attr, Forest, nil, text, section, elem, size, attrs_of, spans, InOrder}
 use Rattle.tree.specs.Walks.{Stands, Listed, RowIs}
 use Rattle.grammar.specs.Tree as tree
 use Rattle.scan.specs.Part.{string_at}
 use Rattle.derivation.specs.Strings.{attrs_in, tree_in}
-use Rattle.scan.specs.declared.table.Found.{Found}
-use Rattle.scan.specs.declared.table.Found.TheVariants.{Row, Nothing}
 use Rattle.xml.specs.declared.find.Element.{Element}
 use Rattle.xml.specs.declared.find.Attribute.{Attribute}
-use Rattle.xml.specs.declared.find.Value.{Value}
-use Rattle.xml.specs.declared.find.Value.TheVariants.{At, Absent}
+use Rattle.xml.specs.declared.attributes.Attributes.{Attributes}
 
 -- ---- on trees
 -- an element's local name is this
@@ -61,23 +58,23 @@ abbrev pub OfSiblings : (t : List ℕ) (i e : ℕ) → (Forest → Type 0) → T
 OfSiblings t i e holds = (a : ℕ) (f : Forest) → Stands t i a f → i + size f ≡ e → holds f
 
 -- the row of the first element of that name, where the forest stands from row i on
-unfoldable pub find_row : List ℕ → List ℕ → ℕ → Forest → Found
-find_row z name i nil = Nothing
+unfoldable pub find_row : List ℕ → List ℕ → ℕ → Forest → Option ℕ
+find_row z name i nil = None
 find_row z name i (text p n f) = find_row z name (i + 1) f
 find_row z name i (section p n f) = find_row z name (i + 1) f
-find_row z name i (elem p n l c f) = cond (named name (string_at z (p + 1) n)) (Row i) (find_row z name (i + 1 + size c) f)
+find_row z name i (elem p n l c f) = cond (named name (string_at z (p + 1) n)) (Some i) (find_row z name (i + 1 + size c) f)
 
 -- the first attribute of that name: its place, and place and length of its value
-unfoldable pub find_value : List ℕ → List ℕ → List Attr → Value
-find_value z name [] = Absent
+unfoldable pub find_value : List ℕ → List ℕ → List Attr → Option Attribute
+find_value z name [] = None
 find_value z name (x ∷ l) =
-    cond (same_folded (string_at z x.name x.name_len) name) (At (record { at = x.name; place = x.value; len = x.value_len }))
+    cond (same_folded (string_at z x.name x.name_len) name) (Some (record { at = x.name; place = x.value; len = x.value_len }))
     (find_value z name l)
 
 -- what the answer says, which has no number of document 01's list, since nothing is turned away here: an attribute's value, or none
-unfoldable pub shown : List ℕ → Value → FoundValue
-shown z (At x) = value (string_at z x.place x.len)
-shown z Absent = no_value
+unfoldable pub shown : List ℕ → Option Attribute → FoundValue
+shown z (Some x) = value (string_at z x.place x.len)
+shown z None = no_value
 
 -- the attributes l are those from row j on, n of them, with their strings within z
 abbrev pub WithinAttrs : ℕ → List Attr → Type 0
@@ -95,6 +92,17 @@ HasRows u z first many = (l : List Attr) × Owned u z first many l
 
 abbrev pub OfRows : (u z : List ℕ) (first many : ℕ) → (List Attr → Type 0) → Type 0
 OfRows u z first many holds = (l : List Attr) → Owned u z first many l → holds l
+
+-- the same of those that an element has
+abbrev pub Of : Attributes → (List Attr → Type 0) → Type 0
+Of a holds = OfRows a.attrs.now a.strings.now a.first a.many holds
+
+-- they are those in these rows
+pub record InRows (a : Attributes) (u z : List ℕ) (i n : ℕ) : Type 0 where
+  pub table : a.attrs.now ≡ u
+  pub bytes : a.strings.now ≡ z
+  pub from : a.first ≡ i
+  pub count : a.many ≡ n
 
 -- row k stands in the table, and its name within the strings; that name; the cells of its place and its value
 abbrev pub NameFits : (u z : List ℕ) (k : ℕ) → Type 0

@@ -2,5 +2,6 @@
 pub mod Reading
 pub mod Steps
 pub mod Find
+pub mod Rows
 pub mod Where
 pub mod Promise

@@ -1,6 +1,6 @@
 -- What `parse_xml` promises, in the words of document 01: of the text, the tables that are lent and what is left in them, and the answer.
 -- Definitions alone. Nothing here says how the program reads.
-use Rattle.std.specs.Prelude.{ℕ, ◌+◌, ◌-◌, ◌≤◌, ◌<◌, ◌≡◌, ◌⊎◌, ◌↔◌, List, [], ◌∷◌, ◌++◌, length, get_or, take, replicate}
+use Rattle.std.specs.Prelude.{Result, ℕ, ◌+◌, ◌-◌, ◌≤◌, ◌<◌, ◌≡◌, ◌⊎◌, ◌↔◌, List, [], ◌∷◌, ◌++◌, length, get_or, take, replicate}
 use Rattle.utf8.specs.Utf8.{Utf8}
 use Rattle.entities.specs.Decode.{decoded}
 use Rattle.grammar.specs.Tree.{Forest}
@@ -12,9 +12,10 @@ use Rattle.grammar.specs.Refusals.{FirstMet}
 use Rattle.tree.specs.Answers.{number_of, values_of, Says}
 use Rattle.tree.specs.Trees as placed
 use Rattle.tree.specs.Trees.{node_table, attr_table, rows, attrs_of, attr_rows, Span, spans, InOrder}
-use Rattle.tree.specs.declared.answers.Answer.{Answer}
 use Rattle.derivation.specs.Strings.{tree_in}
 use Rattle.xml.specs.Where.{document_placed}
+use Rattle.tree.specs.declared.answers.Refusal.{Refusal}
+use Rattle.tree.specs.declared.answers.TreeSize.{TreeSize}
 
 -- ---- the tables
 pub record Tables : Type 0 where
@@ -95,7 +96,7 @@ pub record HoldsTree (text : List ℕ) (lent left : Tables) (f : Forest) (g : pl
   pub as_long : length left.strings ≡ length lent.strings
 
 -- ---- the promise
-pub record Parsed (text : List ℕ) (lent : Tables) (answer : Answer) (left : Tables) : Type 0 where
+pub record Parsed (text : List ℕ) (lent : Tables) (answer : Result TreeSize Refusal) (left : Tables) : Type 0 where
   -- "It is taken if the tree reader, lent tables that are long enough, answers without a number": exactly if the grammar derives a tree for
   -- it within the limits
   pub taken : Says answer 0 0 ↔ ((f : Forest) × Takes text lent f)

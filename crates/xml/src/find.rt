@@ -2,9 +2,9 @@
 ghost use Rattle.std.specs.Prelude.{◌≡◌, ◌+◌, ◌*◌, ◌≤◌, length};
 ghost use Rattle.scan.specs.Names.{same_folded};
 ghost use Rattle.xml.specs.Find.{Siblings, OfSiblings, find_row, is_element, HasRow, element_row};
-ghost use Rattle.xml.specs.Find.{HasRows, OfRows, NameFits, name_at, attribute_row, find_value};
+ghost use Rattle.xml.specs.Find.{Of, NameFits, name_at, attribute_row, find_value};
 
-use scan::Found;
+use crate::attributes::Attributes;
 use tree::{ATTR_CELLS, ELEMENT, NODE_CELLS};
 
 // An attribute: its place in the text, and the place and length of its value in the strings.
@@ -13,13 +13,6 @@ pub struct Attribute {
     pub at: usize,
     pub place: usize,
     pub len: usize,
-}
-
-// An attribute with its value, or there is no such attribute.
-#[derive(Clone, Copy)]
-pub enum Value {
-    At(Attribute),
-    Absent,
 }
 
 // An element: its place in the text, its name in the strings, the row after its subtree, and its attributes' rows.
@@ -63,18 +56,24 @@ pub fn is_element(nodes: &[u32], strings: &[u8], k: usize, name: &[u8]) -> bool
 }
 
 // The first element of this local name among the siblings in the rows from `from` up to `end`.
-pub fn find_element(nodes: &[u32], strings: &[u8], from: usize, end: usize, name: &[u8]) -> Found
+pub fn find_element(
+    nodes: &[u32],
+    strings: &[u8],
+    from: usize,
+    end: usize,
+    name: &[u8],
+) -> Option<usize>
     requires { Siblings nodes.now strings.now from end }
     ensures { OfSiblings nodes.now from end (λ f. result ≡ find_row strings.now name.now from f) }
 {
     let mut k = from;
     while k < end {
         if is_element(nodes, strings, k, name) {
-            return Found::Row(k);
+            return Some(k);
         }
         k = scan::get(nodes, k * NODE_CELLS + 1);
     }
-    Found::Nothing
+    None
 }
 
 // Is this the name of attribute k, letters in any case? Most names have another length, and most that are found are spelt as they are looked for.
@@ -89,10 +88,7 @@ fn is_attr(attrs: &[u32], strings: &[u8], k: usize, name: &[u8]) -> bool
     let start = scan::get(attrs, k * ATTR_CELLS);
     let stop = start + len;
     let here = &strings[start..stop];
-    if scan::same(here, name) {
-        return true;
-    }
-    scan::eq_ignore_ascii_case(here, name)
+    scan::same(here, name) || scan::eq_ignore_ascii_case(here, name)
 }
 
 // The row of an attribute.
@@ -108,19 +104,26 @@ pub fn attr_at(attrs: &[u32], k: usize) -> Attribute
     }
 }
 
-// The first attribute of this name among the `many` from row `first` on.
-pub fn attr(attrs: &[u32], strings: &[u8], first: usize, many: usize, name: &[u8]) -> Value
-    requires { HasRows attrs.now strings.now first many }
-    ensures { OfRows attrs.now strings.now first many (λ l.
-        result ≡ find_value strings.now name.now l) }
-{
-    let end = first + many;
-    let mut k = first;
-    while k < end {
-        if is_attr(attrs, strings, k, name) {
-            return Value::At(attr_at(attrs, k));
-        }
-        k += 1;
+impl<'a> Attributes<'a> {
+    // The name in row k.
+    pub fn name(&self, k: usize) -> &'a [u8]
+        requires { NameFits self.now.attrs.now self.now.strings.now k }
+        ensures { result.now ≡ name_at self.now.attrs.now self.now.strings.now k }
+    {
+        let start = scan::get(self.attrs, k * ATTR_CELLS);
+        &self.strings[start..start + scan::get(self.attrs, k * ATTR_CELLS + 1)]
     }
-    Value::Absent
+
+    // The first of this name.
+    pub fn attr(&self, name: &[u8]) -> Option<Attribute>
+        ensures { Of self.now (λ l. result ≡ find_value self.now.strings.now name.now l) }
+    {
+        let end = self.first + self.many;
+        for k in self.first..end {
+            if is_attr(self.attrs, self.strings, k, name) {
+                return Some(attr_at(self.attrs, k));
+            }
+        }
+        None
+    }
 }

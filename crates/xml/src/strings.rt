@@ -23,10 +23,8 @@ fn plain_at(src: &[u8], p: Plain, at: usize) -> Plain
     requires { (at ≤ length src.now) × Passes (other 38) src.now p.from p.end }
     ensures { (result.from ≤ at) × (at ≤ result.end) × Passes (other 38) src.now result.from result.end }
 {
-    if p.from <= at {
-        if at <= p.end {
-            return p;
-        }
+    if p.from <= at && at <= p.end {
+        return p;
     }
     let end = scan::find_far(src, at, b'&');
     Plain { from: at, end }
@@ -38,10 +36,8 @@ fn decode(src: &[u8], p: Plain, start: usize, stop: usize, strings: &mut [u8]) -
         × Passes (other 38) src.now p.from p.end }
     ensures { Appended (decoded (take (stop - start) (drop start src.now))) start strings.old strings.new result }
 {
-    if p.from <= start {
-        if stop <= p.end {
-            return scan::copy(&src[start..stop], strings, start);
-        }
+    if stop <= p.end && p.from <= start {
+        return scan::copy(&src[start..stop], strings, start);
     }
     entities::decode_entities(&src[start..stop], strings, start)
 }
@@ -55,18 +51,15 @@ fn read_node(src: &[u8], p: Plain, nodes: &mut [u32], strings: &mut [u8], k: usi
 {
     let at = k * NODE_CELLS;
     let kind = nodes[at];
-    let mut start = scan::get(nodes, at + 2);
+    let place = scan::get(nodes, at + 2);
     let len = scan::get(nodes, at + 3);
-    if kind == ELEMENT {
-        start += 1;
-    }
+    let start = if kind == ELEMENT { place + 1 } else { place };
     let stop = start + len;
-    let mut end = start;
-    if kind == TEXT {
-        end = decode(src, p, start, stop, strings);
+    let end = if kind == TEXT {
+        decode(src, p, start, stop, strings)
     } else {
-        end = scan::copy(&src[start..stop], strings, start);
-    }
+        scan::copy(&src[start..stop], strings, start)
+    };
     scan::put(nodes, at + 3, end - start);
 }
 
@@ -77,11 +70,9 @@ pub fn read_nodes(src: &[u8], nodes: &mut [u32], strings: &mut [u8], count: usiz
     ensures strings_after { strings.new ≡ node_strings_read src.now nodes.old strings.old count }
 {
     let mut p = Plain { from: 0, end: 0 };
-    let mut k = 0;
-    while k < count {
+    for k in 0..count {
         p = plain_at(src, p, scan::get(nodes, k * NODE_CELLS + 2));
         read_node(src, p, nodes, strings, k);
-        k += 1;
     }
 }
 
@@ -109,10 +100,8 @@ pub fn read_attrs(src: &[u8], attrs: &mut [u32], strings: &mut [u8], count: usiz
     ensures strings_after { strings.new ≡ attr_strings_read src.now attrs.old strings.old count }
 {
     let mut p = Plain { from: 0, end: 0 };
-    let mut k = 0;
-    while k < count {
+    for k in 0..count {
         p = plain_at(src, p, scan::get(attrs, k * ATTR_CELLS + 2));
         read_attr(src, p, attrs, strings, k);
-        k += 1;
     }
 }

@@ -9,16 +9,16 @@ returns-in_default c =
 
 pub find_element-requires : goal.find_element-requires
 find_element-requires c =
-    given-siblings c.parse_xml.ensures c.in-Tree.is
+    given-siblings c.parse_xml.ensures c.in-Ok.is
 
 pub element_at-requires : goal.element_at-requires
 element_at-requires c =
-    row-there c.parse_xml.ensures c.in-Tree.is c.find_element.ensures c.in-Row.is
+    row-there c.parse_xml.ensures c.in-Ok.is c.find_element.ensures c.in-Some.is
 
-pub returns-in-Row : goal.returns-in-Row
-returns-in-Row c =
-    on_row c.parse_xml.ensures c.in-Tree.is c.find_element.ensures c.in-Row.is c.element_at.ensures
+pub returns-in-Some : goal.returns-in-Some
+returns-in-Some c =
+    on_row c.parse_xml.ensures c.in-Ok.is c.find_element.ensures c.in-Some.is c.element_at.ensures
 
-pub returns-in-Nothing : goal.returns-in-Nothing
-returns-in-Nothing c =
-    on_nothing c.parse_xml.ensures c.in-Tree.is c.find_element.ensures c.in-Nothing.is
+pub returns-in-None : goal.returns-in-None
+returns-in-None c =
+    on_nothing c.parse_xml.ensures c.in-Ok.is c.find_element.ensures c.in-None.is

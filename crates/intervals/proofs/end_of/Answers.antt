@@ -5,21 +5,21 @@ use mir.Facts.{to_z-of_z}
 use borrow.Author.Rules.{sfits_of}
 use Rattle.intervals.proofs.end_of.Goals as goal
 
-pub returns-then-end : goal.returns-then-end
+pub returns-in-Some : goal.returns-in-Some
 unfolding end_of
-returns-then-end c =
-    rw c.if-end.true
-    (summed _ c.args.place c.args.reference c.args.end.time c.ranges.reference (sfits_of (omega arith))
-    c.add.ensures)
+returns-in-Some c =
+    rw c.in-Some.is
+    (summed _ c.args.place c.args.reference c.in-Some.end c.ranges.reference (sfits_of (omega arith))
+    c.add_times.ensures)
 
-pub returns-then-dur : goal.returns-then-dur
+pub returns-in-Some-dur : goal.returns-in-Some-dur
 unfolding end_of
-returns-then-dur c =
-    rw (c.if-end.false, c.if-dur.true)
-    (summed _ c.args.place c.args.start c.args.dur.time c.ranges.start (sfits_of (omega arith))
-    c.add-then-dur.ensures)
+returns-in-Some-dur c =
+    rw (c.in_default.is, c.in-Some-dur.is)
+    (summed _ c.args.place c.args.start c.in-Some-dur.dur c.ranges.start (sfits_of (omega arith))
+    c.add_times-in-Some-dur.ensures)
 
-pub returns : goal.returns
+pub returns-in-None : goal.returns-in-None
 unfolding end_of
-returns c =
-    rw (c.if-end.false, c.if-dur.false, to_z-of_z c.ranges.start)
+returns-in-None c =
+    rw (c.in_default.is, c.in-None.is, to_z-of_z c.ranges.start)

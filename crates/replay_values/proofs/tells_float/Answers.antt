@@ -7,7 +7,7 @@ use Rattle.replay_values.proofs.tells_float.Goals as goal
 
 pub to_f64-requires : goal.to_f64-requires
 to_f64-requires c =
-    let w = decimal-limits 15 22 _ (sym c.read_decimal.ensures.is ∙ c.in-Is.is) in
+    let w = decimal-limits 15 22 _ (sym c.read_decimal.ensures.is ∙ c.in-Ok.is) in
     (w.small, w.near)
 
 pub float_to_bits-to_f64 : goal.float_to_bits-to_f64

@@ -2,10 +2,10 @@
 use mathlib.Core.Path.{refl}
 use Rattle.rewritten.proofs.write_read.Goals as goal
 
-pub returns-in-Refused : goal.returns-in-Refused
-returns-in-Refused c =
-    rw c.in-Refused.is (refl, c.clear_bytes.ensures)
+pub returns-in-Err : goal.returns-in-Err
+returns-in-Err c =
+    rw c.in-Err.is (refl, c.clear_bytes.ensures)
 
-pub returns-in-Track : goal.returns-in-Track
-returns-in-Track c =
-    rw c.in-Track.is c.write.ensures
+pub returns-in-Ok : goal.returns-in-Ok
+returns-in-Ok c =
+    rw c.in-Ok.is c.write.ensures

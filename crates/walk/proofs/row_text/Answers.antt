@@ -2,35 +2,36 @@
 use mathlib.Core.Path.{refl, sym}
 use native.Mathlib.Omega.{arith}
 use Rattle.scan.specs.Part.{string_at}
-use Rattle.walk.proofs.Rows.{own-text, own-break, own-none, within-sum}
+use Rattle.walk.proofs.Rows.{own-text, own-break, own-none, within-sum, next-within}
 use borrow.Author.Rules.{rules}
 use Rattle.walk.proofs.row_text.Goals as goal
 
 pub overflow_add-end : goal.overflow_add-end
 overflow_add-end c =
-    let h = within-sum c.args.segments.now c.args.i (omega arith) _ _ c.get-start.ensures c.get.ensures c.requires.1 in
+    let w = next-within _ _ _ _ c.requires.0 c.requires.1 c.args.rows.now.within in
+    let h = within-sum c.args.rows.now.segments.now c.args.i (omega arith) _ _ c.get-start.ensures c.get.ensures w in
     search (rules, h)
 
 pub slice_bounds-append-end : goal.slice_bounds-append-end
 slice_bounds-append-end c =
-    let h = within-sum c.args.segments.now c.args.i (omega arith) _ _ c.get-start.ensures c.get.ensures
-    c.requires.1 in
-    omega (arith, h, c.requires.2)
+    let w = next-within _ _ _ _ c.requires.0 c.requires.1 c.args.rows.now.within in
+    let h = within-sum c.args.rows.now.segments.now c.args.i (omega arith) _ _ c.get-start.ensures c.get.ensures w in
+    omega (arith, h, c.args.rows.now.full)
 
-pub returns-then-kind-eq-TEXT : goal.returns-then-kind-eq-TEXT
+pub returns-in-1 : goal.returns-in-1
 unfolding string_at
-returns-then-kind-eq-TEXT c =
+returns-in-1 c =
     rw (
-      own-text c.args.texts.now c.args.segments.now c.args.i (omega arith),
+      own-text c.args.rows.now.texts.now c.args.rows.now.segments.now c.args.i (omega arith),
       sym c.get-start.ensures,
       sym c.get.ensures,
     ) c.append.ensures
 
-pub returns-then-kind-eq-BREAK : goal.returns-then-kind-eq-BREAK
-returns-then-kind-eq-BREAK c =
-    rw (own-break c.args.texts.now c.args.segments.now c.args.i (omega arith)) c.append-then-kind-eq-BREAK.ensures
+pub returns-in-2 : goal.returns-in-2
+returns-in-2 c =
+    rw (own-break c.args.rows.now.texts.now c.args.rows.now.segments.now c.args.i (omega arith)) c.append-in-2.ensures
 
-pub returns : goal.returns
-returns c =
-    rw (own-none c.args.texts.now c.args.segments.now c.args.i (λ e. omega arith) (λ e. omega arith))
-    (record { next = omega arith; within = c.requires.3; laid = refl })
+pub returns-in_default : goal.returns-in_default
+returns-in_default c =
+    rw (own-none c.args.rows.now.texts.now c.args.rows.now.segments.now c.args.i (λ e. omega arith) (λ e. omega arith))
+    (record { next = omega arith; within = c.requires.2; laid = refl })

@@ -1,5 +1,4 @@
 use mathlib.Core.Path.{sym, ◌∙◌}
-use native.Mathlib.Omega.{arith}
 use Rattle.track.proofs.Chains.{fails, holds}
 use Rattle.track.proofs.RowLaws.{rows-stop, rows_next, rows-done}
 use Rattle.walk.proofs.Rows.{rows-from}
@@ -7,17 +6,17 @@ use Rattle.walk.proofs.rows_within.Goals as goal
 
 pub loop-i-init : goal.loop-i-init
 loop-i-init c =
-    (omega arith, omega arith, rows-from _ _ _)
+    rows-from _ _ _
 
 pub returns-then-not-row_within : goal.returns-then-not-row_within
 returns-then-not-row_within c =
-    sym (c.loop-i.invariant.2 ∙ rows-stop _ c.loop-i-test.true (fails c.row_within.ensures c.if-not-row_within.true-raw))
+    sym (c.loop-i.invariant ∙ rows-stop _ c.loop-i-test.true (fails c.row_within.ensures c.if-not-row_within.true-raw))
 
 pub loop-i-preserved : goal.loop-i-preserved
 loop-i-preserved c =
     let h = holds c.row_within.ensures c.if-not-row_within.false-raw in
-    (omega (arith, c.loop-i.invariant.0), omega arith, c.loop-i.invariant.2 ∙ rows_next _ c.loop-i-test.true h)
+    c.loop-i.invariant ∙ rows_next _ c.loop-i-test.true h
 
 pub returns : goal.returns
 returns c =
-    sym (c.loop-i.invariant.2 ∙ rows-done _ c.loop-i-test.false)
+    sym (c.loop-i.invariant ∙ rows-done _ c.loop-i-test.false)

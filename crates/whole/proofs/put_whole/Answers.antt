@@ -1,10 +1,12 @@
 -- `put_whole` meets its contract. Assumes nothing.
 use native.Mathlib.Omega.{arith}
+use Rattle.xml.proofs.RowFacts.{has_rows}
 use Rattle.whole.proofs.put_whole.Goals as goal
 
 pub put_head-requires : goal.put_head-requires
 put_head-requires c =
-    let w = (c.lang_of-lang.ensures c.requires.attrs.0 c.requires.attrs.1).within in (
+    let own = has_rows c.args.attrs.now.room c.args.attrs.now.within in
+    let w = (c.lang_of-lang.ensures own.0 own.1).within in (
       c.requires.in_head,
       (
         omega (arith, c.requires.few),
@@ -12,7 +14,7 @@ put_head-requires c =
         omega (arith, c.requires.few_regions),
         omega (arith, c.requires.few_cues),
         omega (arith, c.requires.few_rows),
-        (omega (arith, w, c.requires.short), omega (arith, w, c.requires.short)),
+        rw c.unwrap_or.ensures (omega (arith, w, c.requires.short), omega (arith, w, c.requires.short)),
         omega (arith, c.requires.short),
         omega (arith, c.requires.short),
       ),
@@ -22,4 +24,4 @@ pub returns : goal.returns
 returns c =
     λ l o.
     let v = c.lang_of-lang.ensures l o in
-    record { in_head = rw (v.has, v.span) at c.put_head.ensures }
+    record { in_head = rw (c.is_some.ensures, c.unwrap_or.ensures, v.has, v.span) at c.put_head.ensures }

@@ -8,16 +8,16 @@ pub read_tt-requires : goal.read_tt-requires
 read_tt-requires c =
     record {
       ready = c.requires.ready;
-      element = (elem-found c.requires.tree (ascii "tt") c.find_element.ensures c.in-Row.is).element;
+      element = (elem-found c.requires.tree (ascii "tt") c.find_element.ensures c.in-Some.is).element;
     }
 
-pub returns-in-Nothing : goal.returns-in-Nothing
-returns-in-Nothing c =
-    λ x. (root_no x c.find_element.ensures c.in-Nothing.is, c.requires.ready.zero)
+pub returns-in_default : goal.returns-in_default
+returns-in_default c =
+    λ x. (root_no x c.find_element.ensures c.in_default.is, c.requires.ready.zero)
 
-pub returns-in-Row : goal.returns-in-Row
-returns-in-Row c =
+pub returns : goal.returns
+returns c =
     λ x.
     let o = c.find_element.ensures in
-    let e = c.in-Row.is in
+    let e = c.in-Some.is in
     track_as _ _ _ c.read_tt.result (root_is x o e) (c.read_tt.ensures (elem-found x (ascii "tt") o e).element)

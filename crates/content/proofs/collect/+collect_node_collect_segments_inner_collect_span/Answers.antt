@@ -6,6 +6,7 @@ use mir.Syntax.{w64}
 use mir.Facts.{to_z-of_z}
 use mir.ValLaws as laws
 use borrow.Author.Rules.{rules}
+use Rattle.scan.proofs.Handed.{handed_on}
 use Rattle.content.proofs.Reading.{element-kind, element-end, text-came, break-came, unknown-came, span-refused, span-inside, span-came, node_row, node_end, text-asks, break-asks, node-attrs, own-asks, post_more, along_start, along_asks, along_next, along_step, along_fail, along_done}
 use Rattle.content.proofs.collect.+collect_node_collect_segments_inner_collect_span.Goals as goal
 
@@ -14,27 +15,27 @@ collect_node-overflow_mul-k t c =
     let h = (node_row c.requires.entry c.requires.some).row in
     search (rules, h)
 
-pub collect_node-offset_bounds-nodes-k : goal.collect_node-offset_bounds-nodes-k
-collect_node-offset_bounds-nodes-k t c =
+pub collect_node-offset_bounds-tree-k : goal.collect_node-offset_bounds-tree-k
+collect_node-offset_bounds-tree-k t c =
     let h = (node_row c.requires.entry c.requires.some).row in
     search (rules, h)
 
-pub collect_node-bounds-nodes-k : goal.collect_node-bounds-nodes-k
-collect_node-bounds-nodes-k t c =
+pub collect_node-bounds-tree-k : goal.collect_node-bounds-tree-k
+collect_node-bounds-tree-k t c =
     let h = (node_row c.requires.entry c.requires.some).row in
     search (rules, h)
 
 pub collect_node-collect_text-requires : goal.collect_node-collect_text-requires
 collect_node-collect_text-requires t c =
-    (c.requires.roomy, c.requires.few, (node_row c.requires.entry c.requires.some).row, text-asks c.requires.entry c.requires.some c.if-nodes-k-ne-ELEMENT.true)
+    (c.requires.roomy, c.requires.few, (node_row c.requires.entry c.requires.some).row, text-asks c.requires.entry c.requires.some c.if-tree-k-ne-ELEMENT.true)
 
-pub collect_node-returns-then-nodes-k-ne-ELEMENT : goal.collect_node-returns-then-nodes-k-ne-ELEMENT
-collect_node-returns-then-nodes-k-ne-ELEMENT t c =
+pub collect_node-returns-then-tree-k-ne-ELEMENT : goal.collect_node-returns-then-tree-k-ne-ELEMENT
+collect_node-returns-then-tree-k-ne-ELEMENT t c =
     λ w end x j.
-    text-came w c.args.nodes.now c.args.attrs.now c.args.strings.now c.args.base c.args.ctx c.args.ws c.args.k x.own end c.args.first x.hi c.args.run
+    text-came w c.args.tree.now.nodes.now c.args.tree.now.attrs.now c.args.tree.now.strings.now c.args.base c.args.ctx c.args.ws c.args.k x.own end c.args.first x.hi c.args.run
     x.earlier
     x.before c.args.segments.now c.args.texts.now c.collect_text.new.segments c.collect_text.new.texts
-    c.collect_text.result x.forest (x.holds, x.rows, x.placed, x.standing, x.flag) j c.if-nodes-k-ne-ELEMENT.true c.collect_text.ensures
+    c.collect_text.result x.forest (x.holds, x.rows, x.placed, x.standing, x.flag) j c.if-tree-k-ne-ELEMENT.true c.collect_text.ensures
 
 pub collect_node-element_at-e-requires : goal.collect_node-element_at-e-requires
 collect_node-element_at-e-requires t c =
@@ -52,7 +53,7 @@ collect_node-collect_break-requires t c =
 pub collect_node-returns-then-is_element : goal.collect_node-returns-then-is_element
 collect_node-returns-then-is_element t c =
     λ w end x j.
-    break-came w c.args.nodes.now c.args.attrs.now c.args.strings.now c.args.base c.args.ctx c.args.ws c.args.k x.own end c.args.first x.hi c.args.run
+    break-came w c.args.tree.now.nodes.now c.args.tree.now.attrs.now c.args.tree.now.strings.now c.args.base c.args.ctx c.args.ws c.args.k x.own end c.args.first x.hi c.args.run
     x.earlier
     x.before c.args.segments.now c.args.texts.now c.collect_break.new.segments c.collect_break.new.texts
     c.collect_break.result x.forest (x.holds, x.rows, x.placed, x.standing, x.flag) j c.element_at-e.result
@@ -85,17 +86,17 @@ collect_node-overflow_add-k t c =
 
 pub collect_node-collect_segments_inner-requires : goal.collect_node-collect_segments_inner-requires
 collect_node-collect_segments_inner-requires t c =
-    let e = element-end c.args.nodes.now c.args.k c.element_at-e.result c.element_at-e.ensures in
+    let e = element-end c.args.tree.now.nodes.now c.args.k c.element_at-e.result c.element_at-e.ensures in
     let falls : 3 * (c.element_at-e.result.end - (c.args.k + 1)) + 2 < t = omega (arith, (node_end c.requires.entry c.requires.some).0, e) in
-    (falls, own-asks c.element_at-e.result c.requires c.if-nodes-k-ne-ELEMENT.false c.element_at-e.ensures)
+    (falls, own-asks c.element_at-e.result c.requires c.if-tree-k-ne-ELEMENT.false c.element_at-e.ensures)
 
 pub collect_node-returns : goal.collect_node-returns
 collect_node-returns t c =
     λ w end x j.
-    unknown-came w c.args.nodes.now c.args.attrs.now c.args.strings.now c.args.base c.args.ctx c.args.ws c.args.k x.own end c.args.first x.hi c.args.run
+    unknown-came w c.args.tree.now.nodes.now c.args.tree.now.attrs.now c.args.tree.now.strings.now c.args.base c.args.ctx c.args.ws c.args.k x.own end c.args.first x.hi c.args.run
     x.earlier
     x.before c.args.segments.now c.args.texts.now j c.element_at-e.result c.element_at-e.ensures
-    (sym c.is_element.ensures ∙ c.if-is_element.false) x.forest (x.holds, x.rows, x.placed, x.standing, x.flag) c.if-nodes-k-ne-ELEMENT.false
+    (sym c.is_element.ensures ∙ c.if-is_element.false) x.forest (x.holds, x.rows, x.placed, x.standing, x.flag) c.if-tree-k-ne-ELEMENT.false
     (sym c.is_element-2.ensures ∙ c.if-is_element-2.false) c.collect_segments_inner.new.segments c.collect_segments_inner.new.texts c.collect_segments_inner.result
     (rw (to_z-of_z c.ranges.base) at c.collect_segments_inner.ensures)
 
@@ -106,26 +107,18 @@ collect_segments_inner-loop-k-init t c =
 pub collect_segments_inner-collect_node-requires : goal.collect_segments_inner-collect_node-requires
 collect_segments_inner-collect_node-requires t c =
     let n = along_asks c.requires c.loop-k.invariant c.loop-k-test.true in
-    let row = get_or c.args.nodes.now (c.loop-k.k * 6 + 1) 0 in
+    let row = get_or c.args.tree.now.nodes.now (c.loop-k.k * 6 + 1) 0 in
     let e : (c.loop-k.k < row) × (row ≤ c.args.end) = along_next c.requires c.loop-k.invariant c.loop-k-test.true in
     let low : c.args.from ≤ c.loop-k.k = c.loop-k.invariant.low in
     let all : 3 * (c.args.end - c.args.from) + 2 ≡ t = omega arith in
     let falls : 3 * (row - c.loop-k.k) + 1 < t = omega (arith, all, low, e.0, e.1) in
     (falls, n)
 
-pub collect_segments_inner-shape_of-segments-in-Refused : goal.collect_segments_inner-shape_of-segments-in-Refused
-collect_segments_inner-shape_of-segments-in-Refused t c =
-    search (rules, c.loop-k.invariant.same_cells)
-
-pub collect_segments_inner-shape_of-texts-in-Refused : goal.collect_segments_inner-shape_of-texts-in-Refused
-collect_segments_inner-shape_of-texts-in-Refused t c =
-    search (rules, c.loop-k.invariant.same_texts)
-
-pub collect_segments_inner-returns-in-Refused : goal.collect_segments_inner-returns-in-Refused
-collect_segments_inner-returns-in-Refused t c =
-    rw (to_z-of_z c.ranges.base) at
-    (along_fail c.requires c.loop-k.invariant c.loop-k-test.true c.collect_node.new.segments c.collect_node.new.texts
-    (rw c.in-Refused.is at c.collect_node.ensures))
+pub collect_segments_inner-returns-in_err-s : goal.collect_segments_inner-returns-in_err-s
+collect_segments_inner-returns-in_err-s t c =
+    rw (handed_on _ c.from_residual.ensures)
+    (rw (to_z-of_z c.ranges.base) at
+    (along_fail c.requires c.loop-k.invariant c.loop-k-test.true c.collect_node.new.segments c.collect_node.new.texts c.in_err-s.ensures))
 
 pub collect_segments_inner-overflow_mul-k : goal.collect_segments_inner-overflow_mul-k
 collect_segments_inner-overflow_mul-k t c =
@@ -156,7 +149,7 @@ collect_segments_inner-loop-k-preserved t c =
     let c₂ : length c.collect_node.new.texts ≡ length c.loop-k.texts = search rules in
     rw c.get-k.ensures
     (along_step c.requires c.loop-k.invariant c.loop-k-test.true c.collect_node.new.segments c.collect_node.new.texts
-    (rw c.in-Is.is at c.collect_node.ensures) c₁ c₂)
+    c.in_ok-s.ensures c₁ c₂)
 
 pub collect_segments_inner-shape_of-segments : goal.collect_segments_inner-shape_of-segments
 collect_segments_inner-shape_of-segments t c =
@@ -174,12 +167,8 @@ pub collect_span-element_at-e-requires : goal.collect_span-element_at-e-requires
 collect_span-element_at-e-requires t c =
     (node_row c.requires.node.entry c.requires.node.some).row
 
-pub collect_span-begin_of-requires : goal.collect_span-begin_of-requires
-collect_span-begin_of-requires t c =
-    node-attrs c.element_at-e.result c.requires.node (element-kind _ _ _ _ c.requires.a_span) c.element_at-e.ensures
-
-pub collect_span-resolve_ws-inside-requires : goal.collect_span-resolve_ws-inside-requires
-collect_span-resolve_ws-inside-requires t c =
+pub collect_span-attributes-attrs-requires : goal.collect_span-attributes-attrs-requires
+collect_span-attributes-attrs-requires t c =
     node-attrs c.element_at-e.result c.requires.node (element-kind _ _ _ _ c.requires.a_span) c.element_at-e.ensures
 
 pub collect_span-overflow_add-k : goal.collect_span-overflow_add-k
@@ -189,7 +178,7 @@ collect_span-overflow_add-k t c =
 
 pub collect_span-collect_segments_inner-requires : goal.collect_span-collect_segments_inner-requires
 collect_span-collect_segments_inner-requires t c =
-    let e = element-end c.args.nodes.now c.args.k c.element_at-e.result c.element_at-e.ensures in
+    let e = element-end c.args.tree.now.nodes.now c.args.k c.element_at-e.result c.element_at-e.ensures in
     let falls : 3 * (c.element_at-e.result.end - (c.args.k + 1)) + 2 < t = omega (arith, (node_end c.requires.node.entry c.requires.node.some).0, e) in
     (falls, own-asks c.element_at-e.result c.requires.node (element-kind _ _ _ _ c.requires.a_span) c.element_at-e.ensures)
 
@@ -197,48 +186,45 @@ pub collect_span-wrap_with_style-requires : goal.collect_span-wrap_with_style-re
 collect_span-wrap_with_style-requires t c =
     let kind = element-kind _ _ _ _ c.requires.a_span in
     let asks = own-asks c.element_at-e.result c.requires.node kind c.element_at-e.ensures in
-    let more = post_more c.in-Is-collect_segments_inner.inner asks (rw c.in-Is-collect_segments_inner.is at c.collect_segments_inner.ensures) in
-    let wide : 98304 ≤ length c.collect_segments_inner.new.segments = search (rules, c.requires.node.roomy.wide) in (
-      node-attrs c.element_at-e.result c.requires.node kind c.element_at-e.ensures,
-      more.0,
-      more.1,
-      wide,
-      c.requires.node.roomy.small,
-    )
+    let more = post_more c.in_ok-inner.inner asks c.in_ok-inner.ensures in
+    let wide : 98304 ≤ length c.collect_segments_inner.new.segments = search (rules, c.requires.node.roomy.wide) in
+    rw c.attributes-attrs.ensures.bytes (more.0, more.1, wide, c.requires.node.roomy.small)
 
-pub collect_span-returns-in-Refused : goal.collect_span-returns-in-Refused
-collect_span-returns-in-Refused t c =
-    λ first w end x j.
-    let b = rw (to_z-of_z c.ranges.base) at c.begin_of.ensures in
-    span-refused w c.args.nodes.now c.args.attrs.now c.args.strings.now c.args.base c.args.ctx c.args.ws c.args.k x.own end first x.hi c.args.run
+pub collect_span-returns-in_err-begin : goal.collect_span-returns-in_err-begin
+collect_span-returns-in_err-begin t c =
+    rw (handed_on _ c.from_residual.ensures) (λ first w end x j.
+    let g = c.attributes-attrs.ensures in
+    span-refused w c.args.tree.now.nodes.now c.args.tree.now.attrs.now c.args.tree.now.strings.now c.args.base c.args.ctx c.args.ws c.args.k x.own end first x.hi c.args.run
     x.earlier
     x.before c.args.segments.now c.args.texts.now j c.element_at-e.result c.element_at-e.ensures
     c.requires.no_break
-    c.requires.a_span x.forest (x.holds, x.rows, x.placed, x.standing, x.flag) c.in-Refused.r (λ l o. sym
-    c.in-Refused.is ∙ b l o)
+    c.requires.a_span x.forest (x.holds, x.rows, x.placed, x.standing, x.flag) _
+    (rw (g.table, g.bytes, g.from, g.count, to_z-of_z c.ranges.base) at c.in_err-begin.ensures))
 
-pub collect_span-returns-in-Refused-collect_segments_inner : goal.collect_span-returns-in-Refused-collect_segments_inner
-collect_span-returns-in-Refused-collect_segments_inner t c =
-    λ first w end x j.
-    let time = laws.to_z-of_z w64 c.in-Is.b.time (record { sfits = omega arith }) in
-    let b = rw (to_z-of_z c.ranges.base) at c.begin_of.ensures in
-    span-inside w c.args.nodes.now c.args.attrs.now c.args.strings.now c.args.base c.args.ctx c.args.ws c.args.k x.own end first x.hi c.args.run x.earlier
+pub collect_span-returns-in_err-inner : goal.collect_span-returns-in_err-inner
+collect_span-returns-in_err-inner t c =
+    rw (handed_on _ c.from_residual-in_err-inner.ensures) (λ first w end x j.
+    let g = c.attributes-attrs.ensures in
+    let time = laws.to_z-of_z w64 c.unwrap_or-from.result (record { sfits = omega arith }) in
+    span-inside w c.args.tree.now.nodes.now c.args.tree.now.attrs.now c.args.tree.now.strings.now c.args.base c.args.ctx c.args.ws c.args.k x.own end first x.hi c.args.run x.earlier
     x.before c.args.segments.now c.args.texts.now j c.element_at-e.result
     c.element_at-e.ensures c.requires.no_break
-    c.requires.a_span c.in-Is.b (λ l o. sym c.in-Is.is ∙ b l o) c.resolve_ws-inside.result c.resolve_ws-inside.ensures
+    c.requires.a_span c.in_ok-begin.begin c.ranges.base (rw (g.table, g.bytes, g.from, g.count, to_z-of_z c.ranges.base) at c.in_ok-begin.ensures)
+    c.resolve_ws-inside.result (rw (g.table, g.bytes, g.from, g.count) at c.resolve_ws-inside.ensures)
     c.collect_segments_inner.new.segments c.collect_segments_inner.new.texts x.forest (x.holds, x.rows, x.placed, x.standing, x.flag)
-    c.in-Refused-collect_segments_inner.r
-    (rw (c.in-Refused-collect_segments_inner.is, time) at c.collect_segments_inner.ensures)
+    _
+    (rw (time, c.unwrap_or-from.ensures, to_z-of_z c.ranges.base) at c.in_err-inner.ensures))
 
-pub collect_span-returns-in-Is-collect_segments_inner : goal.collect_span-returns-in-Is-collect_segments_inner
-collect_span-returns-in-Is-collect_segments_inner t c =
+pub collect_span-returns : goal.collect_span-returns
+collect_span-returns t c =
     λ first w end x j.
-    let time = laws.to_z-of_z w64 c.in-Is.b.time (record { sfits = omega arith }) in
-    let b = rw (to_z-of_z c.ranges.base) at c.begin_of.ensures in
-    span-came w c.args.nodes.now c.args.attrs.now c.args.strings.now c.args.base c.args.ctx c.args.ws c.args.k x.own end first x.hi c.args.run x.earlier
+    let g = c.attributes-attrs.ensures in
+    let time = laws.to_z-of_z w64 c.unwrap_or-from.result (record { sfits = omega arith }) in
+    span-came w c.args.tree.now.nodes.now c.args.tree.now.attrs.now c.args.tree.now.strings.now c.args.base c.args.ctx c.args.ws c.args.k x.own end first x.hi c.args.run x.earlier
     x.before c.args.segments.now c.args.texts.now j c.element_at-e.result
     c.element_at-e.ensures c.requires.no_break
-    c.requires.a_span c.in-Is.b (λ l o. sym c.in-Is.is ∙ b l o) c.resolve_ws-inside.result c.resolve_ws-inside.ensures
-    c.collect_segments_inner.new.segments c.collect_segments_inner.new.texts x.forest (x.holds, x.rows, x.placed, x.standing, x.flag) c.in-Is-collect_segments_inner.inner
-    (rw (c.in-Is-collect_segments_inner.is, time) at c.collect_segments_inner.ensures) c.wrap_with_style.new.segments c.wrap_with_style.result
-    (rw time at c.wrap_with_style.ensures)
+    c.requires.a_span c.in_ok-begin.begin c.ranges.base (rw (g.table, g.bytes, g.from, g.count, to_z-of_z c.ranges.base) at c.in_ok-begin.ensures)
+    c.resolve_ws-inside.result (rw (g.table, g.bytes, g.from, g.count) at c.resolve_ws-inside.ensures)
+    c.collect_segments_inner.new.segments c.collect_segments_inner.new.texts x.forest (x.holds, x.rows, x.placed, x.standing, x.flag) c.in_ok-inner.inner
+    (rw (time, c.unwrap_or-from.ensures, to_z-of_z c.ranges.base) at c.in_ok-inner.ensures) c.wrap_with_style.new.segments c.wrap_with_style.result
+    (rw (g.table, g.bytes, g.from, g.count, time, c.unwrap_or-from.ensures, to_z-of_z c.ranges.base, c.is_some.ensures) at c.wrap_with_style.ensures)

@@ -3,6 +3,10 @@ use mathlib.Core.Path.{refl}
 use Rattle.content.proofs.Giving.{around_is}
 use Rattle.content.proofs.collect.around.Goals as goal
 
-pub returns : goal.returns
-returns c =
-    (refl, λ z h. around_is z c.args.w c.either.result c.either.ensures h)
+pub returns-then-font : goal.returns-then-font
+returns-then-font c =
+    (refl, λ z h. around_is z c.args.w _ (rw c.if-font.true) h)
+
+pub returns-else-font : goal.returns-else-font
+returns-else-font c =
+    (refl, λ z h. around_is z c.args.w _ (rw c.if-font.false) h)

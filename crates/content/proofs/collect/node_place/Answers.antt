@@ -4,17 +4,12 @@ use borrow.Author.Tests.{ne_eqb}
 use Rattle.content.specs.Steps.{node_place}
 use Rattle.content.proofs.collect.node_place.Goals as goal
 
-pub returns-then-nodes-k-ne-SECTION : goal.returns-then-nodes-k-ne-SECTION
+pub returns-then-nodes-k-eq-SECTION : goal.returns-then-nodes-k-eq-SECTION
 unfolding node_place
-returns-then-nodes-k-ne-SECTION c =
-    rw (ne_eqb _ _ c.if-nodes-k-ne-SECTION.true) c.get-place.ensures
+returns-then-nodes-k-eq-SECTION c =
+    rw c.if-nodes-k-eq-SECTION.true (omega (arith, c.get-place.ensures, c.saturating_sub.ensures))
 
-pub returns-then-place-lt-OPENING : goal.returns-then-place-lt-OPENING
+pub returns-else-nodes-k-eq-SECTION : goal.returns-else-nodes-k-eq-SECTION
 unfolding node_place
-returns-then-place-lt-OPENING c =
-    rw c.if-nodes-k-ne-SECTION.false (omega (arith, c.get-place.ensures, c.if-place-lt-OPENING.true))
-
-pub returns : goal.returns
-unfolding node_place
-returns c =
-    rw (c.if-nodes-k-ne-SECTION.false, c.get-place.ensures)
+returns-else-nodes-k-eq-SECTION c =
+    rw (ne_eqb _ _ c.if-nodes-k-eq-SECTION.false) c.get-place.ensures

@@ -1,3 +1,4 @@
+use Rattle.std.specs.Prelude.{Ok}
 use Prim.Native.Nat.{◌+◌, ◌-◌, ◌*◌, ◌≤◌, ◌<◌}
 use mathlib.Core.Path.{◌≡◌, sym, ap, ◌∙◌}
 use native.Mathlib.Omega.{arith}
@@ -7,14 +8,14 @@ use mir.Val.{to_z, of_z}
 use mir.Facts.{to_z-of_z}
 use mir.ValLaws as laws
 use borrow.Author.Rules.{rules}
+use Rattle.scan.proofs.Handed.{handed_on}
 use Rattle.content.proofs.Reading.{element-end}
 use Rattle.meaning.specs.Cues.{later}
-use Rattle.intervals.specs.declared.Moment.{Moment}
-use Rattle.intervals.specs.Steps.{moment_said}
+use Rattle.styling.specs.Posts.{moment_said}
 use Rattle.cues.specs.Steps.{five, following}
 use Rattle.cues.proofs.Walking.{child-row, child-room, child-end, child-attrs, inner_asks, container_came, div_refused, div_inside, div_came}
 use Rattle.cues.proofs.Walking.{child-div, child-p, child-unknown, walked_start, walked_row, walked_next, walked_asks}
-use Rattle.cues.proofs.Walking.{walked_pass, walked_step, walked_fail, walked_done}
+use Rattle.cues.proofs.Walking.{max-later, walked_pass, walked_step, walked_fail, walked_done}
 use borrow.Author.Rules.{rules}
 use Rattle.cues.proofs.collect.+collect_container_collect_cues_collect_div_collect_element.Goals as goal
 
@@ -22,12 +23,8 @@ pub collect_container-element_at-e-requires : goal.collect_container-element_at-
 collect_container-element_at-e-requires t c =
     child-room c.requires.child
 
-pub collect_container-is_seq_container-seq-requires : goal.collect_container-is_seq_container-seq-requires
-collect_container-is_seq_container-seq-requires t c =
-    child-attrs c.requires.child c.element_at-e.result c.element_at-e.ensures
-
-pub collect_container-resolve_ws-inside-requires : goal.collect_container-resolve_ws-inside-requires
-collect_container-resolve_ws-inside-requires t c =
+pub collect_container-attributes-attrs-requires : goal.collect_container-attributes-attrs-requires
+collect_container-attributes-attrs-requires t c =
     child-attrs c.requires.child c.element_at-e.result c.element_at-e.ensures
 
 pub collect_container-overflow_add-k : goal.collect_container-overflow_add-k
@@ -37,19 +34,20 @@ collect_container-overflow_add-k t c =
 
 pub collect_container-collect_cues-requires : goal.collect_container-collect_cues-requires
 collect_container-collect_cues-requires t c =
-    let last = element-end c.args.nodes.now c.args.k c.element_at-e.result c.element_at-e.ensures in
+    let last = element-end c.args.tree.now.nodes.now c.args.k c.element_at-e.result c.element_at-e.ensures in
     let falls : 4 * (c.element_at-e.result.end - (c.args.k + 1)) + 3 < t = omega (arith, child-end c.requires.child, last) in
     (falls, inner_asks c.element_at-e.result c.requires c.element_at-e.ensures)
 
 pub collect_container-returns : goal.collect_container-returns
 collect_container-returns t c =
+    let g = c.attributes-attrs.ensures in
     container_came _ _ _ _ _ c.args.ws _ _ _ c.element_at-e.result c.element_at-e.ensures
-    c.is_seq_container-seq.result c.args.begin c.resolve_ws-inside.result c.collect_cues.result c.is_seq_container-seq.ensures c.resolve_ws-inside.ensures
+    c.is_seq_container-seq.result c.args.begin c.resolve_ws-inside.result c.collect_cues.result (rw (g.table, g.bytes, g.from, g.count) at c.is_seq_container-seq.ensures) (rw (g.table, g.bytes, g.from, g.count) at c.resolve_ws-inside.ensures)
     (rw (to_z-of_z c.ranges.begin) at c.collect_cues.ensures)
 
 pub collect_cues-loop-k-init : goal.collect_cues-loop-k-init
 collect_cues-loop-k-init t c =
-    walked_start c.args.nodes.now c.args.attrs.now c.args.strings.now c.args.from c.args.end c.args.seq (to_z w64 (of_z w64 c.args.begin)) c.args.ctx c.args.ws
+    walked_start c.args.tree.now.nodes.now c.args.tree.now.attrs.now c.args.tree.now.strings.now c.args.from c.args.end c.args.seq (to_z w64 (of_z w64 c.args.begin)) c.args.ctx c.args.ws
     c.args.line (five c.args.cues.now c.args.times.now c.args.segments.now c.args.extras.now c.args.texts.now)
 
 pub collect_cues-overflow_mul-k : goal.collect_cues-overflow_mul-k
@@ -74,40 +72,41 @@ collect_cues-overflow_mul-k-in-loop-k t c =
     let h = walked_row c.requires c.loop-k.invariant c.loop-k-test.true in
     search (rules, h)
 
-pub collect_cues-offset_bounds-nodes-k : goal.collect_cues-offset_bounds-nodes-k
-collect_cues-offset_bounds-nodes-k t c =
+pub collect_cues-offset_bounds-tree-k : goal.collect_cues-offset_bounds-tree-k
+collect_cues-offset_bounds-tree-k t c =
     let h = walked_row c.requires c.loop-k.invariant c.loop-k-test.true in
     search (rules, h)
 
-pub collect_cues-bounds-nodes-k : goal.collect_cues-bounds-nodes-k
-collect_cues-bounds-nodes-k t c =
+pub collect_cues-bounds-tree-k : goal.collect_cues-bounds-tree-k
+collect_cues-bounds-tree-k t c =
     let h = walked_row c.requires c.loop-k.invariant c.loop-k-test.true in
     search (rules, h)
 
-pub collect_cues-loop-k-smaller-then-nodes-k-ne-ELEMENT : goal.collect_cues-loop-k-smaller-then-nodes-k-ne-ELEMENT
-collect_cues-loop-k-smaller-then-nodes-k-ne-ELEMENT t c =
+pub collect_cues-loop-k-smaller-then-tree-k-ne-ELEMENT : goal.collect_cues-loop-k-smaller-then-tree-k-ne-ELEMENT
+collect_cues-loop-k-smaller-then-tree-k-ne-ELEMENT t c =
     let n = walked_next c.requires c.loop-k.invariant c.loop-k-test.true in
     omega (arith, c.get-next.ensures, n.0, c.loop-k-test.true)
 
-pub collect_cues-loop-k-preserved-then-nodes-k-ne-ELEMENT : goal.collect_cues-loop-k-preserved-then-nodes-k-ne-ELEMENT
-collect_cues-loop-k-preserved-then-nodes-k-ne-ELEMENT t c =
-    rw c.get-next.ensures (walked_pass c.requires c.loop-k.invariant c.loop-k-test.true c.if-nodes-k-ne-ELEMENT.true)
+pub collect_cues-loop-k-preserved-then-tree-k-ne-ELEMENT : goal.collect_cues-loop-k-preserved-then-tree-k-ne-ELEMENT
+collect_cues-loop-k-preserved-then-tree-k-ne-ELEMENT t c =
+    rw c.get-next.ensures (walked_pass c.requires c.loop-k.invariant c.loop-k-test.true c.if-tree-k-ne-ELEMENT.true)
 
 pub collect_cues-collect_element-requires : goal.collect_cues-collect_element-requires
 collect_cues-collect_element-requires t c =
-    let next = get_or c.args.nodes.now (c.loop-k.k * 6 + 1) 0 in
+    let next = get_or c.args.tree.now.nodes.now (c.loop-k.k * 6 + 1) 0 in
     let e : (c.loop-k.k < next) × (next ≤ c.args.end) = walked_next c.requires c.loop-k.invariant c.loop-k-test.true in
     let low : c.args.from ≤ c.loop-k.k = c.loop-k.invariant.low in
     let all : 4 * (c.args.end - c.args.from) + 3 ≡ t = omega arith in
     let falls : 4 * (next - c.loop-k.k) + 2 < t = omega (arith, all, low, e.0, e.1) in
-    (falls, walked_asks c.requires c.loop-k.invariant c.loop-k-test.true c.if-nodes-k-ne-ELEMENT.false)
+    (falls, walked_asks c.requires c.loop-k.invariant c.loop-k-test.true c.if-tree-k-ne-ELEMENT.false)
 
-pub collect_cues-returns-in-Refused : goal.collect_cues-returns-in-Refused
-collect_cues-returns-in-Refused t c =
-    rw (to_z-of_z c.ranges.begin) at
-    (walked_fail c.requires c.loop-k.invariant c.loop-k-test.true c.if-nodes-k-ne-ELEMENT.false
+pub collect_cues-returns-in_err-s : goal.collect_cues-returns-in_err-s
+collect_cues-returns-in_err-s t c =
+    rw (handed_on _ c.from_residual.ensures)
+    (rw (to_z-of_z c.ranges.begin) at
+    (walked_fail c.requires c.loop-k.invariant c.loop-k-test.true c.if-tree-k-ne-ELEMENT.false
     (five c.collect_element.new.cues c.collect_element.new.times c.collect_element.new.segments c.collect_element.new.extras c.collect_element.new.texts)
-    (rw c.in-Refused.is at c.collect_element.ensures))
+    c.in_err-s.ensures))
 
 pub collect_cues-loop-k-smaller : goal.collect_cues-loop-k-smaller
 collect_cues-loop-k-smaller t c =
@@ -121,20 +120,20 @@ collect_cues-loop-k-preserved t c =
     let c₃ : length c.collect_element.new.segments ≡ length c.loop-k.segments = search rules in
     let c₄ : length c.collect_element.new.extras ≡ length c.loop-k.extras = search rules in
     let c₅ : length c.collect_element.new.texts ≡ length c.loop-k.texts = search rules in
-    let at = laws.to_z-of_z w64 c.in-Is.t.end (record { sfits = omega arith }) in
-    let last : to_z w64 (of_z w64 c.later-latest.result) ≡ later (to_z w64 c.loop-k.latest-bits) c.in-Is.t.end = laws.to_z-of_z w64 c.later-latest.result (record { sfits = omega arith }) ∙
-    (rw at at c.later-latest.ensures) in
-    let next : to_z w64 (of_z w64 c.following-reference.result) ≡ following c.args.seq (to_z w64 (of_z w64 c.args.begin)) c.in-Is.t.end =
+    let at = laws.to_z-of_z w64 c.in_ok-s.s.end (record { sfits = omega arith }) in
+    let last : to_z w64 (of_z w64 c.max-latest.result) ≡ later (to_z w64 c.loop-k.latest-bits) c.in_ok-s.s.end = laws.to_z-of_z w64 c.max-latest.result (record { sfits = omega arith }) ∙
+    (rw at at (c.max-latest.ensures.value ∙ max-later (to_z w64 c.loop-k.latest-bits) (to_z w64 (of_z w64 c.in_ok-s.s.end)))) in
+    let next : to_z w64 (of_z w64 c.following-reference.result) ≡ following c.args.seq (to_z w64 (of_z w64 c.args.begin)) c.in_ok-s.s.end =
     laws.to_z-of_z w64 c.following-reference.result (record { sfits = omega arith }) ∙ (rw at at c.following-reference.ensures) in
     rw (
       c.get-next.ensures,
       last,
       next,
     )
-    (walked_step c.requires c.loop-k.invariant c.loop-k-test.true c.if-nodes-k-ne-ELEMENT.false
+    (walked_step c.requires c.loop-k.invariant c.loop-k-test.true c.if-tree-k-ne-ELEMENT.false
     (five c.collect_element.new.cues c.collect_element.new.times c.collect_element.new.segments c.collect_element.new.extras c.collect_element.new.texts)
     (record { cues = c₁; times = c₂; segments = c₃; extras = c₄; texts = c₅ })
-    (rw c.in-Is.is at c.collect_element.ensures))
+    c.in_ok-s.ensures)
 
 pub collect_cues-returns : goal.collect_cues-returns
 collect_cues-returns t c =
@@ -144,43 +143,42 @@ pub collect_div-element_at-e-requires : goal.collect_div-element_at-e-requires
 collect_div-element_at-e-requires t c =
     child-room c.requires.child
 
-pub collect_div-start_of-requires : goal.collect_div-start_of-requires
-collect_div-start_of-requires t c =
+pub collect_div-attributes-attrs-requires : goal.collect_div-attributes-attrs-requires
+collect_div-attributes-attrs-requires t c =
     child-attrs c.requires.child c.element_at-e.result c.element_at-e.ensures
 
 pub collect_div-collect_container-requires : goal.collect_div-collect_container-requires
 collect_div-collect_container-requires t c =
     (omega arith, c.requires)
 
-pub collect_div-close_div-requires : goal.collect_div-close_div-requires
-collect_div-close_div-requires t c =
-    child-attrs c.requires.child c.element_at-e.result c.element_at-e.ensures
-
-pub collect_div-returns-in-Refused : goal.collect_div-returns-in-Refused
-collect_div-returns-in-Refused t c =
-    let h = rw (to_z-of_z c.ranges.reference) at c.start_of.ensures in
-    div_refused _ _ _ _ _ c.args.ws _ _
+pub collect_div-returns-in_err-start : goal.collect_div-returns-in_err-start
+collect_div-returns-in_err-start t c =
+    let g = c.attributes-attrs.ensures in
+    rw (handed_on _ c.from_residual.ensures)
+    (div_refused _ _ _ _ _ c.args.ws _ _
     (five c.args.cues.now c.args.times.now c.args.segments.now c.args.extras.now c.args.texts.now)
-    c.element_at-e.result c.element_at-e.ensures c.args.reference c.in-Refused.r (λ l o. rw c.in-Refused.is at (h l o))
+    c.element_at-e.result c.element_at-e.ensures c.args.reference _ (rw (g.table, g.bytes, g.from, g.count, to_z-of_z c.ranges.reference) at c.in_err-start.ensures))
 
-pub collect_div-returns-in-Refused-collect_container : goal.collect_div-returns-in-Refused-collect_container
-collect_div-returns-in-Refused-collect_container t c =
-    let h = rw (to_z-of_z c.ranges.reference) at c.start_of.ensures in
-    let said = ap (λ s. moment_said (Moment.Is s)) (laws.to_z-of_z w64 c.in-Is.start (record { sfits = omega arith })) in
-    div_inside _ _ _ _ _ c.args.ws _ _
+pub collect_div-returns-in_err-inner : goal.collect_div-returns-in_err-inner
+collect_div-returns-in_err-inner t c =
+    let g = c.attributes-attrs.ensures in
+    let h = rw (g.table, g.bytes, g.from, g.count, to_z-of_z c.ranges.reference) at c.in_ok-start.ensures in
+    let said = ap (λ s. moment_said (Ok s)) (laws.to_z-of_z w64 c.in_ok-start.start (record { sfits = omega arith })) in
+    rw (handed_on _ c.from_residual-in_err-inner.ensures)
+    (div_inside _ _ _ _ _ c.args.ws _ _
     (five c.collect_container.new.cues c.collect_container.new.times c.collect_container.new.segments c.collect_container.new.extras c.collect_container.new.texts)
-    c.element_at-e.result c.element_at-e.ensures c.args.reference (to_z w64 (of_z w64 c.in-Is.start)) (λ l o. said ∙ (rw c.in-Is.is at (h l o))) c.in-Refused-collect_container.r
-    (rw c.in-Refused-collect_container.is at c.collect_container.ensures)
+    c.element_at-e.result c.element_at-e.ensures c.args.reference (to_z w64 (of_z w64 c.in_ok-start.start)) (λ l o. said ∙ h l o) _
+    c.in_err-inner.ensures)
 
-pub collect_div-returns-in-Is-collect_container : goal.collect_div-returns-in-Is-collect_container
-collect_div-returns-in-Is-collect_container t c =
-    let h = rw (to_z-of_z c.ranges.reference) at c.start_of.ensures in
-    let said = ap (λ s. moment_said (Moment.Is s)) (laws.to_z-of_z w64 c.in-Is.start (record { sfits = omega arith })) in
+pub collect_div-returns : goal.collect_div-returns
+collect_div-returns t c =
+    let g = c.attributes-attrs.ensures in
+    let h = rw (g.table, g.bytes, g.from, g.count, to_z-of_z c.ranges.reference) at c.in_ok-start.ensures in
+    let said = ap (λ s. moment_said (Ok s)) (laws.to_z-of_z w64 c.in_ok-start.start (record { sfits = omega arith })) in
     div_came _ _ _ _ _ c.args.ws _ _
     (five c.collect_container.new.cues c.collect_container.new.times c.collect_container.new.segments c.collect_container.new.extras c.collect_container.new.texts)
-    c.element_at-e.result c.element_at-e.ensures c.args.reference (to_z w64 (of_z w64 c.in-Is.start)) (λ l o. said ∙ (rw c.in-Is.is at (h l o)))
-    c.in-Is-collect_container.inner
-    (rw c.in-Is-collect_container.is at c.collect_container.ensures) c.close_div.result c.close_div.ensures
+    c.element_at-e.result c.element_at-e.ensures c.args.reference (to_z w64 (of_z w64 c.in_ok-start.start)) (λ l o. said ∙ h l o)
+    c.in_ok-inner.inner c.in_ok-inner.ensures c.close_div.result (rw (g.table, g.bytes, g.from, g.count) at c.close_div.ensures)
 
 pub collect_element-is_element-requires : goal.collect_element-is_element-requires
 collect_element-is_element-requires t c =
@@ -212,8 +210,8 @@ pub collect_element-element_at-e-requires : goal.collect_element-element_at-e-re
 collect_element-element_at-e-requires t c =
     child-room c.requires.child
 
-pub collect_element-resolve_ws-inside-requires : goal.collect_element-resolve_ws-inside-requires
-collect_element-resolve_ws-inside-requires t c =
+pub collect_element-attributes-attrs-requires : goal.collect_element-attributes-attrs-requires
+collect_element-attributes-attrs-requires t c =
     child-attrs c.requires.child c.element_at-e.result c.element_at-e.ensures
 
 pub collect_element-overflow_add-k : goal.collect_element-overflow_add-k
@@ -223,12 +221,13 @@ collect_element-overflow_add-k t c =
 
 pub collect_element-collect_cues-requires : goal.collect_element-collect_cues-requires
 collect_element-collect_cues-requires t c =
-    let last = element-end c.args.nodes.now c.args.k c.element_at-e.result c.element_at-e.ensures in
+    let last = element-end c.args.tree.now.nodes.now c.args.k c.element_at-e.result c.element_at-e.ensures in
     let falls : 4 * (c.element_at-e.result.end - (c.args.k + 1)) + 3 < t = omega (arith, child-end c.requires.child, last) in
     (falls, inner_asks c.element_at-e.result c.requires c.element_at-e.ensures)
 
 pub collect_element-returns : goal.collect_element-returns
 collect_element-returns t c =
+    let g = c.attributes-attrs.ensures in
     child-unknown _ _ _ _ _ c.args.ws _ _ _ c.args.seq c.args.reference c.collect_cues.result (sym c.is_element.ensures ∙ c.if-is_element.false)
-    (sym c.is_element-2.ensures ∙ c.if-is_element-2.false) c.element_at-e.result c.element_at-e.ensures c.resolve_ws-inside.result c.resolve_ws-inside.ensures
+    (sym c.is_element-2.ensures ∙ c.if-is_element-2.false) c.element_at-e.result c.element_at-e.ensures c.resolve_ws-inside.result (rw (g.table, g.bytes, g.from, g.count) at c.resolve_ws-inside.ensures)
     (rw (to_z-of_z c.ranges.reference) at c.collect_cues.ensures)

@@ -1,10 +1,6 @@
--- `count_digits` meets its contract. The loop's invariant: the digits before `i` are read. The measure is what is left of the part.
-use Rattle.std.proofs.Common.{◌-◌}
+-- `count_digits` meets its contract. The loop's invariant: the digits before `i` are read.
 use Rattle.decimals.proofs.Counting.{Going}
 use Rattle.decimals.proofs.read.count_digits.Given as goal
 
 abbrev pub invariant-loop-i : goal.invariant-loop-i
 invariant-loop-i l = Going l.initial.count l.text l.from l.to l.count l.i
-
-abbrev pub decreases-loop-i : goal.decreases-loop-i
-decreases-loop-i l = l.to - l.i

@@ -1,8 +1,6 @@
 -- `read_any` meets its contract: the places that it finds give the text's shape, and a law says what each shape spells.
-use Rattle.std.proofs.Common.{◌≡◌, sym, ap, ◌∙◌, ⊎_elim, eqb-true}
-use Rattle.scan.proofs.Splits.{whole_part}
-use Rattle.decimals.specs.Decimal.{is_word}
-use Rattle.decimals.proofs.Reading.{Shape, shape_bare, shape_point, shape_empty, shape_rest, shape_whole, shape_digital}
+use Rattle.std.proofs.Common.{◌≡◌, sym, ◌∙◌, ⊎_elim, eqb-true}
+use Rattle.decimals.proofs.Reading.{rest_part, Shape, shape_bare, shape_point, shape_empty, shape_rest, shape_whole, shape_digital}
 use Rattle.decimals.proofs.read.read_any.Goals as goal
 use Rattle.decimals.proofs.read.read_any.Goals.{then-whole-from, else-whole-from, Joined-else-whole-eq0, Joined-whole-from}
 
@@ -24,26 +22,26 @@ returns-then-is_word c =
     sym (shape_empty c.args.negative c.args.text.now c.args.digits c.args.decimals c.digits_end-whole.result
     c.fraction_start-from.result c.if-whole-from.end (shape (goal.at.returns-then-is_word c).Joined-whole-from) c.if-whole-eq0.true
     (eqb-true c.if-whole-from.end c.fraction_start-from.result c.if-end-from.true-raw)
-    ∙ rw (sym (c.is_word.ensures ∙ ap is_word (whole_part c.args.text.now)) ∙ c.if-is_word.true))
+    ∙ rw (sym (c.is_word.ensures) ∙ c.if-is_word.true))
 
 pub returns-then-end-from : goal.returns-then-end-from
 returns-then-end-from c =
     sym (shape_empty c.args.negative c.args.text.now c.args.digits c.args.decimals c.digits_end-whole.result
     c.fraction_start-from.result c.if-whole-from.end (shape (goal.at.returns-then-end-from c).Joined-whole-from) c.if-whole-eq0.true
     (eqb-true c.if-whole-from.end c.fraction_start-from.result c.if-end-from.true-raw)
-    ∙ rw (sym (c.is_word.ensures ∙ ap is_word (whole_part c.args.text.now)) ∙ c.if-is_word.false))
+    ∙ rw (sym (c.is_word.ensures) ∙ c.if-is_word.false))
 
 pub returns-then-is_exponent : goal.returns-then-is_exponent
 returns-then-is_exponent c =
     sym (shape_rest c.args.negative c.args.text.now c.args.digits c.args.decimals c.digits_end-whole.result
     c.fraction_start-from.result c.if-whole-from.end (shape ((goal.at.returns-then-is_exponent c).Joined-whole-from)) (some ((goal.at.returns-then-is_exponent c).Joined-else-whole-eq0)) c.if-end-text.true
-    ∙ rw (sym c.is_exponent.ensures ∙ c.if-is_exponent.true))
+    ∙ rw (← (rest_part c.args.text.now c.if-whole-from.end), sym c.is_exponent.ensures ∙ c.if-is_exponent.true))
 
 pub returns-then-end-text : goal.returns-then-end-text
 returns-then-end-text c =
     sym (shape_rest c.args.negative c.args.text.now c.args.digits c.args.decimals c.digits_end-whole.result
     c.fraction_start-from.result c.if-whole-from.end (shape ((goal.at.returns-then-end-text c).Joined-whole-from)) (some ((goal.at.returns-then-end-text c).Joined-else-whole-eq0)) c.if-end-text.true
-    ∙ rw (sym c.is_exponent.ensures ∙ c.if-is_exponent.false))
+    ∙ rw (← (rest_part c.args.text.now c.if-whole-from.end), sym c.is_exponent.ensures ∙ c.if-is_exponent.false))
 
 pub limit-requires : goal.limit-requires
 limit-requires c = (

@@ -26,11 +26,11 @@ bounds-out-at c =
 
 pub nonzero_div-whole : goal.nonzero_div-whole
 nonzero_div-whole c =
-    rw c.power-p.ensures (one-le-pow c.args.s.scale 10 (omega arith))
+    rw c.pow-p.ensures (one-le-pow c.args.s.scale 10 (omega arith))
 
 pub put_digits-end-requires : goal.put_digits-end-requires
 put_digits-end-requires c =
-    let e = rw c.power-p.ensures at c.decimal_width.ensures in (
+    let e = rw c.pow-p.ensures at c.decimal_width.ensures in (
       omega (
         arith,
         e,
@@ -44,21 +44,21 @@ put_digits-end-requires c =
 pub shape_of-out-then-s-eq0 : goal.shape_of-out-then-s-eq0
 shape_of-out-then-s-eq0 c =
     let wrote : Appended (before c.args.s.digits c.args.s.scale) c.if-s.start c.if-s.out c.put_digits-end.new.out c.put_digits-end.result =
-    rw (c.decimal_width.ensures, c.power-p.ensures) at c.put_digits-end.ensures in
+    rw (c.decimal_width.ensures, c.pow-p.ensures) at c.put_digits-end.ensures in
     long_two c.args.s.negative c.args.s.digits c.args.s.scale c.args.at c.args.out.now c.if-s.start
     c.if-s.out (begun ((goal.at.shape_of-out-then-s-eq0 c).Joined-s)) c.requires.0 c.put_digits-end.new.out c.put_digits-end.result wrote
 
 pub returns-then-s-eq0 : goal.returns-then-s-eq0
 returns-then-s-eq0 c =
     let wrote : Appended (before c.args.s.digits c.args.s.scale) c.if-s.start c.if-s.out c.put_digits-end.new.out c.put_digits-end.result =
-    rw (c.decimal_width.ensures, c.power-p.ensures) at c.put_digits-end.ensures in
+    rw (c.decimal_width.ensures, c.pow-p.ensures) at c.put_digits-end.ensures in
     put_whole c.args.s.negative c.args.s.digits c.args.s.scale c.args.at c.args.out.now c.if-s.start
     c.if-s.out (begun ((goal.at.returns-then-s-eq0 c).Joined-s)) c.requires.0 c.put_digits-end.new.out c.put_digits-end.result wrote c.if-s-eq0.true
 
 pub bounds-out-end : goal.bounds-out-end
 bounds-out-end c =
     let wrote : Appended (before c.args.s.digits c.args.s.scale) c.if-s.start c.if-s.out c.put_digits-end.new.out c.put_digits-end.result =
-    rw (c.decimal_width.ensures, c.power-p.ensures) at c.put_digits-end.ensures in
+    rw (c.decimal_width.ensures, c.pow-p.ensures) at c.put_digits-end.ensures in
     omega (
       arith,
       room-point c.args.s.negative c.args.s.digits c.args.s.scale c.args.at c.args.out.now
@@ -70,20 +70,20 @@ bounds-out-end c =
 
 pub nonzero_rem-s : goal.nonzero_rem-s
 nonzero_rem-s c =
-    rw c.power-p.ensures (one-le-pow c.args.s.scale 10 (omega arith))
+    rw c.pow-p.ensures (one-le-pow c.args.s.scale 10 (omega arith))
 
 pub returns : goal.returns
 returns c =
     let wrote : Appended (before c.args.s.digits c.args.s.scale) c.if-s.start c.if-s.out c.put_digits-end.new.out c.put_digits-end.result =
-    rw (c.decimal_width.ensures, c.power-p.ensures) at c.put_digits-end.ensures in
+    rw (c.decimal_width.ensures, c.pow-p.ensures) at c.put_digits-end.ensures in
     put_parts c.args.s.negative c.args.s.digits c.args.s.scale c.args.at c.args.out.now c.if-s.start
     c.if-s.out (begun ((goal.at.returns c).Joined-s)) c.requires.0 c.put_digits-end.new.out c.put_digits-end.result wrote c.if-s-eq0.false _ _
-    (rw c.power-p.ensures at c.put_digits.ensures)
+    (rw c.pow-p.ensures at c.put_digits.ensures)
 
 pub overflow_add-end : goal.overflow_add-end
 overflow_add-end c =
     let wrote : Appended (before c.args.s.digits c.args.s.scale) c.if-s.start c.if-s.out c.put_digits-end.new.out c.put_digits-end.result =
-    rw (c.decimal_width.ensures, c.power-p.ensures) at c.put_digits-end.ensures in
+    rw (c.decimal_width.ensures, c.pow-p.ensures) at c.put_digits-end.ensures in
     omega (
       arith,
       room-point c.args.s.negative c.args.s.digits c.args.s.scale c.args.at c.args.out.now
@@ -95,7 +95,7 @@ overflow_add-end c =
 pub put_digits-requires : goal.put_digits-requires
 put_digits-requires c =
     let wrote : Appended (before c.args.s.digits c.args.s.scale) c.if-s.start c.if-s.out c.put_digits-end.new.out c.put_digits-end.result =
-    rw (c.decimal_width.ensures, c.power-p.ensures) at c.put_digits-end.ensures in (
+    rw (c.decimal_width.ensures, c.pow-p.ensures) at c.put_digits-end.ensures in (
       rw (length-set c.put_digits-end.new.out c.put_digits-end.result 46) (omega (
         arith,
         room-point c.args.s.negative
@@ -113,9 +113,9 @@ put_digits-requires c =
 pub shape_of-out : goal.shape_of-out
 shape_of-out c =
     let wrote : Appended (before c.args.s.digits c.args.s.scale) c.if-s.start c.if-s.out c.put_digits-end.new.out c.put_digits-end.result =
-    rw (c.decimal_width.ensures, c.power-p.ensures) at c.put_digits-end.ensures in
+    rw (c.decimal_width.ensures, c.pow-p.ensures) at c.put_digits-end.ensures in
     let p : Appended (spelling c.args.s.negative c.args.s.digits c.args.s.scale) c.args.at c.args.out.now c.put_digits.new.out c.put_digits.result =
     put_parts c.args.s.negative c.args.s.digits c.args.s.scale c.args.at c.args.out.now c.if-s.start
     c.if-s.out (begun ((goal.at.returns c).Joined-s)) c.requires.0 c.put_digits-end.new.out c.put_digits-end.result wrote c.if-s-eq0.false _ _
-    (rw c.power-p.ensures at c.put_digits.ensures) in
+    (rw c.pow-p.ensures at c.put_digits.ensures) in
     ap length p.laid ∙ simp length-sets

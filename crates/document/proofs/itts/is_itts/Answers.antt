@@ -1,4 +1,5 @@
-use mathlib.Core.Path.{sym}
+use mathlib.Core.Path.{sym, ◌∙◌}
+use borrow.Author.Tests.{le-leb}
 use native.Mathlib.Omega.{arith}
 use Rattle.scan.specs.Part.{string_at}
 use Rattle.xml.proofs.PassForests.{string_long}
@@ -6,31 +7,27 @@ use Rattle.document.proofs.IttsLaws.{name_itts, value-itts}
 use borrow.Author.Rules.{rules}
 use Rattle.document.proofs.itts.is_itts.Goals as goal
 
--- src/itts.rt:31:9
 pub returns-then-itts_from-x : goal.returns-then-itts_from-x
 returns-then-itts_from-x c =
-    let n = c.requires.named c.args.i
-    (omega arith) (omega arith) in
-    sym (name_itts _ _ _ _ n (rw (c.itts_from.ensures, c.extra_at-x.ensures) at c.if-itts_from-x.true))
+    let n = c.requires.named c.args.i (omega arith) (omega arith) in
+    let g = rw (c.itts_from.ensures, c.extra_at-x.ensures) at c.if-itts_from-x.true in
+    rw (c.itts_from.ensures, c.extra_at-x.ensures) (le-leb _ _ g ∙ sym (name_itts _ _ _ _ n g))
 
--- src/itts.rt:35:35
 pub overflow_add-from : goal.overflow_add-from
 overflow_add-from c =
     let h = rw (← c.extra_at-x.ensures) at (c.requires.within
     c.args.i (omega arith) (omega arith)) in
     search (rules, h)
 
--- src/itts.rt:35:20
 pub slice_bounds-find_seq-end : goal.slice_bounds-find_seq-end
 slice_bounds-find_seq-end c =
     let h = rw (← c.extra_at-x.ensures) at (c.requires.within
     c.args.i (omega arith) (omega arith)) in
     search (rules, h)
 
--- src/itts.rt:25:1
-pub returns : goal.returns
+pub returns-else-itts_from-x : goal.returns-else-itts_from-x
 unfolding string_at
-returns c =
+returns-else-itts_from-x c =
     let n = c.requires.named
     c.args.i (omega arith) (omega arith) in
     let w = c.requires.within

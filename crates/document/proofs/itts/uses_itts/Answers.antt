@@ -1,44 +1,30 @@
 use mathlib.Core.Path.{refl, sym, ◌∙◌}
+use mathlib.Core.Bool.{true≢false}
 use Rattle.document.specs.Roots.{itts_text}
 use Rattle.document.proofs.itts.uses_itts.Goals as goal
+use Rattle.document.proofs.itts.uses_itts.Goals.{then-any_itts, else-any_itts}
 
--- src/itts.rt:96:8
-pub any_itts-requires : goal.any_itts-requires
-any_itts-requires c =
-    rw c.get.ensures c.requires.1
-
--- src/itts.rt:97:9
-pub returns-then-any_itts : goal.returns-then-any_itts
-unfolding itts_text
-returns-then-any_itts c =
-    let e = rw c.get.ensures at (sym c.any_itts.ensures ∙ c.if-any_itts.true) in
-    rw e refl
-
--- src/itts.rt:99:8
-pub any_itts-requires-2 : goal.any_itts-requires-2
-any_itts-requires-2 c =
-    rw c.get-2.ensures c.requires.2
-
--- src/itts.rt:100:9
 pub returns-then-any_itts-2 : goal.returns-then-any_itts-2
 unfolding itts_text
 returns-then-any_itts-2 c =
-    let a = rw c.get.ensures at
-    (sym c.any_itts.ensures ∙ c.if-any_itts.false) in
-    let b = rw c.get-2.ensures at (sym c.any_itts-2.ensures ∙ c.if-any_itts-2.true) in
-    rw (a, b) refl
+    let t = c.if-any_itts-2.true in
+    elim c.if-any_itts.branch [
+      | then-any_itts w ↦ let a = rw c.get-n.ensures at (sym c.any_itts.ensures ∙ w.if-any_itts.true) in rw (t, a) refl
+      | else-any_itts w ↦
+          let a = rw c.get-n.ensures at (sym c.any_itts.ensures ∙ w.if-any_itts.false) in
+          let b = rw c.get-m.ensures at (sym w.any_itts-else-any_itts.ensures ∙ (sym w.value-is ∙ t)) in
+          rw (t, a, b) refl
+    ]
 
--- src/itts.rt:102:5
-pub any_itts-requires-3 : goal.any_itts-requires-3
-any_itts-requires-3 c =
-    rw c.get-3.ensures c.requires.3
-
--- src/itts.rt:80:1
-pub returns : goal.returns
+pub returns-else-any_itts-2 : goal.returns-else-any_itts-2
 unfolding itts_text
-returns c =
-    let a = rw c.get.ensures at
-    (sym c.any_itts.ensures ∙ c.if-any_itts.false) in
-    let b = rw c.get-2.ensures at (sym c.any_itts-2.ensures ∙ c.if-any_itts-2.false) in
-    let d = rw c.get-3.ensures at c.any_itts-3.ensures in
-    rw (a, b) d
+returns-else-any_itts-2 c =
+    let f = c.if-any_itts-2.false in
+    elim c.if-any_itts.branch [
+      | then-any_itts w ↦ absurd (true≢false (sym w.if-any_itts.true ∙ (sym w.value-is ∙ f)))
+      | else-any_itts w ↦
+          let a = rw c.get-n.ensures at (sym c.any_itts.ensures ∙ w.if-any_itts.false) in
+          let b = rw c.get-m.ensures at (sym w.any_itts-else-any_itts.ensures ∙ (sym w.value-is ∙ f)) in
+          let d = rw c.get-k.ensures at c.any_itts-else-any_itts-2.ensures in
+          rw (a, b) d
+    ]

@@ -1,39 +1,39 @@
-use Rattle.writer.proofs.Chaining.{puts_then}
 use native.Mathlib.Omega.{arith}
-use Rattle.writer.proofs.Rowing.{rowed_start, rowed_step, rowed_done, rowed_full}
-use Rattle.writer.proofs.Rowing.{lines-over}
+use Rattle.writer.proofs.Chaining.{writes_stop, writes_then}
+use Rattle.writer.proofs.Rowing.{rowed_start, rowed_step, rowed_stop, rowed_done, lines-over}
 use Rattle.document.proofs.regions.write_regions.Goals as goal
 
 pub loop-i-init : goal.loop-i-init
 loop-i-init c =
-    rowed_start _ _ _ _ _ c.requires.1
+    rowed_start _ _ _ _
 
-pub returns-then-is_full : goal.returns-then-is_full
-returns-then-is_full c =
-    rw (lines-over _ _ c.args.n 0)
-    (rowed_full _ _ _ _ _ _ _ _ c.loop-i.invariant (c.is_full.ensures c.if-is_full.true))
+pub write_region-requires : goal.write_region-requires
+write_region-requires c =
+    c.requires c.loop-i.i c.loop-i-test.true
 
-pub put-a-requires : goal.put-a-requires
-put-a-requires c =
-    c.loop-i.invariant.puts.room
+pub returns-in_err-put : goal.returns-in_err-put
+returns-in_err-put c =
+    rw (c.from_residual.ensures, lines-over _ _ c.args.n 0)
+    (rowed_stop _ _ _ _ _ _ c.loop-i.invariant (omega (arith, c.loop-i-test.true)) _ (writes_stop _ c.in_err-put.ensures))
 
-pub write_region-b-requires : goal.write_region-b-requires
-write_region-b-requires c = (
-  c.requires.0 c.loop-i.i
-      c.loop-i-test.true,
-  c.put-a.ensures.room,
-)
+pub returns-in_err-write_region : goal.returns-in_err-write_region
+returns-in_err-write_region c =
+    rw (c.from_residual-in_err-write_region.ensures, lines-over _ _ c.args.n 0)
+    (rowed_stop _ _ _ _ _ _ c.loop-i.invariant (omega (arith, c.loop-i-test.true)) _
+    (writes_then c.in_ok-put.ensures (writes_stop _ c.in_err-write_region.ensures)))
+
+pub returns-in_err-put-2 : goal.returns-in_err-put-2
+returns-in_err-put-2 c =
+    rw (c.from_residual-in_err-put-2.ensures, lines-over _ _ c.args.n 0)
+    (rowed_stop _ _ _ _ _ _ c.loop-i.invariant (omega (arith, c.loop-i-test.true)) _
+    (writes_then c.in_ok-put.ensures (writes_then c.in_ok-write_region.ensures c.in_err-put-2.ensures)))
 
 pub loop-i-preserved : goal.loop-i-preserved
 loop-i-preserved c =
-    rowed_step _ _ _ _ _ _ _ _ c.loop-i.invariant (omega (
-      arith,
-      c.loop-i-test.true,
-    )) _ _
-    (puts_then c.put-a.ensures
-    (puts_then c.write_region-b.ensures c.put-to.ensures))
+    rowed_step _ _ _ _ _ _ c.loop-i.invariant (omega (arith, c.loop-i-test.true)) _
+    (writes_then c.in_ok-put.ensures (writes_then c.in_ok-write_region.ensures c.in_ok-put-2.ensures))
 
 pub returns : goal.returns
 returns c =
     rw (lines-over _ _ c.args.n 0)
-    (rowed_done _ _ _ _ _ _ _ _ c.loop-i.invariant (omega (arith, c.loop-i-test.false)))
+    (rowed_done _ _ _ _ _ _ c.loop-i.invariant (omega (arith, c.loop-i-test.false)))

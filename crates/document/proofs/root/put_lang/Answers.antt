@@ -5,12 +5,10 @@ use Rattle.document.proofs.root.put_lang.Goals as goal
 -- src/root.rt:56:9
 pub span_attr-requires : goal.span_attr-requires
 span_attr-requires c =
-    let e = eq-eqb _ _ (rw c.get.ensures at c.if-get-eq1.true) in (
-      c.requires.0,
-      rw
-          (c.get-place.ensures, c.get-len.ensures)
-          (c.requires.2 e),
-    )
+    let e = eq-eqb _ _ (rw c.get.ensures at c.if-get-eq1.true) in
+    rw
+    (c.get-place.ensures, c.get-len.ensures)
+    (c.requires.1 e)
 
 -- src/root.rt:56:9
 pub returns-then-get-eq1 : goal.returns-then-get-eq1

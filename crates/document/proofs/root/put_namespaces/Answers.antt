@@ -1,26 +1,27 @@
-use Rattle.writer.proofs.Chaining.{puts_then}
+-- `put_namespaces` meets its contract.
+use Rattle.writer.proofs.Chaining.{writes_stop, writes_then}
 use Rattle.document.specs.Roots.{namespaces}
 use Rattle.document.proofs.root.put_namespaces.Goals as goal
 
--- src/root.rt:35:9
 pub any_param-ttp-requires : goal.any_param-ttp-requires
 any_param-ttp-requires c =
-    rw c.get-n.ensures c.requires.0.params
+    rw c.get-n.ensures c.requires.params
 
--- src/root.rt:36:9
 pub any_param-ittp-requires : goal.any_param-ittp-requires
 any_param-ittp-requires c =
-    rw c.get-n.ensures c.requires.0.params
+    rw c.get-n.ensures c.requires.params
 
--- src/root.rt:17:1
+pub returns-in_err-put_if : goal.returns-in_err-put_if
+unfolding namespaces
+returns-in_err-put_if c =
+    rw c.from_residual.ensures (writes_stop _ (rw (rw c.get-n.ensures at c.any_param-ttp.ensures) at c.in_err-put_if.ensures))
+
+pub returns-in_err-put_if-2 : goal.returns-in_err-put_if-2
+unfolding namespaces
+returns-in_err-put_if-2 c =
+    rw c.from_residual-in_err-put_if-2.ensures (writes_then (rw (rw c.get-n.ensures at c.any_param-ttp.ensures) at c.in_ok-put_if.ensures) (writes_stop _ (rw (rw c.get-n.ensures at c.any_param-ittp.ensures) at c.in_err-put_if-2.ensures)))
+
 pub returns : goal.returns
 unfolding namespaces
 returns c =
-    let a = rw c.get-n.ensures at c.any_param-ttp.ensures in
-    let b = rw c.get-n.ensures at c.any_param-ittp.ensures in
-    rw (
-      a,
-      b,
-      c.uses_itts-itts.ensures,
-    ) at (puts_then c.put_if-a.ensures (puts_then c.put_if-b.ensures
-    c.put_if.ensures))
+    writes_then (rw (rw c.get-n.ensures at c.any_param-ttp.ensures) at c.in_ok-put_if.ensures) (writes_then (rw (rw c.get-n.ensures at c.any_param-ittp.ensures) at c.in_ok-put_if-2.ensures) (rw c.uses_itts-itts.ensures at c.put_if-3.ensures))

@@ -1,10 +1,10 @@
 -- `put_align` meets its contract.
-use Rattle.writer.proofs.Chaining.{puts_none}
+use Rattle.writer.proofs.Chaining.{writes_none}
 use Rattle.document.proofs.styles.put_align.Goals as goal
 
 pub returns-in-Start : goal.returns-in-Start
 returns-in-Start c =
-    rw c.in-Start.is (puts_none _ _ c.requires)
+    rw c.in-Start.is (writes_none _)
 
 pub returns-in-Center : goal.returns-in-Center
 returns-in-Center c =

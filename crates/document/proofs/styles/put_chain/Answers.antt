@@ -1,5 +1,5 @@
 -- `put_chain` meets its contract.
-use Rattle.writer.proofs.Chaining.{puts_none}
+use Rattle.writer.proofs.Chaining.{writes_none}
 use mathlib.Core.Path.{sym, ◌∙◌}
 use native.Mathlib.Omega.{arith}
 use Rattle.track.specs.Tables.{cell}
@@ -12,72 +12,70 @@ use Rattle.document.proofs.styles.put_chain.Goals as goal
 pub overflow_mul-j : goal.overflow_mul-j
 unfolding string_at cell
 overflow_mul-j c =
-    let h = sym c.find_chain.ensures ∙ c.in-Row.is in
+    let h = sym c.find_chain.ensures ∙ c.in-Some.is in
     let b = (with_first _ _ _ 27 _ 3 _ h).within in
-    let p = c.requires.1.rows in
+    let p = c.requires.0.rows in
     search (rules, b, p)
 
 pub overflow_add-j : goal.overflow_add-j
 unfolding string_at cell
 overflow_add-j c =
-    let h = sym c.find_chain.ensures ∙ c.in-Row.is in
+    let h = sym c.find_chain.ensures ∙ c.in-Some.is in
     let b = (with_first _ _ _ 27 _ 3 _ h).within in
-    let p = c.requires.1.rows in
+    let p = c.requires.0.rows in
     search (rules, b, p)
 
 pub get-place-requires : goal.get-place-requires
 unfolding string_at cell
 get-place-requires c =
-    let h = sym c.find_chain.ensures ∙ c.in-Row.is in
+    let h = sym c.find_chain.ensures ∙ c.in-Some.is in
     let b = (with_first _ _ _ 27 _ 3 _ h).within in
-    let p = c.requires.1.rows in
+    let p = c.requires.0.rows in
     omega (arith, b, p)
 
-pub overflow_mul-j-in-Row : goal.overflow_mul-j-in-Row
+pub overflow_mul-j-in-Some : goal.overflow_mul-j-in-Some
 unfolding string_at cell
-overflow_mul-j-in-Row c =
-    let h = sym c.find_chain.ensures ∙ c.in-Row.is in
+overflow_mul-j-in-Some c =
+    let h = sym c.find_chain.ensures ∙ c.in-Some.is in
     let b = (with_first _ _ _ 27 _ 3 _ h).within in
-    let p = c.requires.1.rows in
+    let p = c.requires.0.rows in
     search (rules, b, p)
 
-pub overflow_add-j-in-Row : goal.overflow_add-j-in-Row
+pub overflow_add-j-in-Some : goal.overflow_add-j-in-Some
 unfolding string_at cell
-overflow_add-j-in-Row c =
-    let h = sym c.find_chain.ensures ∙ c.in-Row.is in
+overflow_add-j-in-Some c =
+    let h = sym c.find_chain.ensures ∙ c.in-Some.is in
     let b = (with_first _ _ _ 27 _ 3 _ h).within in
-    let p = c.requires.1.rows in
+    let p = c.requires.0.rows in
     search (rules, b, p)
 
 pub get-len-requires : goal.get-len-requires
 unfolding string_at cell
 get-len-requires c =
-    let h = sym c.find_chain.ensures ∙ c.in-Row.is in
+    let h = sym c.find_chain.ensures ∙ c.in-Some.is in
     let b = (with_first _ _ _ 27 _ 3 _ h).within in
-    let p = c.requires.1.rows in
+    let p = c.requires.0.rows in
     omega (arith, b, p)
 
 pub span_attr-requires : goal.span_attr-requires
 unfolding string_at cell
 span_attr-requires c =
-    let h = sym c.find_chain.ensures ∙ c.in-Row.is in
+    let h = sym c.find_chain.ensures ∙ c.in-Some.is in
     let b = (with_first _ _ _ 27 _ 3 _ h).within in
-    let p = c.requires.1.rows in (
-      c.requires.0,
-      rw
-          (c.get-place.ensures, c.get-len.ensures)
-          (c.requires.2 _ (omega (arith, b))),
-    )
+    let p = c.requires.0.rows in
+    rw
+    (c.get-place.ensures, c.get-len.ensures)
+    (c.requires.1 _ (omega (arith, b)))
 
-pub returns-in-Nothing : goal.returns-in-Nothing
+pub returns-in-None : goal.returns-in-None
 unfolding chain_text string_at cell
-returns-in-Nothing c =
-    let h = sym c.find_chain.ensures ∙ c.in-Nothing.is in
-    rw h (puts_none _ _ c.requires.0)
+returns-in-None c =
+    let h = sym c.find_chain.ensures ∙ c.in-None.is in
+    rw h (writes_none _)
 
-pub returns-in-Row : goal.returns-in-Row
+pub returns-in-Some : goal.returns-in-Some
 unfolding chain_text string_at cell
-returns-in-Row c =
-    let h = sym c.find_chain.ensures ∙ c.in-Row.is in
+returns-in-Some c =
+    let h = sym c.find_chain.ensures ∙ c.in-Some.is in
     rw h (rw (c.get-place.ensures, c.get-len.ensures) at
     c.span_attr.ensures)

@@ -1,44 +1,39 @@
 use native.Mathlib.Omega.{arith}
-use Rattle.writer.proofs.Chaining.{puts_then}
-use Rattle.writer.proofs.Rowing.{rowed_start, rowed_step, rowed_done, rowed_full, lines-over}
+use Rattle.writer.proofs.Chaining.{writes_stop, writes_then}
+use Rattle.writer.proofs.Rowing.{rowed_start, rowed_step, rowed_stop, rowed_done, lines-over}
 use Rattle.document.proofs.styles.write_styles.Goals as goal
 
--- src/styles.rt:167:5
 pub loop-i-init : goal.loop-i-init
 loop-i-init c =
-    rowed_start _ _ _ _ _ c.requires.1
+    rowed_start _ _ _ _
 
--- src/styles.rt:169:13
-pub returns-then-is_full : goal.returns-then-is_full
-returns-then-is_full c =
-    rw (lines-over _ _ c.args.n 0)
-    (rowed_full _ _ _ _ _ _ _ _ c.loop-i.invariant (c.is_full.ensures c.if-is_full.true))
+pub write_style-requires : goal.write_style-requires
+write_style-requires c =
+    (c.requires, omega (arith, c.loop-i-test.true))
 
--- src/styles.rt:171:13
-pub put-a-requires : goal.put-a-requires
-put-a-requires c =
-    c.loop-i.invariant.puts.room
+pub returns-in_err-put : goal.returns-in_err-put
+returns-in_err-put c =
+    rw (c.from_residual.ensures, lines-over _ _ c.args.n 0)
+    (rowed_stop _ _ _ _ _ _ c.loop-i.invariant (omega (arith, c.loop-i-test.true)) _ (writes_stop _ c.in_err-put.ensures))
 
--- src/styles.rt:172:13
-pub write_style-b-requires : goal.write_style-b-requires
-write_style-b-requires c = (
-  c.requires.0,
-  omega (arith, c.loop-i-test.true),
-  c.put-a.ensures.room,
-)
+pub returns-in_err-write_style : goal.returns-in_err-write_style
+returns-in_err-write_style c =
+    rw (c.from_residual-in_err-write_style.ensures, lines-over _ _ c.args.n 0)
+    (rowed_stop _ _ _ _ _ _ c.loop-i.invariant (omega (arith, c.loop-i-test.true)) _
+    (writes_then c.in_ok-put.ensures (writes_stop _ c.in_err-write_style.ensures)))
 
--- src/styles.rt:167:5
+pub returns-in_err-put-2 : goal.returns-in_err-put-2
+returns-in_err-put-2 c =
+    rw (c.from_residual-in_err-put-2.ensures, lines-over _ _ c.args.n 0)
+    (rowed_stop _ _ _ _ _ _ c.loop-i.invariant (omega (arith, c.loop-i-test.true)) _
+    (writes_then c.in_ok-put.ensures (writes_then c.in_ok-write_style.ensures c.in_err-put-2.ensures)))
+
 pub loop-i-preserved : goal.loop-i-preserved
 loop-i-preserved c =
-    let p = puts_then c.put-a.ensures
-    (puts_then c.write_style-b.ensures c.put-to.ensures) in
-    rowed_step _ _ _ _ _ _ _ _ c.loop-i.invariant (omega (
-      arith,
-      c.loop-i-test.true,
-    )) _ _ p
+    rowed_step _ _ _ _ _ _ c.loop-i.invariant (omega (arith, c.loop-i-test.true)) _
+    (writes_then c.in_ok-put.ensures (writes_then c.in_ok-write_style.ensures c.in_ok-put-2.ensures))
 
--- src/styles.rt:150:1
 pub returns : goal.returns
 returns c =
     rw (lines-over _ _ c.args.n 0)
-    (rowed_done _ _ _ _ _ _ _ _ c.loop-i.invariant (omega (arith, c.loop-i-test.false)))
+    (rowed_done _ _ _ _ _ _ c.loop-i.invariant (omega (arith, c.loop-i-test.false)))

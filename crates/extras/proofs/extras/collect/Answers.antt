@@ -1,5 +1,6 @@
 -- `collect`: the entries are those of the attributes, and there are no more extras than attributes.
 use native.Mathlib.Omega.{arith}
+use Rattle.xml.proofs.RowFacts.{has_rows}
 use Rattle.meaning.specs.Kinds.{attrs_in}
 use Rattle.extras.proofs.Noting.{few_names}
 use Rattle.extras.proofs.Keeping.{few_extras, lists_from, all_zero}
@@ -7,23 +8,23 @@ use Rattle.extras.proofs.extras.collect.Goals as goal
 
 pub first_rows-end-requires : goal.first_rows-end-requires
 first_rows-end-requires c =
-    (c.requires.0, few_names c.args.list, all_zero 53)
+    (few_names c.args.list, all_zero 53)
 
 pub keep_all-n-requires : goal.keep_all-n-requires
 keep_all-n-requires c =
-    let own = c.requires.0 in
-    let z = c.args.strings.now in (
+    let own = has_rows c.args.attrs.now.room c.args.attrs.now.within in
+    let z = c.args.attrs.now.strings.now in (
       c.first_rows-end.ensures.rows_fit,
       omega (arith, few_names c.args.list),
       c.first_rows-end.ensures.none_from,
-      c.requires.2,
-      (attrs_in z own.0, c.first_rows-end.ensures.of_rows own.0 own.1, omega (arith, few_extras c.args.list own.1, c.requires.1)),
+      c.requires.1,
+      (attrs_in z own.0, c.first_rows-end.ensures.of_rows own.0 own.1, omega (arith, few_extras c.args.list own.1, c.requires.0)),
     )
 
 pub returns : goal.returns
 returns c =
-    let own = c.requires.0 in
-    let z = c.args.strings.now in
+    let own = has_rows c.args.attrs.now.room c.args.attrs.now.within in
+    let z = c.args.attrs.now.strings.now in
     let firsts = c.first_rows-end.ensures.of_rows in
     let mine = lists_from _ (c.keep_all-n.ensures (attrs_in z own.0) (firsts own.0 own.1)) c.rows_from.ensures in
     record {

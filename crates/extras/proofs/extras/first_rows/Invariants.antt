@@ -1,5 +1,4 @@
--- `first_rows` meets its contract. The attributes before row k are noted; the measure is what is left of them.
-use Prim.Native.Nat.{◌-◌}
+-- `first_rows` meets its contract. The attributes before row k are noted.
 use mathlib.Core.Path.{◌≡◌}
 use mathlib.Core.List.{List}
 use lib.ListN.{length}
@@ -11,9 +10,6 @@ use Rattle.extras.proofs.extras.first_rows.Given as goal
 
 abbrev pub invariant-loop-k : goal.invariant-loop-k
 invariant-loop-k at = (length at.rows ≡ length at.initial.rows)
-    × RowsFit at.attrs at.strings at.rows
-    × ((l : List Attr) → Owned at.attrs at.strings at.first at.many l → Noted at.list at.attrs at.strings at.rows at.k at.end l)
+    × RowsFit at.attrs.attrs.now at.attrs.strings.now at.rows
+    × ((l : List Attr) → Owned at.attrs.attrs.now at.attrs.strings.now at.attrs.first at.attrs.many l → Noted at.list at.attrs.attrs.now at.attrs.strings.now at.rows at.k at.end l)
     × NoneFrom at.list at.last at.rows
-
-abbrev pub decreases-loop-k : goal.decreases-loop-k
-decreases-loop-k l = l.end - l.k

@@ -1,5 +1,4 @@
--- `keep_all` meets its contract. The extras of the names before the i-th stand in n rows; the measure is what is left of the names.
-use Prim.Native.Nat.{◌-◌, ◌≤◌}
+-- `keep_all` meets its contract. The extras of the names before the i-th stand in n rows.
 use mathlib.Core.Path.{◌≡◌}
 use mathlib.Core.List.{List}
 use lib.ListN.{length}
@@ -11,8 +10,4 @@ use Rattle.extras.proofs.extras.keep_all.Given as goal
 
 abbrev pub invariant-loop-i : goal.invariant-loop-i
 invariant-loop-i at = (length at.extras ≡ length at.initial.extras)
-    × ((l : List (Attr Placed)) → FirstRows at.attrs at.strings at.list at.rows l → Kept at.list l at.i at.n at.at at.initial.extras at.extras)
-    × (at.i ≤ at.end)
-
-abbrev pub decreases-loop-i : goal.decreases-loop-i
-decreases-loop-i l = l.end - l.i
+    × ((l : List (Attr Placed)) → FirstRows at.attrs.attrs.now at.attrs.strings.now at.list at.rows l → Kept at.list l at.i at.n at.at at.initial.extras at.extras)

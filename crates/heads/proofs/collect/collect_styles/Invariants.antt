@@ -4,7 +4,10 @@ use Rattle.heads.proofs.Looping.{StylesAlong}
 use Rattle.heads.proofs.collect.collect_styles.Given as goal
 
 abbrev pub invariant-loop-k : goal.invariant-loop-k
-invariant-loop-k l = StylesAlong l.nodes l.attrs l.strings l.from l.end l.initial.styles l.initial.sizes l.initial.extras l.k l.n l.at l.styles l.sizes l.extras
+invariant-loop-k l =
+    let t = l.tree in
+    StylesAlong t.nodes.now t.attrs.now t.strings.now l.from l.end l.initial.styles l.initial.sizes l.initial.extras l.k l.n l.at l.styles l.sizes
+    l.extras
 
 abbrev pub decreases-loop-k : goal.decreases-loop-k
 decreases-loop-k l = l.end - l.k

@@ -8,7 +8,7 @@ pub returns-then-n-ge-REGIONS : goal.returns-then-n-ge-REGIONS
 returns-then-n-ge-REGIONS c =
     λ l y. (
       _,
-      sym (rw c.in-At.is at (c.id_of.ensures.of_rows l y)),
+      sym (rw c.in-Some.is at (c.id_of.ensures.of_rows l y)),
       region_full _ _ c.args.place c.args.n
           c.if-n-ge-REGIONS.true,
       refl,
@@ -17,16 +17,16 @@ returns-then-n-ge-REGIONS c =
 
 pub add_named-requires : goal.add_named-requires
 add_named-requires c =
-    (c.requires.0, c.requires.1, c.requires.2, c.requires.3, omega (arith, c.if-n-ge-REGIONS.false), c.requires.4, rw c.in-At.is at c.id_of.ensures.found_fits)
+    (c.requires.0, c.requires.1, c.requires.2, omega (arith, c.if-n-ge-REGIONS.false), c.requires.3, rw c.in-Some.is at c.id_of.ensures.found_fits)
 
-pub returns-else-n-ge-REGIONS : goal.returns-else-n-ge-REGIONS
-returns-else-n-ge-REGIONS c =
+pub returns : goal.returns
+returns c =
     λ l y. (
       _,
-      sym (rw c.in-At.is at (c.id_of.ensures.of_rows l y)),
+      sym (rw c.in-Some.is at (c.id_of.ensures.of_rows l y)),
       (_, region_taken _ _ c.args.place c.args.n (omega (arith, c.if-n-ge-REGIONS.false)), c.add_named.ensures.of_rows l y),
     )
 
-pub returns-in-Absent : goal.returns-in-Absent
-returns-in-Absent c =
-    λ l y. (sym (rw c.in-Absent.is at (c.id_of.ensures.of_rows l y)), refl, refl)
+pub returns-in_default : goal.returns-in_default
+returns-in_default c =
+    λ l y. (sym (rw c.in_default.is at (c.id_of.ensures.of_rows l y)), refl, refl)

@@ -1,12 +1,6 @@
--- `collapse` meets its contract. The loop's invariant: what the first `i` bytes give stands from `at` on. The measure is what is left of the
--- piece. Assumes nothing.
-use Prim.Native.Nat.{◌-◌}
-use lib.ListN.{length}
+-- `collapse` meets its contract. The loop's invariant: what the first `i` bytes give stands from `at` on. Assumes nothing.
 use Rattle.inline.proofs.Collapsing.{Collapsing}
 use Rattle.inline.proofs.collapse.collapse.Given as goal
 
-abbrev pub invariant-loop-i : goal.invariant-loop-i
-invariant-loop-i l = Collapsing l.piece l.boundary l.at l.initial.texts l.i l.n l.edge l.texts
-
-abbrev pub decreases-loop-i : goal.decreases-loop-i
-decreases-loop-i l = length l.piece - l.i
+abbrev pub invariant-loop-b : goal.invariant-loop-b
+invariant-loop-b l = Collapsing l.piece l.boundary l.at l.initial.texts l.b-index l.n l.edge l.texts

@@ -13,6 +13,6 @@ returns-then-kind-eq-TEXT c =
     c.trim_text.ensures
     ∙ row-text _ _ _ c.if-kind-eq-TEXT.true
 
-pub returns : goal.returns
-returns c =
+pub returns-else-kind-eq-TEXT : goal.returns-else-kind-eq-TEXT
+returns-else-kind-eq-TEXT c =
     row_other _ _ _ c.if-kind-eq-TEXT.false

@@ -8,6 +8,6 @@ pub returns-then-i-lt23 : goal.returns-then-i-lt23
 returns-then-i-lt23 c =
     held_first Listed.InlineExtra 23 c.args.i (search rules) c.cut.result (search rules) c.cut.ensures
 
-pub returns : goal.returns
-returns c =
-    held_second Listed.InlineExtra 23 c.args.i (search rules) c.cut-2.result (search rules) c.cut-2.ensures
+pub returns-else-i-lt23 : goal.returns-else-i-lt23
+returns-else-i-lt23 c =
+    held_second Listed.InlineExtra 23 c.args.i (search rules) c.cut-else-i-lt23.result (search rules) c.cut-else-i-lt23.ensures

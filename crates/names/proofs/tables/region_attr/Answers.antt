@@ -8,6 +8,6 @@ pub returns-then-i-lt28 : goal.returns-then-i-lt28
 returns-then-i-lt28 c =
     held_first Listed.RegionAttr 28 c.args.i (search rules) c.cut.result (search rules) c.cut.ensures
 
-pub returns : goal.returns
-returns c =
-    held_second Listed.RegionAttr 28 c.args.i (search rules) c.cut-2.result (search rules) c.cut-2.ensures
+pub returns-else-i-lt28 : goal.returns-else-i-lt28
+returns-else-i-lt28 c =
+    held_second Listed.RegionAttr 28 c.args.i (search rules) c.cut-else-i-lt28.result (search rules) c.cut-else-i-lt28.ensures

@@ -8,6 +8,6 @@ pub returns-then-i-lt22 : goal.returns-then-i-lt22
 returns-then-i-lt22 c =
     held_first Listed.StyleExtra 22 c.args.i (search rules) c.cut.result (search rules) c.cut.ensures
 
-pub returns : goal.returns
-returns c =
-    held_second Listed.StyleExtra 22 c.args.i (search rules) c.cut-2.result (search rules) c.cut-2.ensures
+pub returns-else-i-lt22 : goal.returns-else-i-lt22
+returns-else-i-lt22 c =
+    held_second Listed.StyleExtra 22 c.args.i (search rules) c.cut-else-i-lt22.result (search rules) c.cut-else-i-lt22.ensures

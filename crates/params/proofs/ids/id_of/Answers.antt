@@ -2,24 +2,23 @@
 use mathlib.Core.Path.{◌∙◌}
 use Rattle.meaning.specs.Nodes.{id_of}
 use Rattle.styling.proofs.Attributes.{found-valued, none-valued}
-use Rattle.params.proofs.Seeking.{finds_fits, finds_value}
+use Rattle.params.proofs.Seeking.{finds_value}
 use Rattle.params.proofs.ids.id_of.Goals as goal
 
-pub returns-in-At : goal.returns-in-At
+pub returns-in-Some : goal.returns-in-Some
 unfolding id_of
-returns-in-At c =
-    let x = rw c.in-At.is at (c.find.ensures c.requires.0 c.requires.1) in
+returns-in-Some c =
     record {
-      found_fits = x.within;
-      of_rows = λ l y. rw (found-valued (rw c.in-At.is at (c.find.ensures l y)));
+      found_fits = rw c.in-Some.is at c.find.ensures.fits;
+      of_rows = λ l y. rw (found-valued (rw c.in-Some.is at (c.find.ensures.of_rows l y)));
     }
 
-pub returns-in-Absent : goal.returns-in-Absent
+pub returns-in-None : goal.returns-in-None
 unfolding id_of
-returns-in-Absent c =
+returns-in-None c =
     record {
-      found_fits = finds_fits _ _ _ c.find-in-Absent.result (c.find-in-Absent.ensures c.requires.0 c.requires.1);
+      found_fits = c.find-in-None.ensures.fits;
       of_rows = λ l y.
-          finds_value _ _ _ c.find-in-Absent.result (c.find-in-Absent.ensures l y)
-          ∙ rw (none-valued (rw c.in-Absent.is at (c.find.ensures l y)));
+          finds_value _ _ _ c.find-in-None.result (c.find-in-None.ensures.of_rows l y)
+          ∙ rw (none-valued (rw c.in-None.is at (c.find.ensures.of_rows l y)));
     }

@@ -1,5 +1,5 @@
--- `collect_params` meets its contract. The parameters before row k stand in n rows; the measure is what is left of the attributes.
-use Prim.Native.Nat.{◌-◌, ◌≤◌}
+-- `collect_params` meets its contract. The parameters before row k stand in n rows.
+use Prim.Native.Nat.{◌≤◌}
 use mathlib.Core.Path.{◌≡◌}
 use mathlib.Core.List.{List}
 use lib.ListN.{length}
@@ -11,7 +11,4 @@ use Rattle.params.proofs.params.collect_params.Given as goal
 abbrev pub invariant-loop-k : goal.invariant-loop-k
 invariant-loop-k at = (length at.params ≡ length at.initial.params)
     × (at.n ≤ 64)
-    × ((l : List Attr) → Owned at.attrs at.strings at.first at.many l → Listing at.attrs at.strings at.k at.end l at.n at.initial.params at.params)
-
-abbrev pub decreases-loop-k : goal.decreases-loop-k
-decreases-loop-k l = l.end - l.k
+    × ((l : List Attr) → Owned at.attrs.attrs.now at.attrs.strings.now at.attrs.first at.attrs.many l → Listing at.attrs.attrs.now at.attrs.strings.now at.k at.end l at.n at.initial.params at.params)

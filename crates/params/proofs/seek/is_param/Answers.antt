@@ -9,9 +9,9 @@ use Rattle.params.proofs.seek.is_param.Goals as goal
 pub returns-then-starts_with : goal.returns-then-starts_with
 returns-then-starts_with c =
     let e : prefix (ascii "ttp:") c.args.name.now ≡ true = begins _ _ _ c.starts_with.ensures ∙ c.if-starts_with.true in
-    rw e
+    rw e c.if-starts_with.true
 
-pub returns : goal.returns
-returns c =
+pub returns-else-starts_with : goal.returns-else-starts_with
+returns-else-starts_with c =
     let e : prefix (ascii "ttp:") c.args.name.now ≡ false = begins _ _ _ c.starts_with.ensures ∙ c.if-starts_with.false in
-    rw (e, begins _ _ _ c.starts_with-2.ensures)
+    rw (e, begins _ _ _ c.starts_with-else-starts_with.ensures)

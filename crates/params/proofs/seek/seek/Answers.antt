@@ -1,5 +1,6 @@
 use mathlib.Core.Path.{sym, ◌∙◌}
 use native.Mathlib.Omega.{arith}
+use Rattle.xml.proofs.RowFacts.{has_rows}
 use Rattle.xml.proofs.AttrRows.{rest-start, row_fits, end_fits}
 use Rattle.params.specs.Named.{sought_by}
 use Rattle.params.proofs.Seeking.{sought_here, sought_next, sought_nowhere}
@@ -7,7 +8,7 @@ use Rattle.params.proofs.seek.seek.Goals as goal
 
 pub overflow_add-end : goal.overflow_add-end
 overflow_add-end c =
-    record { fits = end_fits c.requires _ (omega arith) (omega arith) }
+    record { fits = end_fits (has_rows c.args.attrs.now.room c.args.attrs.now.within) _ (omega arith) (omega arith) }
 
 pub loop-k-init : goal.loop-k-init
 loop-k-init c =
@@ -15,20 +16,16 @@ loop-k-init c =
 
 pub is_row-requires : goal.is_row-requires
 is_row-requires c =
-    row_fits c.requires c.loop-k.invariant c.loop-k-test.true
+    row_fits (has_rows c.args.attrs.now.room c.args.attrs.now.within) c.loop-k.invariant c.loop-k-test.true
 
 pub attr_at-requires : goal.attr_at-requires
 attr_at-requires c =
-    (row_fits c.requires c.loop-k.invariant c.loop-k-test.true).0
+    (row_fits (has_rows c.args.attrs.now.room c.args.attrs.now.within) c.loop-k.invariant c.loop-k-test.true).0
 
 pub returns-then-is_row : goal.returns-then-is_row
 returns-then-is_row c =
     λ l y. sought_here (sought_by c.args.sought c.args.name.now) (c.loop-k.invariant l y) c.loop-k-test.true _ c.attr_at.ensures
     (sym c.is_row.ensures ∙ c.if-is_row.true)
-
-pub overflow_add-k : goal.overflow_add-k
-overflow_add-k c =
-    omega (arith, (row_fits c.requires c.loop-k.invariant c.loop-k-test.true).0)
 
 pub loop-k-preserved : goal.loop-k-preserved
 loop-k-preserved c =

@@ -7,4 +7,4 @@ use Rattle.queries.proofs.check.check_query.Goals as goal
 pub returns : goal.returns
 unfolding query_check
 returns c =
-    c.check_text.ensures ∙ rw (checked-is _ c.check_track-check.ensures)
+    c.check_text.ensures ∙ rw (checked-is _ c.check_track.ensures)

@@ -1,6 +1,6 @@
 -- `is_short` meets its contract. Assumes nothing.
 use Rattle.queries.proofs.check.is_short.Goals as goal
 
-pub returns-in-Refused : goal.returns-in-Refused
-returns-in-Refused c =
-    rw c.in-Refused.is
+pub returns-in-Err : goal.returns-in-Err
+returns-in-Err c =
+    rw c.in-Err.is

@@ -2,10 +2,6 @@
 use mathlib.Core.Path.{sym, ◌∙◌}
 use Rattle.queries.proofs.own.own_look.Goals as goal
 
-pub value_of-family-requires : goal.value_of-family-requires
-value_of-family-requires c =
-    c.requires.rows
-
 pub returns-then-italic : goal.returns-then-italic
 returns-then-italic c =
     let q = sym c.is_said-italic.ensures ∙ c.if-italic.true in

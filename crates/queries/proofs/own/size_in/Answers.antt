@@ -1,5 +1,6 @@
 -- `size_in` meets its contract. Assumes nothing.
-use mathlib.Core.Path.{refl, sym, ◌∙◌}
+use Rattle.std.specs.Prelude.{Err}
+use mathlib.Core.Path.{ap, refl, sym, ◌∙◌}
 use native.Mathlib.Omega.{arith}
 use lib.ListN.{length-take}
 use lib.Ieee.{of_bits}
@@ -13,17 +14,17 @@ slice_bounds-read_decimal-end c =
 
 pub size_of-requires : goal.size_of-requires
 size_of-requires c =
-    let w = decimal-limits 6 10 _ (sym c.read_decimal.ensures.is ∙ c.in-Is.is) in (w.small, w.near)
+    let w = decimal-limits 6 10 _ (sym c.read_decimal.ensures.is ∙ c.in-Ok.is) in (w.small, w.near)
 
-pub returns-in-Nothing : goal.returns-in-Nothing
+pub returns-in-Err-Invalid : goal.returns-in-Err-Invalid
 unfolding of_bits
-returns-in-Nothing c =
-    size_none _ _ c.leading_end-end.ensures.1 (sym c.read_decimal.ensures.is ∙ c.in-Nothing.is) _ refl
+returns-in-Err-Invalid c =
+    size_none _ _ c.leading_end-end.ensures.1 (sym c.read_decimal.ensures.is ∙ (c.in-Err-Invalid.is ∙ ap Err c.in-Err-Invalid.field-0-is)) _ refl
 
-pub returns-in-Beyond : goal.returns-in-Beyond
-returns-in-Beyond c =
-    size-beyond _ _ c.leading_end-end.ensures.1 (sym c.read_decimal.ensures.is ∙ c.in-Beyond.is)
+pub returns-in-Err-Beyond : goal.returns-in-Err-Beyond
+returns-in-Err-Beyond c =
+    size-beyond _ _ c.leading_end-end.ensures.1 (sym c.read_decimal.ensures.is ∙ (c.in-Err-Beyond.is ∙ ap Err c.in-Err-Beyond.field-0-is))
 
-pub returns-in-Is : goal.returns-in-Is
-returns-in-Is c =
-    size-post _ _ c.leading_end-end.ensures.1 _ _ (sym c.read_decimal.ensures.is ∙ c.in-Is.is) c.size_of.ensures
+pub returns-in-Ok : goal.returns-in-Ok
+returns-in-Ok c =
+    size-post _ _ c.leading_end-end.ensures.1 _ _ (sym c.read_decimal.ensures.is ∙ c.in-Ok.is) c.size_of.ensures

@@ -5,4 +5,4 @@ use Rattle.queries.proofs.region.blank_part.Goals as goal
 pub returns : goal.returns
 unfolding blank_part
 returns c =
-    rw c.blank-look.ensures
+    rw c.blank.ensures

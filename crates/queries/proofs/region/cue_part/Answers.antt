@@ -7,7 +7,7 @@ use Rattle.queries.proofs.region.cue_part.Goals as goal
 
 pub returns-then-not-has : goal.returns-then-not-has
 returns-then-not-has c =
-    cue_none c.args.regions.now c.args.extras.now c.args.strings.now c.args.n c.args.has c.args.id (not-true _
+    cue_none c.args.t.now.regions.now c.args.t.now.extras.now c.args.t.now.strings.now c.args.n c.args.has c.args.id (not-true _
     c.if-not-has.true-raw) _ c.blank_part.ensures
 
 pub overflow_add-to : goal.overflow_add-to
@@ -21,5 +21,5 @@ slice_bounds-region_part-end c =
 pub returns : goal.returns
 unfolding string_at
 returns c =
-    cue_some c.args.regions.now c.args.extras.now c.args.strings.now c.args.n c.args.has c.args.id (not-false _
+    cue_some c.args.t.now.regions.now c.args.t.now.extras.now c.args.t.now.strings.now c.args.n c.args.has c.args.id (not-false _
     c.if-not-has.false-raw) _ c.region_part.ensures

@@ -5,11 +5,9 @@ use Rattle.records.proofs.Finding.{first_row-of, first_out, first-hit, first-mis
 use Rattle.records.proofs.find.find_row.Goals as goal
 
 pub loop-i-init : goal.loop-i-init
-loop-i-init c = (
-  omega arith,
-  rw sub-zero (first_row-of c.args.cells.now c.args.strings.now
-      c.args.name.now _ _ 0),
-)
+loop-i-init c =
+    rw sub-zero (first_row-of c.args.cells.now c.args.strings.now
+    c.args.name.now _ _ 0)
 
 pub overflow_mul-i : goal.overflow_mul-i
 overflow_mul-i c =
@@ -23,16 +21,14 @@ is_named-requires c =
 
 pub returns-then-is_named : goal.returns-then-is_named
 returns-then-is_named c =
-    sym (c.loop-i.invariant.1 ∙ first-hit _ _ _ c.loop-i-test.true
+    sym (c.loop-i.invariant ∙ first-hit _ _ _ c.loop-i-test.true
     (sym c.is_named.ensures ∙ c.if-is_named.true))
 
 pub loop-i-preserved : goal.loop-i-preserved
-loop-i-preserved c = (
-  omega arith,
-  c.loop-i.invariant.1
-      ∙ first-miss _ _ _ c.loop-i-test.true (sym c.is_named.ensures ∙ c.if-is_named.false),
-)
+loop-i-preserved c =
+    c.loop-i.invariant
+    ∙ first-miss _ _ _ c.loop-i-test.true (sym c.is_named.ensures ∙ c.if-is_named.false)
 
 pub returns : goal.returns
 returns c =
-    sym (c.loop-i.invariant.1 ∙ first_out _ _ _ c.loop-i-test.false)
+    sym (c.loop-i.invariant ∙ first_out _ _ _ c.loop-i-test.false)

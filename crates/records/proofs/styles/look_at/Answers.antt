@@ -10,6 +10,6 @@ returns c =
       c.color_at.ensures,
       c.color_at-2.ensures,
       c.optional_at.ensures,
-      c.align_at-align.ensures,
-      c.size_at-size.ensures,
+      c.align_at.ensures,
+      c.size_at.ensures,
     ) (simp add_assoc)

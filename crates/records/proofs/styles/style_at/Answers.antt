@@ -10,5 +10,5 @@ pub returns : goal.returns
 unfolding cell style_at
 returns c =
     let v = within-any nan zero_float c.args.sizes.now c.args.i (omega arith) in
-    rw (c.span_at.ensures, c.span_at-2.ensures, c.look_at-look.ensures, v, c.rows_at.ensures)
+    rw (c.span_at.ensures, c.span_at-2.ensures, c.look_at.ensures, v, c.rows_at.ensures)
     (simp (add_assoc, add-zero))

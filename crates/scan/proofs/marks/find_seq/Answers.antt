@@ -2,16 +2,17 @@ use Prim.Native.Nat.{◌-◌}
 use mathlib.Core.Path.{refl, sym, ◌∙◌}
 use native.Mathlib.Omega.{arith}
 use lib.ListN.{length}
+use Rattle.std.proofs.lemmas.Bool.Decides.{nat_tests}
 use Rattle.scan.proofs.Searches.{seek-on, seek-far, found_here, found-empty, found_none}
 use Rattle.scan.proofs.marks.find_seq.Goals as goal
 
-pub returns-then-mark-eq0 : goal.returns-then-mark-eq0
-returns-then-mark-eq0 c =
-    found-empty _ _ _ c.if-mark-eq0.true (omega arith)
+pub returns-then-is_empty : goal.returns-then-is_empty
+returns-then-is_empty c =
+    found-empty _ _ _ (grind (arith, nat_tests)) (omega arith)
 
 pub loop-i-init : goal.loop-i-init
 loop-i-init c =
-    (omega arith, omega arith, omega arith, refl)
+    (omega arith, omega arith, grind (arith, nat_tests), refl)
 
 pub returns-then-starts_with : goal.returns-then-starts_with
 returns-then-starts_with c =

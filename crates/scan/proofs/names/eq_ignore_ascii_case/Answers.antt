@@ -10,20 +10,18 @@ returns-then-a-b c =
 
 pub loop-i-init : goal.loop-i-init
 loop-i-init c =
-    (omega arith, refl)
+    refl
 
 pub returns-then-to_ascii_lowercase : goal.returns-then-to_ascii_lowercase
 returns-then-to_ascii_lowercase c =
-    sym (folded_agree _ _ ∙ (c.loop-i.invariant.1 ∙ agree_off lower c.args.a.now c.args.b.now _ c.loop-i-test.true (omega arith)
+    sym (folded_agree _ _ ∙ (c.loop-i.invariant ∙ agree_off lower c.args.a.now c.args.b.now _ (omega arith) (omega arith)
     (λ e. c.if-to_ascii_lowercase.true (c.to_ascii_lowercase.ensures ∙ (e ∙ sym c.to_ascii_lowercase-in-loop-i.ensures)))))
 
 pub loop-i-preserved : goal.loop-i-preserved
-loop-i-preserved c = (
-  omega arith,
-  c.loop-i.invariant.1 ∙ agree_on lower c.args.a.now c.args.b.now _ c.loop-i-test.true (omega arith)
-      (sym c.to_ascii_lowercase.ensures ∙ (c.if-to_ascii_lowercase.false ∙ c.to_ascii_lowercase-in-loop-i.ensures)),
-)
+loop-i-preserved c =
+    c.loop-i.invariant ∙ agree_on lower c.args.a.now c.args.b.now _ (omega arith) (omega arith)
+    (sym c.to_ascii_lowercase.ensures ∙ (c.if-to_ascii_lowercase.false ∙ c.to_ascii_lowercase-in-loop-i.ensures))
 
 pub returns : goal.returns
 returns c =
-    sym (folded_agree _ _ ∙ (c.loop-i.invariant.1 ∙ agree_out lower c.args.a.now c.args.b.now _ c.loop-i-test.false (omega arith)))
+    sym (folded_agree _ _ ∙ (c.loop-i.invariant ∙ agree_out lower c.args.a.now c.args.b.now _ (omega arith) (omega arith)))

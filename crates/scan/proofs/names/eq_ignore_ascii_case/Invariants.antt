@@ -8,7 +8,4 @@ use Rattle.scan.proofs.Naming.{agree}
 use Rattle.scan.proofs.names.eq_ignore_ascii_case.Given as goal
 
 abbrev pub invariant-loop-i : goal.invariant-loop-i
-invariant-loop-i l = (l.i ≤ length l.a) × (agree lower l.a l.b ≡ agree lower (drop l.i l.a) (drop l.i l.b))
-
-abbrev pub decreases-loop-i : goal.decreases-loop-i
-decreases-loop-i l = length l.a - l.i
+invariant-loop-i l = agree lower l.a l.b ≡ agree lower (drop l.i l.a) (drop l.i l.b)

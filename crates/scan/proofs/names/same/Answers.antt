@@ -9,17 +9,17 @@ returns-then-a-b c =
 
 pub loop-i-init : goal.loop-i-init
 loop-i-init c =
-    (omega arith, refl)
+    refl
 
 pub returns-then-a-i : goal.returns-then-a-i
 returns-then-a-i c =
-    sym (same_agree _ _ ∙ (c.loop-i.invariant.1 ∙ agree_off itself c.args.a.now c.args.b.now _ c.loop-i-test.true (omega arith)
+    sym (same_agree _ _ ∙ (c.loop-i.invariant ∙ agree_off itself c.args.a.now c.args.b.now _ (omega arith) (omega arith)
     c.if-a-i.true))
 
 pub loop-i-preserved : goal.loop-i-preserved
 loop-i-preserved c =
-    (omega arith, c.loop-i.invariant.1 ∙ agree_on itself c.args.a.now c.args.b.now _ c.loop-i-test.true (omega arith) c.if-a-i.false)
+    c.loop-i.invariant ∙ agree_on itself c.args.a.now c.args.b.now _ (omega arith) (omega arith) c.if-a-i.false
 
 pub returns : goal.returns
 returns c =
-    sym (same_agree _ _ ∙ (c.loop-i.invariant.1 ∙ agree_out itself c.args.a.now c.args.b.now _ c.loop-i-test.false (omega arith)))
+    sym (same_agree _ _ ∙ (c.loop-i.invariant ∙ agree_out itself c.args.a.now c.args.b.now _ (omega arith) (omega arith)))

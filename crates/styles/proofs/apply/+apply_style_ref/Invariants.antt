@@ -8,10 +8,10 @@ use Rattle.styles.proofs.apply.+apply_style_ref.Given as goal
 abbrev pub decreases-apply_style_ref : goal.decreases-apply_style_ref
 decreases-apply_style_ref l = length l.ids.now - l.w.count * 4
 
-abbrev pub invariant-loop-r : goal.invariant-loop-r
-invariant-loop-r l =
-    Along l.text l.styles l.sizes l.strings l.n (part l.from l.to l.strings) l.initial.ids l.initial.s (row 1 (span l.from (l.to - l.from))) l.p
-    l.ids l.heads l.s
+abbrev pub invariant-loop-x : goal.invariant-loop-x
+invariant-loop-x l =
+    Along l.text l.named.styles.now l.named.sizes.now l.named.strings.now l.named.many (part l.from l.to l.named.strings.now)
+    l.initial.ids l.initial.s (row 1 (span l.from (l.to - l.from))) l.p l.ids l.heads l.s
 
-abbrev pub decreases-loop-r : goal.decreases-loop-r
-decreases-loop-r l = length (part l.from l.to l.strings) - l.p
+abbrev pub decreases-loop-x : goal.decreases-loop-x
+decreases-loop-x l = length (part l.from l.to l.named.strings.now) - l.p

@@ -8,7 +8,7 @@ use Rattle.styles.specs.Places.{row}
 use Rattle.styles.proofs.apply.apply_refs.Given as goal
 
 abbrev pub invariant-loop-x : goal.invariant-loop-x
-invariant-loop-x l = Along l.text l.styles l.sizes l.strings l.n (part l.from l.to l.own)
+invariant-loop-x l = Along l.text l.named.styles.now l.named.sizes.now l.named.strings.now l.named.many (part l.from l.to l.own)
     l.initial.ids l.initial.s (row l.source (span l.from l.len)) l.p l.ids l.heads l.s
 
 abbrev pub decreases-loop-x : goal.decreases-loop-x

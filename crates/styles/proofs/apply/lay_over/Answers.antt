@@ -8,10 +8,10 @@ pub returns-then-not-has : goal.returns-then-not-has
 returns-then-not-has c =
     lays_none _ _ _ (not-true _ c.if-not-has.true-raw)
 
-pub returns-then-not-below : goal.returns-then-not-below
-returns-then-not-below c =
-    lays_first _ _ _ _ (not-false _ c.if-not-has.false-raw) refl refl (not-true _ c.if-not-below.true) refl
+pub returns-then-below : goal.returns-then-below
+returns-then-below c =
+    lays_second _ _ _ _ (not-false _ c.if-not-has.false-raw) refl refl c.if-below.true c.overlay_style-look.ensures
 
-pub returns : goal.returns
-returns c =
-    lays_second _ _ _ _ (not-false _ c.if-not-has.false-raw) refl refl (not-false _ c.if-not-below.false) c.overlay_style-look.ensures
+pub returns-else-below : goal.returns-else-below
+returns-else-below c =
+    lays_first _ _ _ _ (not-false _ c.if-not-has.false-raw) refl refl c.if-below.false refl

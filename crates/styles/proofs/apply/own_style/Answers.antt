@@ -8,22 +8,23 @@ use Rattle.styles.proofs.apply.own_style.Goals as goal
 
 pub style_at-style-requires : goal.style_at-style-requires
 style_at-style-requires c =
-    let l = own-row_within _ [] [] _ _ _ _ (sym c.find_style.ensures ∙ c.in-Row.is) in
-    (omega (arith, l, c.requires.chained.named.rows), omega (arith, l, c.requires.sizes), c.requires.color _ l, c.requires.back _ l)
+    let l = own-row_within _ [] [] _ _ _ _ (sym c.find_style.ensures ∙ c.in-Some.is) in
+    let r = c.args.named.now.ready in
+    (omega (arith, l, r.chained.named.rows), omega (arith, l, r.sizes), r.color _ l, r.back _ l)
 
-pub returns-in-Row : goal.returns-in-Row
-returns-in-Row c =
-    let h = sym c.find_style.ensures ∙ c.in-Row.is in
+pub returns-in-Some : goal.returns-in-Some
+returns-in-Some c =
+    let h = sym c.find_style.ensures ∙ c.in-Some.is in
     record {
       count = refl;
-      tidy = λ d. rw (c.overlay_style-look.ensures, c.style_at-style.ensures) (tidy_over _ _ d (tidy_style _ _ _));
-      is = λ t. own-at _ _ _ _ _ _ h t c.args.w _ refl refl (c.overlay_style-look.ensures ∙ rw c.style_at-style.ensures);
+      tidy = λ d. rw (c.overlay_style.ensures, c.style_at-style.ensures) (tidy_over _ _ d (tidy_style _ _ _));
+      is = λ t. own-at _ _ _ _ _ _ h t c.args.w _ refl refl (c.overlay_style.ensures ∙ rw c.style_at-style.ensures);
     }
 
-pub returns-in-Nothing : goal.returns-in-Nothing
-returns-in-Nothing c =
+pub returns-in-None : goal.returns-in-None
+returns-in-None c =
     record {
       count = refl;
       tidy = λ d. d;
-      is = λ t. no_own_at _ _ _ _ _ (sym c.find_style.ensures ∙ c.in-Nothing.is) _;
+      is = λ t. no_own_at _ _ _ _ _ (sym c.find_style.ensures ∙ c.in-None.is) _;
     }

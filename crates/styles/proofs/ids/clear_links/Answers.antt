@@ -5,21 +5,21 @@ use Rattle.styles.proofs.ids.clear_links.Goals as goal
 
 pub loop-i-init : goal.loop-i-init
 loop-i-init c =
-    (omega arith, unlinked_none _)
+    unlinked_none _
 
 pub bounds-ids-i : goal.bounds-ids-i
 bounds-ids-i c =
-    omega (arith, c.loop-i.invariant.1.kept)
+    omega (arith, c.loop-i.invariant.kept)
 
 pub loop-i-preserved : goal.loop-i-preserved
 loop-i-preserved c =
-    (omega arith, unlinked_more _ _ _ c.loop-i.invariant.1 (omega arith))
+    unlinked_more _ _ _ c.loop-i.invariant (omega arith)
 
 pub shape_of-ids : goal.shape_of-ids
 shape_of-ids c =
-    c.loop-i.invariant.1.kept
+    c.loop-i.invariant.kept
 
 pub returns : goal.returns
 returns c =
     let e : c.loop-i.i ≡ c.args.n = omega arith in
-    rw e at c.loop-i.invariant.1
+    rw e at c.loop-i.invariant

@@ -4,24 +4,19 @@ use native.Mathlib.Omega.{arith}
 use Rattle.styles.specs.Ids.{hash_of}
 use Rattle.styles.proofs.ids.hash.Goals as goal
 
-pub loop-i-init : goal.loop-i-init
+pub loop-b-init : goal.loop-b-init
 unfolding hash_of
-loop-i-init c =
-    (omega arith, omega arith, refl)
-
-pub overflow_cast-h : goal.overflow_cast-h
-overflow_cast-h c =
-    omega (arith, c.shared_slice_known-1.given c.loop-i.i)
+loop-b-init c =
+    (omega arith, refl)
 
 pub overflow_add-h : goal.overflow_add-h
 overflow_add-h c =
-    omega (arith, c.shared_slice_known-1.given c.loop-i.i)
+    omega (arith, c.type_inv.name c.loop-b.b-index)
 
-pub loop-i-preserved : goal.loop-i-preserved
-loop-i-preserved c =
-    let s = c.args.name.now in
-    (omega arith, mod_small _, c.loop-i.invariant.2 ∙ hash_on s c.loop-i.h c.loop-i.i (omega arith))
+pub loop-b-preserved : goal.loop-b-preserved
+loop-b-preserved c =
+    (mod_small _, c.loop-b.invariant.1 ∙ hash_on c.args.name.now c.loop-b.h c.loop-b.b-index (omega arith))
 
 pub returns : goal.returns
 returns c =
-    (sym (c.loop-i.invariant.2 ∙ hash_out c.args.name.now c.loop-i.h c.loop-i.i (omega arith)), c.loop-i.invariant.1)
+    (sym (c.loop-b.invariant.1 ∙ hash_out c.args.name.now c.loop-b.h c.loop-b.b-index (omega arith)), c.loop-b.invariant.0)

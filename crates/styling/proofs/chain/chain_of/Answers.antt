@@ -8,20 +8,20 @@ use Rattle.styling.proofs.chain.chain_of.Goals as goal
 
 pub trimmed_span-requires : goal.trimmed_span-requires
 trimmed_span-requires c =
-    (rw c.in-At.is at (c.find.ensures c.requires.0 c.requires.1)).within
+    rw c.in-Some.is at c.find.ensures.fits
 
-pub returns-in-At : goal.returns-in-At
-returns-in-At c =
+pub returns-in-Some : goal.returns-in-Some
+returns-in-Some c =
     record {
       len_in_bounds = c.trimmed_span.ensures.1;
-      of_rows = λ l y. let x = rw c.in-At.is at (c.find.ensures l y) in
+      of_rows = λ l y. let x = rw c.in-Some.is at (c.find.ensures.of_rows l y) in
           c.trimmed_span.ensures.0 ∙ sym (ap (chain_in with_places) (found-valued x));
     }
 
-pub returns-in-Absent : goal.returns-in-Absent
-returns-in-Absent c =
+pub returns-in-None : goal.returns-in-None
+returns-in-None c =
     record {
       len_in_bounds = omega arith;
-      of_rows = λ l y. let x = rw c.in-Absent.is at (c.find.ensures l y) in
+      of_rows = λ l y. let x = rw c.in-None.is at (c.find.ensures.of_rows l y) in
           sym (ap (chain_in with_places) (none-valued x));
     }

@@ -1,25 +1,15 @@
 -- `color_attr` reads the colour from the attribute that `find` answers.
 use mathlib.Core.Path.{sym, ◌∙◌}
-use native.Mathlib.Omega.{arith}
-use Rattle.scan.specs.Part.{string_at}
 use Rattle.meaning.specs.Styling.{color_of}
 use Rattle.styling.proofs.Attributes.{found-reading, none-reading}
 use Rattle.styling.proofs.colours.color_attr.Goals as goal
 
-pub overflow_add-end : goal.overflow_add-end
-overflow_add-end c =
-    let x = rw c.in-At.is at (c.find.ensures c.requires.0 c.requires.1) in omega (arith, x.within)
-
-pub slice_bounds-color_in-end : goal.slice_bounds-color_in-end
-slice_bounds-color_in-end c =
-    let x = rw c.in-At.is at (c.find.ensures c.requires.0 c.requires.1) in omega (arith, x.within)
-
-pub returns-in-At : goal.returns-in-At
-unfolding color_of string_at
-returns-in-At c =
-    λ l y. let x = rw c.in-At.is at (c.find.ensures l y) in c.color_in.ensures ∙ sym (found-reading x _)
-
-pub returns-in-Absent : goal.returns-in-Absent
+pub returns-in-Some : goal.returns-in-Some
 unfolding color_of
-returns-in-Absent c =
-    λ l y. let x = rw c.in-Absent.is at (c.find.ensures l y) in sym (none-reading x _)
+returns-in-Some c =
+    λ l y. let x = rw c.in-Some.is at (c.find.ensures.of_rows l y) in rw c.value.ensures at c.color_in.ensures ∙ sym (found-reading x _)
+
+pub returns-in-None : goal.returns-in-None
+unfolding color_of
+returns-in-None c =
+    λ l y. let x = rw c.in-None.is at (c.find.ensures.of_rows l y) in sym (none-reading x _)

@@ -1,5 +1,4 @@
 -- `p_has_modelled_inline_style` meets its contract. The loop goes on with the attributes from k on; the measure is what is left of them.
-use Prim.Native.Nat.{◌-◌}
 use mathlib.Core.List.{List}
 use Rattle.tree.specs.Trees.{Attr}
 use Rattle.xml.specs.Find.{Owned}
@@ -8,7 +7,5 @@ use Rattle.styling.proofs.Shown.{asked}
 use Rattle.styling.proofs.modelled.p_has_modelled_inline_style.Given as goal
 
 abbrev pub invariant-loop-k : goal.invariant-loop-k
-invariant-loop-k at = (l : List Attr) → Owned at.attrs at.strings at.first at.many l → Rest (asked at.strings) at.attrs at.strings at.k at.end l
-
-abbrev pub decreases-loop-k : goal.decreases-loop-k
-decreases-loop-k l = l.end - l.k
+invariant-loop-k at = (l : List Attr) → Owned at.attrs.attrs.now at.attrs.strings.now at.attrs.first at.attrs.many l
+    → Rest (asked at.attrs.strings.now) at.attrs.attrs.now at.attrs.strings.now at.k at.end l

@@ -1,16 +1,10 @@
 -- `of_leading` reads the beginning that `leading_end` ends.
 use mathlib.Core.Path.{ap, ◌∙◌}
-use native.Mathlib.Omega.{arith}
-use lib.ListN.{length-take}
 use Prim.Native.Nat.{ℕ}
 use mathlib.Core.List.{List}
 use Rattle.meaning.specs.Styling.{size_decimal, size_answer}
 use Rattle.styling.proofs.sizes.of_leading.Goals as goal
 
-pub slice_bounds-size_in-end : goal.slice_bounds-size_in-end
-slice_bounds-size_in-end c =
-    omega (arith, c.leading_end-end.ensures.0, length-take c.leading_end-end.result c.args.value.now)
-
 pub returns : goal.returns
 returns c =
-    c.size_in.ensures ∙ ap (λ (x : List ℕ). size_answer c.args.at (size_decimal x)) c.leading_end-end.ensures.1
+    c.size_in.ensures ∙ ap (λ (x : List ℕ). size_answer c.args.at (size_decimal x)) c.leading_end.ensures.1

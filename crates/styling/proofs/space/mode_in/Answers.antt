@@ -8,8 +8,8 @@ returns-then-same c =
 
 pub returns-then-same-2 : goal.returns-then-same-2
 returns-then-same-2 c =
-    let e = sym c.same.ensures ∙ c.if-same.false in let f = sym c.same-2.ensures ∙ c.if-same-2.true in rw (e, f)
+    let e = sym c.same.ensures ∙ c.if-same.false in let f = sym c.same-else-same.ensures ∙ c.if-same-2.true in rw (e, f)
 
-pub returns : goal.returns
-returns c =
-    let e = sym c.same.ensures ∙ c.if-same.false in let f = sym c.same-2.ensures ∙ c.if-same-2.false in rw (e, f)
+pub returns-else-same-2 : goal.returns-else-same-2
+returns-else-same-2 c =
+    let e = sym c.same.ensures ∙ c.if-same.false in let f = sym c.same-else-same.ensures ∙ c.if-same-2.false in rw (e, f)

@@ -1,11 +1,8 @@
--- `is_italic`: one word or the other.
-use mathlib.Core.Path.{sym, ◌∙◌}
+-- `is_italic` is one of the tests.
+use borrow.Author.Rules.{rules}
+use Rattle.meaning.specs.Styling.{is_italic}
 use Rattle.styling.proofs.tests.is_italic.Goals as goal
 
-pub returns-then-eq_ignore_ascii_case : goal.returns-then-eq_ignore_ascii_case
-returns-then-eq_ignore_ascii_case c =
-    let e = sym c.eq_ignore_ascii_case.ensures ∙ c.if-eq_ignore_ascii_case.true in rw (c.eq_ignore_ascii_case.ensures, e)
-
-pub returns-else-eq_ignore_ascii_case : goal.returns-else-eq_ignore_ascii_case
-returns-else-eq_ignore_ascii_case c =
-    let e = sym c.eq_ignore_ascii_case.ensures ∙ c.if-eq_ignore_ascii_case.false in rw (c.eq_ignore_ascii_case-else-eq_ignore_ascii_case.ensures, e)
+pub returns : goal.returns
+returns c =
+    λ l y. c.says.ensures is_italic (λ v r k. search rules) l y

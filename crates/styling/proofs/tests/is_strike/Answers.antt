@@ -1,23 +1,8 @@
--- `is_strike`: one word or the other.
-use mathlib.Core.Path.{refl, sym, ◌∙◌}
-use Rattle.scan.specs.Names.{lower}
-use Rattle.track.specs.Layout.{each}
+-- `is_strike` is one of the tests.
+use borrow.Author.Rules.{rules}
+use Rattle.meaning.specs.Styling.{is_strike}
 use Rattle.styling.proofs.tests.is_strike.Goals as goal
 
-pub contains_word-requires : goal.contains_word-requires
-unfolding each lower
-contains_word-requires c =
-    refl
-
-pub contains_word-requires-else-contains_word : goal.contains_word-requires-else-contains_word
-unfolding each lower
-contains_word-requires-else-contains_word c =
-    refl
-
-pub returns-then-contains_word : goal.returns-then-contains_word
-returns-then-contains_word c =
-    let e = sym c.contains_word.ensures ∙ c.if-contains_word.true in rw (c.contains_word.ensures, e)
-
-pub returns-else-contains_word : goal.returns-else-contains_word
-returns-else-contains_word c =
-    let e = sym c.contains_word.ensures ∙ c.if-contains_word.false in rw (c.contains_word-else-contains_word.ensures, e)
+pub returns : goal.returns
+returns c =
+    λ l y. c.says.ensures is_strike (λ v r k. search rules) l y

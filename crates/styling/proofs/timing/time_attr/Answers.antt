@@ -6,14 +6,14 @@ use Rattle.styling.proofs.timing.time_attr.Goals as goal
 
 pub time_in-requires : goal.time_in-requires
 time_in-requires c =
-    (rw c.in-At.is at (c.find.ensures c.requires.0 c.requires.1)).within
+    rw c.in-Some.is at c.find.ensures.fits
 
-pub returns-in-At : goal.returns-in-At
+pub returns-in-Some : goal.returns-in-Some
 unfolding time_of
-returns-in-At c =
-    λ l y. let x = rw c.in-At.is at (c.find.ensures l y) in c.time_in.ensures ∙ sym (found-reading x _)
+returns-in-Some c =
+    λ l y. let x = rw c.in-Some.is at (c.find.ensures.of_rows l y) in c.time_in.ensures ∙ sym (found-reading x _)
 
-pub returns-in-Absent : goal.returns-in-Absent
+pub returns-in-None : goal.returns-in-None
 unfolding time_of
-returns-in-Absent c =
-    λ l y. let x = rw c.in-Absent.is at (c.find.ensures l y) in sym (none-reading x _)
+returns-in-None c =
+    λ l y. let x = rw c.in-None.is at (c.find.ensures.of_rows l y) in sym (none-reading x _)

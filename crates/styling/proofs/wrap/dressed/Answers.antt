@@ -6,5 +6,5 @@ pub returns : goal.returns
 returns c =
     record {
       font_value = refl;
-      of_rows = λ l y. rw (c.says.ensures l y, c.says-2.ensures l y, c.says-3.ensures l y, c.says-4.ensures l y);
+      of_rows = λ l y. rw (c.is_some.ensures, c.opaque.ensures, c.is_bold.ensures l y, c.is_italic.ensures l y, c.is_underline.ensures l y, c.is_strike.ensures l y);
     }

@@ -1,10 +1,10 @@
 -- Seconds and a fraction: a long one where its first six characters have more than six bytes, and summed elsewhere.
+use Rattle.std.specs.Prelude.{Some}
 use mathlib.Core.Path.{◌≡◌, ap, ◌∙◌}
 use native.Mathlib.Omega.{arith}
 use lib.IntN.{pos, ◌*ℤ◌}
 use lib.ListN.{take}
 use borrow.Author.Tests.{lt-ltb, le-ltb}
-use Rattle.times.specs.declared.sums.Sum.{Sum}
 use Rattle.times.specs.Expressions.{chars_length, time_of, micros_of}
 use Rattle.times.specs.Sums.{checked}
 use Rattle.times.specs.Steps.{plus, number}
@@ -26,6 +26,6 @@ returns c =
     let f = c.args.fraction.now in
     let short = le-ltb 6 (chars_length 6 f) (omega arith) in
     let same : c.six_chars-len.result ≡ chars_length 6 f = omega arith in
-    let digits = c.micros.ensures ∙ (λ j. Sum.Is (micros_of (take (same j) f))) in
+    let digits = c.micros.ensures ∙ (λ j. Some (micros_of (take (same j) f))) in
     let sum = c.plus.ensures ∙ (λ i. plus (c.times.ensures i) (digits i)) in
     rw short (c.time_of.ensures ∙ (ap time_of sum ∙ plus-then (checked (number c.args.seconds *ℤ pos 1000000)) _))

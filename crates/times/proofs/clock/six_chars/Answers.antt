@@ -2,7 +2,7 @@ use mathlib.Core.Path.{◌≡◌}
 use mathlib.Core.Bool.{false, ◌&&◌}
 use native.Mathlib.Omega.{arith}
 use lib.Dec.{leb}
-use lib.ListN.{get_or}
+use lib.ListN.{length, get_or}
 use Rattle.times.proofs.Fractions.{SixOn, low_starts, high_starts, six_start, six_same, six_next, six_here, six_out, six_on, six_past}
 use Rattle.times.proofs.clock.six_chars.Goals as goal
 use Rattle.times.proofs.clock.six_chars.Goals.{In_default, Joined-text-i-lt128, in-128-to-191, in_default+else-chars-eq6, in_default-via-then-text-i-lt128, in_default-via-else-text-i-lt128+else-this-lt192}
@@ -51,4 +51,4 @@ loop-i-preserved c =
 
 pub returns : goal.returns
 returns c =
-    six_out _ _ _ c.loop-i.invariant c.loop-i-test.false
+    let e : c.loop-i.i ≡ length c.args.text.now = omega arith in rw (← e) (six_out _ _ _ c.loop-i.invariant c.loop-i-test.false)

@@ -1,12 +1,7 @@
 -- How many bytes the first six characters have. The loop's invariant: those passed, and those of the characters that are left, are the bytes of the
--- first six. The measure is what is left of the text.
-use Prim.Native.Nat.{◌-◌}
-use lib.ListN.{length}
+-- first six.
 use Rattle.times.proofs.Fractions.{Six}
 use Rattle.times.proofs.clock.six_chars.Given as goal
 
 abbrev pub invariant-loop-i : goal.invariant-loop-i
 invariant-loop-i l = Six l.text l.chars l.i
-
-abbrev pub decreases-loop-i : goal.decreases-loop-i
-decreases-loop-i l = length l.text - l.i

@@ -1,22 +1,16 @@
--- `is_marked` meets its contract: a law for each test.
+-- `is_marked` meets its contract: the marks of a size have the bits of its f32.
 use mathlib.Core.Path.{sym, ◌∙◌}
-use borrow.Author.Tests.{not-true, not-false}
-use Rattle.track.proofs.Packed.{marked-none, marked-far, marked-not, marked-bits}
+use native.Mathlib.Omega.{arith}
+use borrow.Author.Tests.{leb-true}
+use Rattle.track.proofs.Packed.{marked-bits}
 use Rattle.track.proofs.marks.is_marked.Goals as goal
+use Rattle.track.proofs.marks.is_marked.Goals.{then-sign-le2, else-sign-le2}
 
-pub returns-then-sign-eq0 : goal.returns-then-sign-eq0
-returns-then-sign-eq0 c =
-    sym (marked-none _ _ c.if-sign-eq0.true)
-
-pub returns-then-sign-gt2 : goal.returns-then-sign-gt2
-returns-then-sign-gt2 c =
-    sym (marked-far c.args.marks c.args.bits c.if-sign-gt2.true)
-
-pub returns-then-not-is_spelling : goal.returns-then-not-is_spelling
-returns-then-not-is_spelling c =
-    sym (marked-not c.args.marks c.args.bits c.if-sign-eq0.false (sym c.is_spelling.ensures ∙ not-true _ c.if-not-is_spelling.true-raw))
-
-pub returns : goal.returns
-returns c =
-    rw c.spelled_bits.ensures (sym (marked-bits c.args.marks c.args.bits c.if-sign-eq0.false c.if-sign-gt2.false
-    (sym c.is_spelling.ensures ∙ not-false _ c.if-not-is_spelling.false-raw)))
+pub returns-then-is_spelling : goal.returns-then-is_spelling
+returns-then-is_spelling c =
+    rw c.spelled_bits.ensures (elim c.if-sign-le2.branch [
+      | then-sign-le2 w ↦
+          let s = sym w.is_spelling.ensures ∙ sym w.value-is ∙ c.if-is_spelling.true in
+          sym (marked-bits c.args.marks c.args.bits c.if-sign-eq0.false w.if-sign-le2.true s)
+      | else-sign-le2 w ↦ absurd (omega (arith, leb-true _ 2 (sym w.value-is ∙ c.if-is_spelling.true)))
+    ])

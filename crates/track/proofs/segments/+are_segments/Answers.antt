@@ -51,7 +51,7 @@ loop-i-preserved t c =
     let n = c.args.from + c.args.n - c.loop-i.i in
     let s = sym c.is_segment.ensures ∙ c.if-not-is_segment.false in
     let e : c.args.from + c.args.n - (c.loop-i.i + c.get-rows.result) ≡ n - c.get-rows.result = omega arith in
-    let inside : are_segments c.args.segments.now c.args.strings.now c.args.texts.now (c.args.room - 1) (c.get-rows.result - 1) (c.loop-i.i + 1) ≡ true =
+    let inside : are_segments c.args.t.now.segments.now c.args.t.now.strings.now c.args.t.now.texts.now (c.args.room - 1) (c.get-rows.result - 1) (c.loop-i.i + 1) ≡ true =
     elim c.else-rows-gt1.branch [
       | else-rows-gt1-via-then-rows-gt1+else-not-are_segments w ↦ sym w.are_segments.ensures ∙ w.if-not-are_segments.false
       | else-rows-gt1-via-else-rows-gt1 w ↦ let k : c.get-rows.result - 1 ≡ 0 = omega (arith, w.if-rows-gt1.false) in

@@ -8,7 +8,7 @@ decreases-are_segments l = l.room
 
 abbrev pub invariant-loop-i : goal.invariant-loop-i
 invariant-loop-i l =
-    (l.from ≤ l.i) × (l.i ≤ l.end) × (are_segments l.segments l.strings l.texts l.room l.n l.from ≡ are_segments l.segments l.strings l.texts l.room (l.end - l.i) l.i)
+    (l.from ≤ l.i) × (l.i ≤ l.end) × (are_segments l.t.segments.now l.t.strings.now l.t.texts.now l.room l.n l.from ≡ are_segments l.t.segments.now l.t.strings.now l.t.texts.now l.room (l.end - l.i) l.i)
 
 -- proposed from the loop's first test
 abbrev pub decreases-loop-i : goal.decreases-loop-i

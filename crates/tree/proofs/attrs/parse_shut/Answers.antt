@@ -9,4 +9,4 @@ returns-then-starts_with c =
 
 pub returns : goal.returns
 returns c =
-    sym (shut-no c.args.src.now c.args.at c.args.n _ c.over-q.ensures (sym c.starts_with.ensures.is ∙ c.if-starts_with.false))
+    rw c.new.ensures (sym (shut-no c.args.src.now c.args.at c.args.n _ c.over-q.ensures (sym c.starts_with.ensures.is ∙ c.if-starts_with.false)))

@@ -5,7 +5,7 @@ use Rattle.tree.proofs.attrs.parse_start.Goals as goal
 
 pub returns-then-e-pos : goal.returns-then-e-pos
 returns-then-e-pos c =
-    start-empty c.args.src.now c.args.pos c.args.e c.args.count c.if-e-pos.true
+    rw c.new.ensures (start-empty c.args.src.now c.args.pos c.args.e c.args.count c.if-e-pos.true)
 
 pub parse_tag-requires : goal.parse_tag-requires
 parse_tag-requires c =

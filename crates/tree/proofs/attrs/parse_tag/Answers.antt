@@ -1,6 +1,7 @@
 use Prim.Native.Nat.{◌+◌}
 use mathlib.Core.Path.{◌∙◌}
 use native.Mathlib.Omega.{arith}
+use Rattle.scan.proofs.Handed.{handed_on}
 use Rattle.scan.proofs.Runs.{name_yes}
 use Rattle.tree.proofs.Tags.{tag-out, tag_open, tag-full, tag-flaw, tag-start, tag-step, tag-done, tag-slashed}
 use Rattle.tree.proofs.attrs.parse_tag.Goals as goal
@@ -20,8 +21,8 @@ returns-then-b-eq47 c =
 
 pub returns-then-n-ge-MOST : goal.returns-then-n-ge-MOST
 returns-then-n-ge-MOST c =
-    c.loop-at.invariant.is ∙ tag-full c.args.src.now c.loop-at.at _ c.loop-at-test.true c.if-b-eq62.false c.if-b-eq47.false
-    c.if-n-ge-MOST.true
+    rw c.new.ensures (c.loop-at.invariant.is ∙ tag-full c.args.src.now c.loop-at.at _ c.loop-at-test.true c.if-b-eq62.false c.if-b-eq47.false
+    c.if-n-ge-MOST.true)
 
 pub parse_attr-requires : goal.parse_attr-requires
 parse_attr-requires c = (
@@ -35,19 +36,18 @@ parse_attr-requires c = (
 
 pub loop-at-smaller : goal.loop-at-smaller
 loop-at-smaller c =
-    let l = rw c.in-Read.is at c.parse_attr.ensures in
-    omega (arith, l.after, c.loop-at-test.true)
+    omega (arith, c.in_ok-at.ensures.after, c.loop-at-test.true)
 
 pub loop-at-preserved : goal.loop-at-preserved
 loop-at-preserved c =
     tag-step c.loop-at.invariant c.loop-at-test.true c.if-b-eq62.false c.if-b-eq47.false c.if-n-ge-MOST.false
-    (rw c.in-Read.is at c.parse_attr.ensures)
+    c.in_ok-at.ensures
 
-pub returns-in-Refused : goal.returns-in-Refused
-returns-in-Refused c =
-    c.loop-at.invariant.is ∙ tag-flaw c.args.src.now c.loop-at.at _ c.loop-at-test.true c.if-b-eq62.false c.if-b-eq47.false _ _
-    c.if-n-ge-MOST.false (rw c.in-Refused.is at c.parse_attr.ensures)
+pub returns-in_err-at : goal.returns-in_err-at
+returns-in_err-at c =
+    rw (handed_on _ c.from_residual.ensures) (c.loop-at.invariant.is ∙ tag-flaw c.args.src.now c.loop-at.at _ c.loop-at-test.true c.if-b-eq62.false c.if-b-eq47.false _ _
+    c.if-n-ge-MOST.false c.in_err-at.ensures)
 
 pub returns : goal.returns
 returns c =
-    c.loop-at.invariant.is ∙ tag-out c.args.src.now c.loop-at.at _ c.loop-at-test.false
+    rw c.new-2.ensures (c.loop-at.invariant.is ∙ tag-out c.args.src.now c.loop-at.at _ c.loop-at-test.false)

@@ -6,7 +6,7 @@ use Rattle.tree.proofs.attrs.parse_value.Goals as goal
 
 pub returns-then-src-v : goal.returns-then-src-v
 returns-then-src-v c =
-    value_none c.args.src.now c.args.pos c.args.e c.args.eq c.over-v.result c.over-v.ensures c.if-src-v.true
+    rw c.new.ensures (value_none c.args.src.now c.args.pos c.args.e c.args.eq c.over-v.result c.over-v.ensures c.if-src-v.true)
 
 pub returns-then-z-src : goal.returns-then-z-src
 returns-then-z-src c =

@@ -1,4 +1,5 @@
 -- The cycle of `parse_node`, `parse_element` and `parse_children` meets its contracts. Assumes nothing.
+use Rattle.scan.proofs.Handed.{handed_on}
 use Rattle.std.proofs.Common.{rules, arith, refl, sym, ◌∙◌}
 use Rattle.tree.specs.Read.{element_of, text_at, section_at}
 use Rattle.tree.proofs.NodeLaws.{node_end, node-text, node-section, node-close, node-element, el_deep, el_full, el_tag, tagged-torn}
@@ -20,42 +21,44 @@ parse_children-parse_node-requires t c = search rules
 pub parse_children-loop-pos-preserved : goal.parse_children-loop-pos-preserved
 parse_children-loop-pos-preserved t c =
     step c.loop-pos.invariant _ c.loop-pos-test.true (inner_node c.args.src.now _ c.loop-pos.pos _ (sym c.starts_with.ensures.is
-    ∙ c.if-starts_with.false)) _ c.in-Node.ensures
+    ∙ c.if-starts_with.false)) _ (rw c.in-Node.is at c.in_ok-c.ensures)
 
 pub parse_children-returns-in-Nothing : goal.parse_children-returns-in-Nothing
 parse_children-returns-in-Nothing t c =
     idle c.loop-pos.invariant _ c.loop-pos-test.true (inner_node c.args.src.now _ c.loop-pos.pos _ (sym c.starts_with.ensures.is
-    ∙ c.if-starts_with.false)) _ c.in-Nothing.ensures
+    ∙ c.if-starts_with.false)) _ (rw c.in-Nothing.is at c.in_ok-c.ensures)
 
-pub parse_children-returns-in-Refused : goal.parse_children-returns-in-Refused
-parse_children-returns-in-Refused t c =
-    fail_node c.loop-pos.invariant _ c.loop-pos-test.true (inner_node c.args.src.now _ c.loop-pos.pos _ (sym c.starts_with.ensures.is
-    ∙ c.if-starts_with.false)) _ _ c.in-Refused.ensures
+pub parse_children-returns-in_err-c : goal.parse_children-returns-in_err-c
+parse_children-returns-in_err-c t c =
+    rw (handed_on _ c.from_residual.ensures) (fail_node c.loop-pos.invariant _ c.loop-pos-test.true (inner_node c.args.src.now _ c.loop-pos.pos _ (sym c.starts_with.ensures.is
+    ∙ c.if-starts_with.false)) _ _ c.in_err-c.ensures)
 
 pub parse_children-returns : goal.parse_children-returns
 parse_children-returns t c = out c.loop-pos.invariant c.loop-pos-test.false
 
 pub parse_element-returns-then-room-eq0 : goal.parse_element-returns-then-room-eq0
-parse_element-returns-then-room-eq0 t c = el_deep _ _ _ _ _ c.if-room-eq0.true
+parse_element-returns-then-room-eq0 t c =
+    rw c.new.ensures (el_deep _ _ _ _ _ c.if-room-eq0.true)
 
 pub parse_element-returns-then-k-ge-MOST : goal.parse_element-returns-then-k-ge-MOST
-parse_element-returns-then-k-ge-MOST t c = el_full _ _ _ _ _ c.if-room-eq0.false c.if-k-ge-MOST.true
+parse_element-returns-then-k-ge-MOST t c =
+    rw c.new-then-k-ge-MOST.ensures (el_full _ _ _ _ _ c.if-room-eq0.false c.if-k-ge-MOST.true)
 
 pub parse_element-parse_children-requires : goal.parse_element-parse_children-requires
 parse_element-parse_children-requires t c =
-    let l = c.in-Open.ensures in
+    let l = rw c.in-Open.is at c.in_ok-t.ensures in
     omega (arith, l.most, l.within, l.after)
 
-pub parse_element-returns-in-Refused : goal.parse_element-returns-in-Refused
-parse_element-returns-in-Refused t c =
+pub parse_element-returns-in_err-t : goal.parse_element-returns-in_err-t
+parse_element-returns-in_err-t t c =
     let a = c.args in
-    el_tag a.room a.src.now a.pos a.k a.a c.if-room-eq0.false c.over_long-e.result _ c.if-k-ge-MOST.false c.over_long-e.ensures
-    c.in-Refused.ensures ∙ tagged-torn _ _ _ _ _ _
+    rw (handed_on _ c.from_residual.ensures) (el_tag a.room a.src.now a.pos a.k a.a c.if-room-eq0.false c.over_long-e.result _ c.if-k-ge-MOST.false c.over_long-e.ensures
+    c.in_err-t.ensures ∙ tagged-torn _ _ _ _ _ _)
 
 pub parse_element-returns-in-Shut : goal.parse_element-returns-in-Shut
 parse_element-returns-in-Shut t c =
     let a = c.args in
-    let l = c.in-Shut.ensures in
+    let l = rw c.in-Shut.is at c.in_ok-t.ensures in
     built_shut _ _ a.src.now a.nodes.now _ a.attrs.now _ a.pos _ a.k a.a l.list _
     (el_tag a.room a.src.now a.pos a.k a.a c.if-room-eq0.false c.over_long-e.result _ c.if-k-ge-MOST.false c.over_long-e.ensures
     l.is)
@@ -63,25 +66,24 @@ parse_element-returns-in-Shut t c =
     c.put_node.ensures
     l.laid
 
-pub parse_element-returns-in-Refused-parse_children :
-    goal.parse_element-returns-in-Refused-parse_children
-parse_element-returns-in-Refused-parse_children t c =
+pub parse_element-returns-in_err-c-in-Open : goal.parse_element-returns-in_err-c-in-Open
+parse_element-returns-in_err-c-in-Open t c =
     let a = c.args in
-    let l = c.in-Open.ensures in
-    el_tag a.room a.src.now a.pos a.k a.a c.if-room-eq0.false c.over_long-e.result _ c.if-k-ge-MOST.false c.over_long-e.ensures
-    l.is
-    ∙ (tagged-open _ _ _ _ _ _ _ ∙ enclose-bad _ _ _ _ _ _ c.in-Refused-parse_children.ensures)
+    let l = rw c.in-Open.is at c.in_ok-t.ensures in
+    rw (handed_on _ c.from_residual-in_err-c-in-Open.ensures) (el_tag a.room a.src.now a.pos a.k a.a c.if-room-eq0.false c.over_long-e.result _ c.if-k-ge-MOST.false
+    c.over_long-e.ensures l.is
+    ∙ (tagged-open _ _ _ _ _ _ _ ∙ enclose-bad _ _ _ _ _ _ c.in_err-c-in-Open.ensures))
 
-pub parse_element-returns-in-Done : goal.parse_element-returns-in-Done
-parse_element-returns-in-Done t c =
+pub parse_element-returns-in_ok-c-in-Open : goal.parse_element-returns-in_ok-c-in-Open
+parse_element-returns-in_ok-c-in-Open t c =
     let a = c.args in
-    let l = c.in-Open.ensures in
+    let l = rw c.in-Open.is at c.in_ok-t.ensures in
     built_elem _ _ a.src.now a.nodes.now _ _ a.attrs.now _ _ a.pos _ a.k a.a _ _ l.list _
     (el_tag a.room a.src.now a.pos a.k a.a c.if-room-eq0.false c.over_long-e.result _ c.if-k-ge-MOST.false c.over_long-e.ensures
     l.is
     ∙ tagged-open _ _ _ _ _ _ _)
-    c.in-Done.ensures (omega (arith, l.after, c.over_long-e.ensures.after)) l.counted
-    c.put_node-in-Done.ensures l.laid
+    c.in_ok-c-in-Open.ensures (omega (arith, l.after, c.over_long-e.ensures.after)) l.counted
+    c.put_node-in-Open.ensures l.laid
 
 pub parse_node-returns-then-src-at : goal.parse_node-returns-then-src-at
 parse_node-returns-then-src-at t c =

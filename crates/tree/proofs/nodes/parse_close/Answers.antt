@@ -5,7 +5,7 @@ use Rattle.tree.proofs.nodes.parse_close.Goals as goal
 
 pub returns-then-src-g : goal.returns-then-src-g
 returns-then-src-g c =
-    sym (close_no c.args.src.now c.args.pos c.args.k c.args.a _ c.find_byte-g.ensures c.if-src-g.true)
+    rw c.new.ensures (sym (close_no c.args.src.now c.args.pos c.args.k c.args.a _ c.find_byte-g.ensures c.if-src-g.true))
 
 pub returns : goal.returns
 returns c =

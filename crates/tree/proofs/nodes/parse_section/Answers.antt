@@ -10,7 +10,7 @@ use Rattle.tree.proofs.nodes.parse_section.Goals.{then-e-src, else-e-src}
 
 pub returns-then-k-ge-MOST : goal.returns-then-k-ge-MOST
 returns-then-k-ge-MOST c =
-    λ u. section-full _ _ _ _ c.if-k-ge-MOST.true
+    λ u. rw c.new.ensures (section-full _ _ _ _ c.if-k-ge-MOST.true)
 
 pub returns : goal.returns
 returns c =

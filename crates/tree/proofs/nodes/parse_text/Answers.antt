@@ -4,7 +4,7 @@ use Rattle.tree.proofs.nodes.parse_text.Goals as goal
 
 pub returns-then-k-ge-MOST : goal.returns-then-k-ge-MOST
 returns-then-k-ge-MOST c =
-    λ u. text-full _ _ _ _ c.if-k-ge-MOST.true
+    λ u. rw c.new.ensures (text-full _ _ _ _ c.if-k-ge-MOST.true)
 
 pub returns : goal.returns
 returns c =

@@ -1,12 +1,13 @@
 -- `follows` meets its contract. Assumes nothing.
-use native.Mathlib.Omega.{arith}
+use Rattle.std.proofs.Common.{◌∙◌}
+use borrow.Author.Tests.{le-ltb}
 use Rattle.tree.proofs.PrologLaws.{byte_on, byte_out}
 use Rattle.tree.proofs.prolog.follows.Goals as goal
 
-pub returns-then-src-pos-lt2 : goal.returns-then-src-pos-lt2
-returns-then-src-pos-lt2 c =
-    byte_out c.args.src.now _ _ (omega (arith, c.if-src-pos-lt2.true, c.requires))
+pub returns-then-pos-src : goal.returns-then-pos-src
+returns-then-pos-src c =
+    byte_on c.args.src.now _ _ c.if-pos-src.true
 
-pub returns : goal.returns
-returns c =
-    byte_on c.args.src.now _ _ (omega (arith, c.if-src-pos-lt2.false))
+pub returns-else-pos-src : goal.returns-else-pos-src
+returns-else-pos-src c =
+    le-ltb _ _ c.if-pos-src.false ∙ byte_out c.args.src.now _ _ c.if-pos-src.false

@@ -2,12 +2,12 @@
 use Rattle.told.specs.Told.{check_told}
 use Rattle.ttml.proofs.check.pg_check_track.Goals as goal
 
-pub returns-in-Track : goal.returns-in-Track
+pub returns-in-Ok : goal.returns-in-Ok
 unfolding check_told
-returns-in-Track c =
-    record { answer = _; promised = c.check_track.ensures; is = rw c.in-Track.is c.told.ensures }
+returns-in-Ok c =
+    record { answer = _; promised = c.check_track.ensures; is = rw c.in-Ok.is c.told.ensures }
 
-pub returns-in-Refused : goal.returns-in-Refused
+pub returns-in-Err : goal.returns-in-Err
 unfolding check_told
-returns-in-Refused c =
-    record { answer = _; promised = c.check_track.ensures; is = rw c.in-Refused.is c.told-in-Refused.ensures }
+returns-in-Err c =
+    record { answer = _; promised = c.check_track.ensures; is = rw c.in-Err.is c.told-in-Err.ensures }

@@ -9,14 +9,14 @@ returns-then-counts-lt-COUNTS c =
 
 pub put_counts-requires : goal.put_counts-requires
 put_counts-requires c =
-    let t = tree-small c.parse_xml.ensures c.in-Tree.is in
+    let t = tree-small c.parse_xml.ensures c.in-Ok.is in
     (c.if-counts-lt-COUNTS.false, t.0, t.1)
 
-pub returns-in-Refused : goal.returns-in-Refused
-returns-in-Refused c =
-    reads_refused c.clear.ensures _ c.if-counts-lt-COUNTS.false c.in-Refused.is c.parse_xml.ensures c.told-in-Refused.ensures
+pub returns-in-Err : goal.returns-in-Err
+returns-in-Err c =
+    reads_refused c.clear.ensures _ c.if-counts-lt-COUNTS.false c.in-Err.is c.parse_xml.ensures c.told-in-Err.ensures
 
-pub returns-in-Tree : goal.returns-in-Tree
-returns-in-Tree c =
-    reads_tree c.clear.ensures _ _ c.if-counts-lt-COUNTS.false c.in-Tree.is c.parse_xml.ensures c.told-in-Tree.ensures
+pub returns-in-Ok : goal.returns-in-Ok
+returns-in-Ok c =
+    reads_tree c.clear.ensures _ _ c.if-counts-lt-COUNTS.false c.in-Ok.is c.parse_xml.ensures c.told-in-Ok.ensures
     c.put_counts.ensures

@@ -2,12 +2,12 @@
 use Rattle.told.specs.Told.{read_told}
 use Rattle.ttml.proofs.read.tell.Goals as goal
 
-pub returns-in-Track : goal.returns-in-Track
+pub returns-in-Ok : goal.returns-in-Ok
 unfolding read_told
-returns-in-Track c =
-    rw c.in-Track.is c.told.ensures
+returns-in-Ok c =
+    rw c.in-Ok.is c.told.ensures
 
-pub returns-in-Refused : goal.returns-in-Refused
+pub returns-in-Err : goal.returns-in-Err
 unfolding read_told
-returns-in-Refused c =
-    rw c.in-Refused.is c.told-in-Refused.ensures
+returns-in-Err c =
+    rw c.in-Err.is c.told-in-Err.ensures

@@ -2,12 +2,12 @@
 use Rattle.told.specs.Told.{written_told}
 use Rattle.ttml.proofs.write.tell.Goals as goal
 
-pub returns-in-Bytes : goal.returns-in-Bytes
+pub returns-in-Ok : goal.returns-in-Ok
 unfolding written_told
-returns-in-Bytes c =
-    rw c.in-Bytes.is c.told.ensures
+returns-in-Ok c =
+    rw c.in-Ok.is c.told.ensures
 
-pub returns-in-Refused : goal.returns-in-Refused
+pub returns-in-Err : goal.returns-in-Err
 unfolding written_told
-returns-in-Refused c =
-    rw c.in-Refused.is c.told-in-Refused.ensures
+returns-in-Err c =
+    rw c.in-Err.is c.told-in-Err.ensures

@@ -1,40 +1,31 @@
-use mathlib.Core.Path.{sym, ◌∙◌}
-use native.Mathlib.Omega.{arith}
-use Rattle.utf8.proofs.Utf8Laws.{below_range, above_range, followed-short, followed-not, followed-in, rest-not, rest_in, rest_out}
+-- `utf8::follow` meets its contract: each of the three tests may say no; where none does, the bytes lie in the row's ranges. Assumes nothing.
+use mathlib.Core.Path.{◌≡◌, sym, ◌∙◌}
+use mathlib.Core.Bool.{true, false, ◌&&◌}
+use Prim.Native.Nat.{ℕ, ◌+◌}
+use lib.Dec.{leb}
+use lib.ListN.{get_or}
+use borrow.Author.Rules.{rules}
+use Rattle.utf8.proofs.Utf8Laws.{followed-short, followed-not, followed-rest}
 use Rattle.utf8.proofs.utf8.follow.Goals as goal
+use Rattle.utf8.proofs.utf8.follow.Goals.{else-width-src-via-then-width-src+then-contains+else-all_go_on, else-width-src-via-then-width-src+else-contains}
+use Rattle.utf8.proofs.utf8.follow.Goals.{else-width-src-via-else-width-src}
 
-pub returns-then-src-pos : goal.returns-then-src-pos
-returns-then-src-pos c =
-    sym (followed-short c.args.src.now _ _ _ _ c.requires.0 c.requires.1 c.if-src-pos.true)
+pub returns-then-all_go_on : goal.returns-then-all_go_on
+returns-then-all_go_on c =
+    let second : ℕ = get_or c.args.src.now (c.args.pos + 1) 0 in
+    let within : (leb c.args.low second && leb second c.args.high) ≡ true = search rules in
+    sym (followed-rest c.args.src.now _ _ _ _ c.requires.1 c.if-width-src.true within c.all_go_on.result c.all_go_on.ensures ∙ rw c.if-all_go_on.true)
 
-pub returns-then-src-pos-2 : goal.returns-then-src-pos-2
-returns-then-src-pos-2 c =
-    sym (followed-not c.args.src.now _ _ _ _ (below_range _ _ _ c.if-src-pos-2.true))
-
-pub returns-then-high-src : goal.returns-then-high-src
-returns-then-high-src c =
-    sym (followed-not c.args.src.now _ _ _ _ (above_range _ _ _ c.if-high-src.true))
-
-pub loop-i-init : goal.loop-i-init
-loop-i-init c =
-    (omega arith, omega arith, followed-in c.args.src.now _ _ _ _ (omega arith) c.if-src-pos-2.false c.if-high-src.false)
-
-pub returns-then-src-pos-lt128 : goal.returns-then-src-pos-lt128
-returns-then-src-pos-lt128 c =
-    sym (c.loop-i.invariant.2 ∙ rest-not c.args.src.now _ _ _ c.loop-i-test.true (below_range _ _ _ c.if-src-pos-lt128.true))
-
-pub returns-then-src-pos-gt191 : goal.returns-then-src-pos-gt191
-returns-then-src-pos-gt191 c =
-    sym (c.loop-i.invariant.2 ∙ rest-not c.args.src.now _ _ _ c.loop-i-test.true (above_range _ _ _ c.if-src-pos-gt191.true))
-
-pub loop-i-preserved : goal.loop-i-preserved
-loop-i-preserved c = (
-  omega arith,
-  omega arith,
-  c.loop-i.invariant.2 ∙ rest_in c.args.src.now _ _ _ c.loop-i-test.true (omega arith)
-      c.if-src-pos-lt128.false c.if-src-pos-gt191.false,
-)
-
-pub returns : goal.returns
-returns c =
-    sym (c.loop-i.invariant.2 ∙ rest_out c.args.src.now _ _ _ c.loop-i-test.false)
+pub returns-else-width-src : goal.returns-else-width-src
+returns-else-width-src c =
+    let second : ℕ = get_or c.args.src.now (c.args.pos + 1) 0 in
+    elim c.else-width-src.branch [
+      | else-width-src-via-then-width-src+then-contains+else-all_go_on w ↦
+          let within : (leb c.args.low second && leb second c.args.high) ≡ true = search rules in
+          sym (followed-rest c.args.src.now _ _ _ _ c.requires.1 w.if-width-src.true within w.all_go_on.result w.all_go_on.ensures
+          ∙ rw w.if-all_go_on.false)
+      | else-width-src-via-then-width-src+else-contains w ↦
+          let without : (leb c.args.low second && leb second c.args.high) ≡ false = search rules in
+          sym (followed-not c.args.src.now _ _ _ _ without)
+      | else-width-src-via-else-width-src w ↦ sym (followed-short c.args.src.now _ _ _ _ c.requires.0 c.requires.1 w.if-width-src.false)
+    ]

@@ -1,10 +1,7 @@
 -- `utf8::largest` meets its contract. The loop's invariant: no byte passed is larger than `most`. Assumes nothing.
-use Prim.Native.Nat.{◌+◌, ◌-◌, ◌≤◌}
+use Prim.Native.Nat.{◌+◌}
 use Rattle.utf8.specs.Steps.{Bounded}
 use Rattle.utf8.proofs.utf8.largest.Given as goal
 
 abbrev pub invariant-loop-i : goal.invariant-loop-i
-invariant-loop-i l = (l.i ≤ 64) × Bounded l.src l.pos (l.pos + l.i) l.most
-
-abbrev pub decreases-loop-i : goal.decreases-loop-i
-decreases-loop-i l = 64 - l.i
+invariant-loop-i l = Bounded l.src l.pos (l.pos + l.i) l.most

@@ -1,18 +1,26 @@
 -- `utf8::next_sequence` meets its contract: the two commonest rows by their bytes, the others as `sequence_at` answers. Assumes nothing.
 use native.Mathlib.Omega.{arith}
-use borrow.Author.Tests.{leb-true}
-use Rattle.utf8.proofs.Utf8Laws.{sequence-two, sequence-three}
+use native.Mathlib.Nat.{add-zero}
+use Rattle.utf8.proofs.Utf8Laws.{tail-byte, sequence-two, sequence-three}
 use Rattle.scan.proofs.Splits.{whole_part}
 use Rattle.utf8.proofs.utf8.next_sequence.Goals as goal
 
-pub returns-then-lead-le223 : goal.returns-then-lead-le223
-returns-then-lead-le223 c =
-    sequence-two c.args.src.now c.args.pos (omega arith) (omega arith) (omega (arith, leb-true)) (omega arith) (omega (arith, leb-true))
-
 pub returns-then-third-le191 : goal.returns-then-third-le191
 returns-then-third-le191 c =
-    sequence-three c.args.src.now c.args.pos (omega arith) (omega arith) (omega (arith, leb-true)) (omega arith) (omega (arith, leb-true))
-    (omega (arith, leb-true)) (omega (arith, leb-true))
+    let s = c.args.src.now in
+    let p = c.args.pos in
+    let lead = simp add-zero at (tail-byte s p 0 (omega arith)) in
+    let second = tail-byte s p 1 (omega arith) in
+    let third = tail-byte s p 2 (omega arith) in
+    sequence-three s p (omega arith) (omega arith) (omega arith) (omega arith) (omega arith) (omega arith) (omega arith)
+
+pub returns-then-lead-le223 : goal.returns-then-lead-le223
+returns-then-lead-le223 c =
+    let s = c.args.src.now in
+    let p = c.args.pos in
+    let lead = simp add-zero at (tail-byte s p 0 (omega arith)) in
+    let second = tail-byte s p 1 (omega arith) in
+    sequence-two s p (omega arith) (omega arith) (omega arith) (omega arith) (omega arith)
 
 pub returns : goal.returns
 returns c =

@@ -8,88 +8,88 @@ use Rattle.utf8.proofs.utf8.put_char.Goals as goal
 
 pub bounds-out-at : goal.bounds-out-at
 bounds-out-at c =
-    omega (arith, ap length (encode-1 c.args.c c.if-c-lt128.true))
+    omega (arith, ap length (encode-1 c.args.c (omega arith)))
 
-pub returns-then-c-lt128 : goal.returns-then-c-lt128
-returns-then-c-lt128 c =
-    rw (encode-1 c.args.c c.if-c-lt128.true) (record {
+pub returns-in-0-to-127 : goal.returns-in-0-to-127
+returns-in-0-to-127 c =
+    rw (encode-1 c.args.c (omega arith)) (record {
       next = refl;
       within = omega (
         arith,
         ap length (encode-1 c.args.c
-            c.if-c-lt128.true),
+            (omega arith)),
       );
       laid = refl;
     })
 
-pub bounds-out-at-then-c-lt2048 : goal.bounds-out-at-then-c-lt2048
-bounds-out-at-then-c-lt2048 c =
-    omega (arith, ap length (encode-2 c.args.c c.if-c-lt128.false c.if-c-lt2048.true))
+pub bounds-out-at-in-128-to-2047 : goal.bounds-out-at-in-128-to-2047
+bounds-out-at-in-128-to-2047 c =
+    omega (arith, ap length (encode-2 c.args.c (omega arith) (omega arith)))
 
-pub bounds-out-at-then-c-lt2048-2 : goal.bounds-out-at-then-c-lt2048-2
-bounds-out-at-then-c-lt2048-2 c =
-    simp length-set (omega (arith, ap length (encode-2 c.args.c c.if-c-lt128.false c.if-c-lt2048.true)))
+pub bounds-out-at-in-128-to-2047-2 : goal.bounds-out-at-in-128-to-2047-2
+bounds-out-at-in-128-to-2047-2 c =
+    simp length-set (omega (arith, ap length (encode-2 c.args.c (omega arith) (omega arith))))
 
-pub returns-then-c-lt2048 : goal.returns-then-c-lt2048
-returns-then-c-lt2048 c =
-    rw (encode-2 c.args.c c.if-c-lt128.false c.if-c-lt2048.true) (record {
+pub returns-in-128-to-2047 : goal.returns-in-128-to-2047
+returns-in-128-to-2047 c =
+    rw (encode-2 c.args.c (omega arith) (omega arith)) (record {
       next = refl;
       within = omega (
         arith,
         ap length
-            (encode-2 c.args.c c.if-c-lt128.false c.if-c-lt2048.true),
+            (encode-2 c.args.c (omega arith) (omega arith)),
       );
       laid = simp add-one;
     })
 
-pub bounds-out-at-then-c-lt65536 : goal.bounds-out-at-then-c-lt65536
-bounds-out-at-then-c-lt65536 c =
-    omega (arith, ap length (encode-3 c.args.c c.if-c-lt2048.false c.if-c-lt65536.true))
+pub bounds-out-at-in-2048-to-65535 : goal.bounds-out-at-in-2048-to-65535
+bounds-out-at-in-2048-to-65535 c =
+    omega (arith, ap length (encode-3 c.args.c (omega arith) (omega arith)))
 
-pub bounds-out-at-then-c-lt65536-2 : goal.bounds-out-at-then-c-lt65536-2
-bounds-out-at-then-c-lt65536-2 c =
-    simp length-set (omega (arith, ap length (encode-3 c.args.c c.if-c-lt2048.false c.if-c-lt65536.true)))
+pub bounds-out-at-in-2048-to-65535-2 : goal.bounds-out-at-in-2048-to-65535-2
+bounds-out-at-in-2048-to-65535-2 c =
+    simp length-set (omega (arith, ap length (encode-3 c.args.c (omega arith) (omega arith))))
 
-pub bounds-out-at-then-c-lt65536-3 : goal.bounds-out-at-then-c-lt65536-3
-bounds-out-at-then-c-lt65536-3 c =
-    simp length-set (omega (arith, ap length (encode-3 c.args.c c.if-c-lt2048.false c.if-c-lt65536.true)))
+pub bounds-out-at-in-2048-to-65535-3 : goal.bounds-out-at-in-2048-to-65535-3
+bounds-out-at-in-2048-to-65535-3 c =
+    simp length-set (omega (arith, ap length (encode-3 c.args.c (omega arith) (omega arith))))
 
-pub returns-then-c-lt65536 : goal.returns-then-c-lt65536
-returns-then-c-lt65536 c =
-    rw (encode-3 c.args.c c.if-c-lt2048.false c.if-c-lt65536.true) (record {
+pub returns-in-2048-to-65535 : goal.returns-in-2048-to-65535
+returns-in-2048-to-65535 c =
+    rw (encode-3 c.args.c (omega arith) (omega arith)) (record {
       next = refl;
       within = omega (
         arith,
         ap length (encode-3
-            c.args.c c.if-c-lt2048.false c.if-c-lt65536.true),
+            c.args.c (omega arith) (omega arith)),
       );
       laid = simp (add-one, add-two);
     })
 
-pub bounds-out-at-2 : goal.bounds-out-at-2
-bounds-out-at-2 c =
-    omega (arith, ap length (encode-4 c.args.c c.if-c-lt65536.false))
+pub bounds-out-at-in_default : goal.bounds-out-at-in_default
+bounds-out-at-in_default c =
+    omega (arith, ap length (encode-4 c.args.c (omega arith)))
 
-pub bounds-out-at-3 : goal.bounds-out-at-3
-bounds-out-at-3 c =
-    simp length-set (omega (arith, ap length (encode-4 c.args.c c.if-c-lt65536.false)))
+pub bounds-out-at-in_default-2 : goal.bounds-out-at-in_default-2
+bounds-out-at-in_default-2 c =
+    simp length-set (omega (arith, ap length (encode-4 c.args.c (omega arith))))
 
-pub bounds-out-at-4 : goal.bounds-out-at-4
-bounds-out-at-4 c =
-    simp length-set (omega (arith, ap length (encode-4 c.args.c c.if-c-lt65536.false)))
+pub bounds-out-at-in_default-3 : goal.bounds-out-at-in_default-3
+bounds-out-at-in_default-3 c =
+    simp length-set (omega (arith, ap length (encode-4 c.args.c (omega arith))))
 
-pub bounds-out-at-5 : goal.bounds-out-at-5
-bounds-out-at-5 c =
-    simp length-set (omega (arith, ap length (encode-4 c.args.c c.if-c-lt65536.false)))
+pub bounds-out-at-in_default-4 : goal.bounds-out-at-in_default-4
+bounds-out-at-in_default-4 c =
+    simp length-set (omega (arith, ap length (encode-4 c.args.c (omega arith))))
 
-pub returns : goal.returns
-returns c =
-    rw (encode-4 c.args.c c.if-c-lt65536.false) (record {
+pub returns-in_default : goal.returns-in_default
+returns-in_default c =
+    rw (encode-4 c.args.c (omega arith)) (record {
       next = refl;
       within = omega (
         arith,
         ap length (encode-4 c.args.c
-            c.if-c-lt65536.false),
+            (omega arith)),
       );
       laid = simp (add-one, add-two, add-three);
     })

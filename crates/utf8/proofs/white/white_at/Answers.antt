@@ -13,6 +13,6 @@ pub returns-then-lead-eq32 : goal.returns-then-lead-eq32
 returns-then-lead-eq32 c =
     record { is = sym (white_at-space c.args.src.now c.args.pos c.requires c.if-lead-eq32.true); within_text = search rules }
 
-pub returns : goal.returns
-returns c =
+pub returns-else-lead-eq32 : goal.returns-else-lead-eq32
+returns-else-lead-eq32 c =
     rw (whole_part c.args.src.now) at c.any_white_at.ensures

@@ -8,12 +8,12 @@ pub slice_bounds-write_single-end-2 : goal.slice_bounds-write_single-end-2
 slice_bounds-write_single-end-2 c =
     sym (length-take-le _ _ c.limit-end.ensures.within)
 
-pub returns-in-At : goal.returns-in-At
-returns-in-At c =
+pub returns-in-Some : goal.returns-in-Some
+returns-in-Some c =
     fit_bytes _ _ _ c.requires.1 c.limit-end.ensures _ _
-    (rw c.in-At.is at c.write_single.ensures)
+    (rw c.in-Some.is at c.write_single.ensures)
 
-pub returns-in-Full : goal.returns-in-Full
-returns-in-Full c =
-    let p = rw c.in-Full.is at c.write_single.ensures in
+pub returns-in-None : goal.returns-in-None
+returns-in-None c =
+    let p = rw c.in-None.is at c.write_single.ensures in
     fit_full _ _ _ c.requires.1 c.limit-end.ensures _ _ _ c.refused.ensures p c.clear_bytes.ensures

@@ -11,9 +11,9 @@ returns-then-len-name c =
 pub returns-then-same : goal.returns-then-same
 unfolding string_at
 returns-then-same c =
-    sym (name_same _ _ (rw (← c.get-len.ensures, ← c.get-start.ensures) (sym c.same.ensures ∙ c.if-same.true)))
+    c.if-same.true ∙ sym (name_same _ _ (rw (← c.get-len.ensures, ← c.get-start.ensures) (sym c.same.ensures ∙ c.if-same.true)))
 
-pub returns : goal.returns
+pub returns-else-same : goal.returns-else-same
 unfolding string_at
-returns c =
+returns-else-same c =
     c.eq_ignore_ascii_case.ensures ∙ rw (c.get-len.ensures, c.get-start.ensures)

@@ -1,5 +1,4 @@
 -- `read_attrs` meets its contract: the tables are those after the first k attributes.
-use Prim.Native.Nat.{◌-◌, ◌≤◌}
 use mathlib.Core.Path.{◌≡◌}
 use Rattle.scan.specs.Bytes.{other}
 use Rattle.scan.specs.Posts.{Passes}
@@ -7,8 +6,5 @@ use Rattle.xml.specs.Steps.{attrs_read, attr_strings_read}
 use Rattle.xml.proofs.strings.read_attrs.Given as goal
 
 abbrev pub invariant-loop-k : goal.invariant-loop-k
-invariant-loop-k l = (l.k ≤ l.count) × (l.attrs ≡ attrs_read l.src l.initial.attrs l.k) × (l.strings ≡ attr_strings_read l.src l.initial.attrs l.initial.strings l.k)
+invariant-loop-k l = (l.attrs ≡ attrs_read l.src l.initial.attrs l.k) × (l.strings ≡ attr_strings_read l.src l.initial.attrs l.initial.strings l.k)
     × Passes (other 38) l.src l.p.from l.p.end
-
-abbrev pub decreases-loop-k : goal.decreases-loop-k
-decreases-loop-k l = l.count - l.k

@@ -11,8 +11,8 @@ use Rattle.xml.proofs.strings.read_node.Goals.{Joined-kind-eq-TEXT, then-kind-eq
 start_is : (c : Joined-kind-eq-ELEMENT) → c.if-kind-eq-ELEMENT.start ≡ node_place c.args.nodes.now c.args.k
 start_is c =
     elim c.if-kind-eq-ELEMENT.branch [
-      | then-kind-eq-ELEMENT w ↦ place_element _ _ _ _ w.if-kind-eq-ELEMENT.true c.get-start.ensures w.start-is
-      | else-kind-eq-ELEMENT w ↦ place_other _ _ _ _ w.if-kind-eq-ELEMENT.false c.get-start.ensures w.start-is
+      | then-kind-eq-ELEMENT w ↦ place_element _ _ _ _ w.if-kind-eq-ELEMENT.true c.get-place.ensures w.start-is
+      | else-kind-eq-ELEMENT w ↦ place_other _ _ _ _ w.if-kind-eq-ELEMENT.false c.get-place.ensures w.start-is
     ]
 
 -- what is written

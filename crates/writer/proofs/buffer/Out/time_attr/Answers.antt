@@ -1,0 +1,15 @@
+-- `time_attr` meets its contract.
+use mathlib.Core.Path.{refl}
+use Rattle.writer.proofs.Chaining.{writes_on, writes_out, writes_stop, writes_then}
+use mir.Syntax.{w64}
+use mir.ValLaws.{to_z-of_z}
+use Rattle.writer.proofs.buffer.Out.time_attr.Goals as goal
+
+pub returns-in_err-self : goal.returns-in_err-self
+returns-in_err-self c =
+    rw c.from_residual-in_err-self.ensures
+    (writes_then c.in_ok-put.ensures (writes_stop _ (writes_out refl (rw (to_z-of_z w64 _ c.ranges.us) at c.in_err-self.ensures))))
+
+pub returns : goal.returns
+returns c =
+    writes_then c.in_ok-put.ensures (writes_then (writes_on refl (rw (to_z-of_z w64 _ c.ranges.us) at c.in_ok-self.ensures)) c.put-2.ensures)

@@ -1,8 +1,0 @@
--- `name_attr` meets its contract.
-use Rattle.writer.proofs.Chaining.{puts_then}
-use Rattle.writer.proofs.pieces.name_attr.Goals as goal
-
-pub returns : goal.returns
-returns c =
-    puts_then c.put-a.ensures
-    (puts_then c.put_name-b.ensures c.span_attr.ensures)

@@ -1,8 +1,0 @@
--- `span_attr` meets its contract.
-use Rattle.scan.specs.Part.{string_at}
-use Rattle.writer.proofs.pieces.span_attr.Goals as goal
-
-pub returns : goal.returns
-unfolding string_at
-returns c =
-    c.attr.ensures
