@@ -2,7 +2,7 @@
 ghost use Rattle.std.specs.Prelude.{◌≡◌, ◌+◌, ◌*◌, ◌≤◌, length};
 ghost use Rattle.scan.specs.Names.{same_folded};
 ghost use Rattle.xml.specs.Find.{Siblings, OfSiblings, find_row, is_element, HasRow, element_row};
-ghost use Rattle.xml.specs.Find.{Of, NameFits, name_at, attribute_row, find_value};
+ghost use Rattle.xml.specs.Find.{HasRows, Of, OfRows, NameFits, name_at, attribute_row, find_value};
 
 use crate::attributes::Attributes;
 use tree::{ATTR_CELLS, ELEMENT, NODE_CELLS};
@@ -126,4 +126,24 @@ impl<'a> Attributes<'a> {
         }
         None
     }
+}
+
+// The same of the `many` attributes from row `first` on, for a caller that has no `Attributes`.
+pub fn attr(
+    attrs: &[u32],
+    strings: &[u8],
+    first: usize,
+    many: usize,
+    name: &[u8],
+) -> Option<Attribute>
+    requires { HasRows attrs.now strings.now first many }
+    ensures { OfRows attrs.now strings.now first many (λ l. result ≡ find_value strings.now name.now l) }
+{
+    let these = Attributes {
+        attrs,
+        strings,
+        first,
+        many,
+    };
+    these.attr(name)
 }

@@ -7,6 +7,6 @@ mod strings;
 mod tables;
 
 pub use attributes::Attributes;
-pub use find::{Attribute, Element, attr_at, element_at, find_element, is_element};
+pub use find::{Attribute, Element, attr, attr_at, element_at, find_element, is_element};
 pub use read::parse_xml;
 pub use tables::Tree;
