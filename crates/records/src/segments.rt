@@ -4,7 +4,7 @@ ghost use Rattle.std.proofs.lemmas.List.Edits.{sets};
 ghost use Rattle.scan.specs.Part.{part};
 ghost use Rattle.track.specs.Layout.{font_cells, segment_cells};
 ghost use Rattle.records.specs.Posts.{SmallSpan, SmallSegment, AddPost};
-ghost use Rattle.records.specs.Siblings.{without_cells};
+ghost use Rattle.records.specs.Siblings.{pulled, without_cells};
 
 use track::{
     BOLD, BREAK, COLOR, FONT, Font, ITALIC, Rgb, SEGMENT_CELLS, SEGMENTS, STRIKE, Segment, Span,
@@ -136,12 +136,26 @@ pub fn shift_segments(segments: &mut [u32], at: usize, end: usize, by: usize)
     }
 }
 
+// The cells from `at + by` up to `end` moved down by `by`: `copy_within` would call `memmove`.
+fn pull_cells(cells: &mut [u32], at: usize, end: usize, by: usize)
+    requires { (at + by ≤ end) × (end ≤ length cells.old) }
+    ensures { cells.new ≡ pulled at end by cells.old }
+{
+    for i in at + by..end {
+        cells[i - by] = cells[i];
+    }
+}
+
 // Row `at` dropped: the rows after it, up to `end`, stand one row earlier, and the last row is cleared.
 pub fn drop_segment(segments: &mut [u32], at: usize, end: usize)
     requires { (at < end) × (end * 6 ≤ length segments.old) }
     ensures { segments.new ≡ without_cells 0 6 (at * 6) (end * 6) segments.old }
 {
-    let row = at * SEGMENT_CELLS;
-    segments.copy_within(row + SEGMENT_CELLS..end * SEGMENT_CELLS, row);
+    pull_cells(
+        segments,
+        at * SEGMENT_CELLS,
+        end * SEGMENT_CELLS,
+        SEGMENT_CELLS,
+    );
     put_kind(segments, end * SEGMENT_CELLS - SEGMENT_CELLS, 0, 0);
 }

@@ -1,6 +1,5 @@
 -- Laws of lent tables. Assumes nothing.
 --     sets_append, set_sets, sets_before, sets_on      runs of stores, one after the other and one before the other
---     sets_range                                       a run over as long a part
 --     sets_over, sets_halves                           runs that overlap
 --     sets_none, sets_one, sets_two, sets_three        runs of up to three cells
 --     sets_part, sets_other                            a run read back
@@ -18,8 +17,7 @@ use native.Mathlib.Omega.{arith}
 use native.Mathlib.Nat.{add-zero, add-suc, suc-add}
 use native.Mathlib.Numerals.{add-one, add-two}
 use lib.ListN.{length, get_or, set, take, drop, replicate, length-set, length-append, length-drop, take-append-drop, drop_of_length-le}
-use borrow.Rule.Slice.PartMut.{put_mid}
-use lib.Seq.{drop-drop, sets, set_comm, sets-eq, length-sets, length-take-le, take-suc, take-length, take-append_seam, take-append-le, take-append-add, drop_at}
+use lib.Seq.{sets, set_comm, sets-eq, length-sets, length-take-le, take-suc, take-length, take-append_seam, take-append-le, take-append-add, drop_at}
 use lib.Seq.{get_or-set_other, set-set}
 use Rattle.scan.specs.Posts.{written_number, written_values, Appended, Wrote, Begun, WroteInPart}
 
@@ -43,12 +41,6 @@ sets_before (x ∷ a) b t i =
 -- the same, of lists that are known by equations
 pub sets_on : (a b t t' t'' : List ℕ) (i j : ℕ) → t' ≡ sets t i a → t'' ≡ sets t' j b → j ≡ i + length a → t'' ≡ sets t i (a ++ b)
 sets_on a b t t' t'' i j e f w = f ∙ rw (w, e) (sets_append a b t i)
-
--- a run over as long a part
-pub sets_range : (w t : List ℕ) (a : ℕ) → a + length w ≤ length t → put_mid a (a + length w - a) t w ≡ sets t a w
-sets_range w t a h =
-    let k : a + length w - a ≡ length w = omega arith in
-    rw (k, drop-drop (length w) a t, sets-eq w t a h, append_assoc)
 
 -- a run over a shorter one
 pub sets_over : (a b t : List ℕ) (i : ℕ) → length a ≤ length b → sets (sets t i a) i b ≡ sets t i b

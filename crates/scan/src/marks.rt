@@ -2,7 +2,7 @@
 ghost use Rattle.std.specs.Prelude.{◌≡◌, ◌≤◌, length};
 ghost use Rattle.scan.specs.Posts.{Marked, Found, Passed};
 
-// Does the mark stand at the place? By `==`, which tells unlike bytes without a call; std's `starts_with` takes longer.
+// Does the mark stand at the place? By `==`: std's `starts_with` takes longer.
 pub fn starts_with(src: &[u8], pos: usize, mark: &[u8]) -> bool
     requires { pos ≤ length src.now }
     ensures { Marked mark.now src.now pos result }

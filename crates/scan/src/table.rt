@@ -46,12 +46,14 @@ pub fn get(cells: &[u32], at: usize) -> usize
     cells[at] as usize
 }
 
-// The piece written at a place, byte by byte.
+// The piece written at a place, byte by byte: `copy_from_slice` would call `memmove`, for a byte or two as a rule.
 fn copy_each(piece: &[u8], out: &mut [u8], at: usize)
     requires { at + length piece.now ≤ length out.old }
     ensures { out.new ≡ sets out.old at piece.now }
 {
-    out[at..at + piece.len()].copy_from_slice(piece);
+    for i in 0..piece.len() {
+        out[at + i] = piece[i];
+    }
 }
 
 // The same of up to three bytes.

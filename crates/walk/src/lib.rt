@@ -18,9 +18,12 @@ fn row_within(segments: &[u32], i: usize) -> bool
     ensures { result ≡ row_within_of segments.now i }
 {
     let row = i * SEGMENT_CELLS;
+    if segments[row] != TEXT {
+        return true;
+    }
     let place = scan::get(segments, row + 2);
     let len = scan::get(segments, row + 3);
-    segments[row] != TEXT || place <= BYTES && len <= BYTES - place
+    place <= BYTES && len <= BYTES - place
 }
 
 // So have the n rows from row `from` on.
@@ -58,9 +61,11 @@ pub fn plain_text(rows: &TextRows<'_>, out: &mut [u8], at: usize) -> Option<usiz
     requires { at ≤ length out.old }
     ensures { WroteInPart (rows_text rows.now.texts.now rows.now.segments.now rows.now.many rows.now.first) at out.old out.new result }
 {
+    // a copy, which no byte that is written can change: the tables' places then stay in registers
+    let here = *rows;
     let mut to = at;
-    for i in rows.first..rows.first + rows.many {
-        to = row_text(rows, i, out, to)?;
+    for i in here.first..here.first + here.many {
+        to = row_text(&here, i, out, to)?;
     }
     Some(to)
 }
