@@ -1,5 +1,4 @@
 // What timed elements gave so far.
-use tree::Refusal;
 
 // How many cues there are, rows of segments and rows of extras; and when the last element ends.
 #[derive(Clone, Copy)]
