@@ -5,4 +5,4 @@ use Rattle.styling.proofs.tests.is_strike.Goals as goal
 
 pub returns : goal.returns
 returns c =
-    λ l y. c.has_value.ensures is_strike (λ v r k. search rules) l y
+    λ l y. c.says.ensures is_strike (λ v r k. search rules) l y

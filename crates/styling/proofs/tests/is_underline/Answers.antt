@@ -5,4 +5,4 @@ use Rattle.styling.proofs.tests.is_underline.Goals as goal
 
 pub returns : goal.returns
 returns c =
-    λ l y. c.has_value.ensures is_underline (λ v r k. search rules) l y
+    λ l y. c.says.ensures is_underline (λ v r k. search rules) l y

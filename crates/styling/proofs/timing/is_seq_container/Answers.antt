@@ -11,4 +11,4 @@ use Rattle.styling.proofs.timing.is_seq_container.Goals as goal
 pub returns : goal.returns
 unfolding is_seq
 returns c =
-    λ l y. c.has_value.ensures (λ (v : List ℕ). same_folded (trimmed v) (ascii "seq")) (λ v r k. search rules) l y
+    λ l y. c.says.ensures (λ (v : List ℕ). same_folded (trimmed v) (ascii "seq")) (λ v r k. search rules) l y

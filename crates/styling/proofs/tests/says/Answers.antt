@@ -1,7 +1,7 @@
--- `has_value` tests the value of the attribute that `find` answers.
+-- `says` tests the value of the attribute that `find` answers.
 use mathlib.Core.Path.{refl, sym, ap, ◌∙◌}
 use Rattle.styling.proofs.Attributes.{found-says, none-says}
-use Rattle.styling.proofs.tests.has_value.Goals as goal
+use Rattle.styling.proofs.tests.says.Goals as goal
 
 pub returns-in-Some : goal.returns-in-Some
 returns-in-Some g c =
